@@ -1,0 +1,5 @@
+pub mod Case
+pub mod Letters
+pub mod Marked
+pub mod Numbers
+pub mod Holds

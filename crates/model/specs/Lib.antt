@@ -1,0 +1,14 @@
+pub mod Text
+pub mod Chunk
+pub mod MagicString
+pub mod Append
+pub mod Prepend
+pub mod Update
+pub mod Movement
+pub mod Reset
+pub mod Slice
+pub mod Trim
+pub mod Indent
+pub mod Limits
+pub mod Call
+pub mod WellFormed

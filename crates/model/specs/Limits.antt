@@ -1,0 +1,48 @@
+-- Document 01's desk limits, and what of a desk they count.
+use Prim.Native.Nat.{ℕ, _+_}
+use mathlib.Core.Bool.{Bool, _&&_, cond}
+use mathlib.Core.List.{List, [], _∷_}
+use mathlib.Core.Option.{Option, none, some}
+use lib.Dec.{leb}
+use lib.ListN.{length}
+use Rattle.model.specs.Text.{Text, sum}
+use Rattle.model.specs.Chunk.{Chunk}
+use Rattle.model.specs.MagicString.{MagicString, Result, err}
+
+-- a parameter everywhere
+pub record Limits : Type 0 where
+  pub source : ℕ
+  pub chunks : ℕ
+  pub pieces : ℕ
+  pub bytes : ℕ
+
+-- "source 16,384; chunks 512; head, tail, intro and outro pieces together 1,024, empty ones counted; bytes in pieces and replacements together 32,768 (the store)"
+abbrev pub full : Limits
+full = record { source = 16384; chunks = 512; pieces = 1024; bytes = 32768 }
+
+abbrev pub chunk-pieces : Chunk → ℕ
+chunk-pieces c = length (c .texts .intro) + length (c .texts .outro)
+
+abbrev pub replacement-bytes : Option Text → ℕ
+replacement-bytes none = 0
+replacement-bytes (some t) = length t
+
+abbrev pub chunk-bytes : Chunk → ℕ
+chunk-bytes c = (sum length (c .texts .intro) + sum length (c .texts .outro)) + replacement-bytes (c .texts .edited-content)
+
+abbrev pub piece-count : MagicString → ℕ
+piece-count m = (length (m .intro) + length (m .outro)) + sum chunk-pieces (m .chunks)
+
+-- the bytes that the store holds for the desk
+abbrev pub byte-count : MagicString → ℕ
+byte-count m = (sum length (m .intro) + sum length (m .outro)) + sum chunk-bytes (m .chunks)
+
+-- "These are counts of what the desk now holds"
+unfoldable pub within : Limits → MagicString → Bool
+within k m =
+    leb (length (m .source)) (k .source)
+    && (leb (length (m .chunks)) (k .chunks) && (leb (piece-count m) (k .pieces) && leb (byte-count m) (k .bytes)))
+
+-- "13 .. is given if and only if the desk that the Rust would leave .., accepted or refused, breaks a desk limit"; then nothing is changed
+unfoldable pub judged : Limits → MagicString → Result → Result
+judged k before r = cond (within k (r .desk)) r (err 13 before)

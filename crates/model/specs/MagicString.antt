@@ -1,0 +1,210 @@
+-- mod.rs: a desk, what it shows, and `split_at`.
+use Prim.Native.Nat.{ℕ, zero, suc, _+_}
+use mathlib.Core.Bool.{Bool, true, false, _&&_, _||_, not, cond}
+use mathlib.Core.List.{List, [], _∷_, _++_, map, reverse}
+use mathlib.Core.Option.{Option, none, some}
+use lib.Dec.{ltb, leb, eqb}
+use lib.ListN.{length}
+use Rattle.utf8.specs.Chars.{chars, concat, code, utf16Width}
+use Rattle.model.specs.Text.{Text, same, is-nil, back, any, all, sum, trim-white-space, behind-last-line-feed, line-feeds}
+use Rattle.model.specs.Chunk.{Chunk, Texts, new-chunk, with-texts, start-of, end-of, contains, is-edited, is-filled, first-half, second-half, content}
+use Rattle.model.specs.Chunk as chunk
+
+-- `MagicString`, document 01's desk: the source, the text's head (`intro`) and tail (`outro`), and the chunks in list order
+pub record MagicString : Type 0 where
+  pub source : Text
+  pub intro : List Text
+  pub outro : List Text
+  pub chunks : List Chunk
+
+-- `MagicString::new`: one chunk over the whole source, an empty one too
+abbrev pub new : Text → MagicString
+new source = record { source = source; intro = []; outro = []; chunks = new-chunk 0 (length source) ∷ [] }
+
+abbrev pub with-chunks : MagicString → List Chunk → MagicString
+with-chunks m cs = record { source = m .source; intro = m .intro; outro = m .outro; chunks = cs }
+
+abbrev pub with-intro : MagicString → List Text → MagicString
+with-intro m l = record { source = m .source; intro = l; outro = m .outro; chunks = m .chunks }
+
+abbrev pub with-outro : MagicString → List Text → MagicString
+with-outro m l = record { source = m .source; intro = m .intro; outro = l; chunks = m .chunks }
+
+-- ── a step that may be refused: Rust's `Result<&mut Self, String>` ──
+-- the number is 0 for `Ok`; either way the desk is what the step left
+pub record Result : Type 0 where
+  pub number : ℕ
+  pub desk : MagicString
+
+abbrev pub ok : MagicString → Result
+ok m = record { number = 0; desk = m }
+
+abbrev pub err : ℕ → MagicString → Result
+err k m = record { number = k; desk = m }
+
+-- the operator `?`
+abbrev pub and-then : Result → (MagicString → Result) → Result
+and-then r f = elim (r .number) [ zero ↦ f (r .desk) | suc k ↦ r ]
+
+-- ── chunks by position: `chunk_by_start` and `chunk_by_end` ──
+abbrev pub by-start : ℕ → List Chunk → Option Chunk
+by-start at [] = none
+by-start at (c ∷ cs) = cond (eqb (start-of c) at) (some c) (by-start at cs)
+
+abbrev pub by-end : ℕ → List Chunk → Option Chunk
+by-end at [] = none
+by-end at (c ∷ cs) = cond (eqb (end-of c) at) (some c) (by-end at cs)
+
+abbrev pub found : Option Chunk → Bool
+found none = false
+found (some c) = true
+
+-- `self.chunks[idx]` changed, for the chunk that starts, or ends, at a position
+abbrev pub at-start : ℕ → (Texts → Texts) → List Chunk → List Chunk
+at-start at f [] = []
+at-start at f (c ∷ cs) = cond (eqb (start-of c) at) (with-texts f c ∷ cs) (c ∷ at-start at f cs)
+
+abbrev pub at-end : ℕ → (Texts → Texts) → List Chunk → List Chunk
+at-end at f [] = []
+at-end at f (c ∷ cs) = cond (eqb (end-of c) at) (with-texts f c ∷ cs) (c ∷ at-end at f cs)
+
+-- ── `split_at`, document 01's cut ──
+-- the search for the chunk that contains the position, and its split: 6 if its replacement is not empty
+abbrev pub holder : ℕ → List Chunk → Option Chunk
+holder at [] = none
+holder at (c ∷ cs) = cond (contains c at) (some c) (holder at cs)
+
+abbrev pub split-holder : ℕ → List Chunk → List Chunk
+split-holder at [] = []
+split-holder at (c ∷ cs) =
+    let r : List Chunk = split-holder at cs in
+    cond (contains c at) (first-half at c ∷ second-half at c ∷ cs) (c ∷ r)
+
+abbrev pub refuses-split : Option Chunk → Bool
+refuses-split none = false
+refuses-split (some c) = is-filled (c .texts .edited-content)
+
+-- nothing at 0, at or past the source's end, or at a chunk's edge
+unfoldable pub split-at : ℕ → MagicString → Result
+split-at at m =
+    cond (eqb at 0 || (leb (length (m .source)) at || found (by-end at (m .chunks)))) (ok m)
+    (cond (refuses-split (holder at (m .chunks))) (err 6 m) (ok (with-chunks m (split-holder at (m .chunks)))))
+
+-- `by_end_mut`, with what its callers do: after the cut the chunk that ends at the position is changed by f, or else the head by g
+unfoldable pub by-end-mut : ℕ → (Texts → Texts) → (List Text → List Text) → MagicString → Result
+by-end-mut at f g m =
+    and-then (split-at at m) (λ m. elim (by-end at (m .chunks)) [
+      | none ↦ ok (with-intro m (g (m .intro)))
+      | some c ↦ ok (with-chunks m (at-end at f (m .chunks)))
+    ])
+
+-- `by_start_mut`, with what its callers do: after the cut the chunk that starts at the position is changed by f, or else the tail by g
+unfoldable pub by-start-mut : ℕ → (Texts → Texts) → (List Text → List Text) → MagicString → Result
+by-start-mut at f g m =
+    and-then (split-at at m) (λ m. elim (by-start at (m .chunks)) [
+      | none ↦ ok (with-outro m (g (m .outro)))
+      | some c ↦ ok (with-chunks m (at-start at f (m .chunks)))
+    ])
+
+-- ── what a desk shows ──
+-- the fragments of all chunks, in list order
+abbrev pub chunk-fragments : Text → List Chunk → List Text
+chunk-fragments source [] = []
+chunk-fragments source (c ∷ cs) = chunk.fragments source c ++ chunk-fragments source cs
+
+-- `fragments`: the head, the chunks in list order, the tail
+abbrev pub fragments : MagicString → List Text
+fragments m = m .intro ++ (chunk-fragments (m .source) (m .chunks) ++ m .outro)
+
+-- `to_string`, the output
+unfoldable pub to-string : MagicString → Text
+to-string m = concat (fragments m)
+
+-- `len`: chunks only, not head and tail
+unfoldable pub len : MagicString → ℕ
+len m = sum length (chunk-fragments (m .source) (m .chunks))
+
+-- `utf16_len` of `simd_utf16_len`: a text's UTF-16 units
+abbrev pub utf16-len : Text → ℕ
+utf16-len s = sum utf16Width (chars s)
+
+-- `len_utf16`
+unfoldable pub len-utf16 : MagicString → ℕ
+len-utf16 m = sum utf16-len (chunk-fragments (m .source) (m .chunks))
+
+-- `output_len`
+unfoldable pub output-len : MagicString → ℕ
+output-len m = (sum length (m .intro) + len m) + sum length (m .outro)
+
+-- `is_empty`: chunks only; white space counts as nothing
+unfoldable pub is-empty : MagicString → Bool
+is-empty m = all (λ f. is-nil (trim-white-space f)) (chunk-fragments (m .source) (m .chunks))
+
+-- `has_changed`
+unfoldable pub has-changed : MagicString → Bool
+has-changed m = not (eqb (output-len m) (length (m .source))) || not (same (m .source) (to-string m))
+
+-- added by document 01: one more than the line feeds in the output
+unfoldable pub line-count : MagicString → ℕ
+line-count m = line-feeds (to-string m) + 1
+
+-- `chars().next_back()`
+abbrev pub last-code : Text → Option ℕ
+last-code s = elim (back (chars s)) [ none ↦ none | some c ↦ some (code c) ]
+
+-- the last character of the last piece of a list, and of no other piece
+abbrev pub last-of-pieces : List Text → Option ℕ
+last-of-pieces l = elim (back l) [ none ↦ none | some t ↦ last-code t ]
+
+abbrev pub or-else : Option ℕ → Option ℕ → Option ℕ
+or-else none b = b
+or-else (some v) b = some v
+
+-- the loop of `last_char` over the chunks, last to first
+abbrev pub last-of-chunks : Text → List Chunk → Option ℕ
+last-of-chunks source [] = none
+last-of-chunks source (c ∷ cs) =
+    or-else (last-of-pieces (c .texts .outro)) (or-else (last-code (content source c))
+    (or-else (last-of-pieces (c .texts .intro)) (last-of-chunks source cs)))
+
+-- `last_char`
+unfoldable pub last-char : MagicString → Option ℕ
+last-char m =
+    or-else (last-of-pieces (m .outro)) (or-else (last-of-chunks (m .source) (reverse (m .chunks)))
+    (last-of-pieces (m .intro)))
+
+-- what `last_line` has gathered, and whether a line feed has ended it (the label 'done)
+pub record Scan : Type 0 where
+  pub done : Bool
+  pub line : Text
+
+-- `scan_last_line`: fragments in reverse output order, up to the first with a line feed
+abbrev pub scan-last-line : List Text → Text → Scan
+scan-last-line [] line = record { done = false; line = line }
+scan-last-line (f ∷ fs) line =
+    elim (behind-last-line-feed f) [
+      | none ↦ scan-last-line fs (f ++ line)
+      | some t ↦ record { done = true; line = t ++ line }
+    ]
+
+-- go on unless a line feed was met
+abbrev pub unless-done : Scan → (Text → Scan) → Scan
+unless-done s f = elim (s .done) [ true ↦ s | false ↦ f (s .line) ]
+
+-- the loop of `last_line` over the chunks, last to first
+abbrev pub scan-chunks : Text → List Chunk → Text → Scan
+scan-chunks source [] line = record { done = false; line = line }
+scan-chunks source (c ∷ cs) line =
+    unless-done (scan-last-line (reverse (chunk.fragments source c)) line) (scan-chunks source cs)
+
+-- `last_line`
+unfoldable pub last-line : MagicString → Text
+last-line m =
+    unless-done
+    (unless-done (scan-last-line (reverse (m .outro)) []) (scan-chunks (m .source) (reverse (m .chunks))))
+    (scan-last-line (reverse (m .intro))) .line
+
+-- `is_range_within_edited_chunk`
+unfoldable pub is-range-within-edited-chunk : ℕ → ℕ → MagicString → Bool
+is-range-within-edited-chunk start end m =
+    any (λ c. (leb (start-of c) start && leb end (end-of c)) && is-edited c) (m .chunks)

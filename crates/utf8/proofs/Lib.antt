@@ -1,0 +1,4 @@
+pub mod Masks
+pub mod Spaces
+pub mod Blocks
+pub mod Backwards

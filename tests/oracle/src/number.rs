@@ -1,0 +1,37 @@
+//! Document 01's numbers, and which message of the Rust is which.
+
+pub const ACCEPTED: u32 = 0;
+pub const NOT_UTF8: u32 = 1;
+pub const INSIDE_CHARACTER: u32 = 3;
+pub const END_BEFORE_START: u32 = 4;
+pub const ZERO_WIDTH: u32 = 5;
+pub const CUT_IN_REPLACEMENT: u32 = 6;
+pub const ACROSS_MOVED_EDGE: u32 = 7;
+pub const INSIDE_ITSELF: u32 = 8;
+pub const NOT_TOGETHER: u32 = 9;
+pub const PAST_SOURCE: u32 = 10;
+pub const SLICE_START: u32 = 11;
+pub const SLICE_END: u32 = 12;
+pub const DESK_LIMIT: u32 = 13;
+pub const SHORT_BUFFER: u32 = 14;
+pub const OPTION: u32 = 15;
+
+/// Each message by a part that no other has.
+const MESSAGES: [(&str, u32); 10] = [
+  ("end must be greater than start", END_BEFORE_START),
+  ("Cannot overwrite a zero-length range", ZERO_WIDTH),
+  ("Cannot split a chunk that has already been edited", CUT_IN_REPLACEMENT),
+  ("Cannot overwrite across a split point", ACROSS_MOVED_EDGE),
+  ("Cannot move a selection inside itself", INSIDE_ITSELF),
+  ("an earlier move left it non-contiguous", NOT_TOGETHER),
+  ("it is out of bounds (source length is", PAST_SOURCE),
+  ("Character is out of bounds", PAST_SOURCE),
+  ("as slice start anchor", SLICE_START),
+  ("as slice end anchor", SLICE_END),
+];
+
+/// The number of an error of the Rust.
+pub fn of_message(message: String) -> u32 {
+  let found = MESSAGES.iter().find(|(part, _)| message.contains(part));
+  found.unwrap_or_else(|| panic!("a message without a number: {message}")).1
+}

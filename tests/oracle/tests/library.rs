@@ -1,0 +1,79 @@
+//! Short tests of the library itself. Built with debug assertions, so the
+//! Rust's own are on here.
+
+use oracle::{Desk, Limits, Script, apply, check, generate::generate, parse};
+
+/// The numbers that the lines of a script get, on a desk with these limits.
+fn numbers(limits: Limits, script: &str) -> Vec<u32> {
+  let mut desk = Desk::open(limits, b"").unwrap();
+  let calls = script.lines().filter_map(|line| parse(line).unwrap());
+  calls.map(|call| apply(&mut desk, &call).number).collect()
+}
+
+#[test]
+fn printed_calls_are_read_back() {
+  for call in generate(5, 3_000) {
+    assert_eq!(parse(&call.to_string()), Ok(Some(call)));
+  }
+}
+
+#[test]
+fn lines_that_are_no_calls() {
+  for line in ["", "  ", "# remove 0 1", "#"] {
+    assert_eq!(parse(line), Ok(None));
+  }
+  for line in ["remove 0", "remove 0 1 2", "len 1", "open 6", "open FF", "cut 1", "trim -1"] {
+    assert!(parse(line).is_err(), "{line}");
+  }
+}
+
+#[test]
+fn a_seed_gives_one_script() {
+  assert_eq!(generate(7, 500), generate(7, 500));
+  assert_ne!(generate(7, 500), generate(8, 500));
+}
+
+#[test]
+fn random_calls_hold() {
+  let mut script = Script::new(Limits::FULL);
+  for call in generate(6, 3_000) {
+    check::call(&mut script, &call).unwrap();
+  }
+}
+
+/// Every move of "abc" with positions from 0 to the length plus 1.
+#[test]
+fn moves_of_abc() {
+  let mut met = [0; 16];
+  for place in 0..125 {
+    let mut desk = Desk::open(Limits::FULL, b"abc").unwrap();
+    let (start, end, to) = (place / 25, place / 5 % 5, place % 5);
+    met[apply(&mut desk, &oracle::Call::Relocate { start, end, to }).number as usize] += 1;
+  }
+  assert_eq!(met, [34, 0, 0, 0, 50, 0, 0, 0, 35, 0, 6, 0, 0, 0, 0, 0]);
+}
+
+/// 13 is judged on the desk that would be left, whatever the call's own answer.
+#[test]
+fn limits_are_judged_on_what_is_left() {
+  let two_chunks = Limits { chunks: 2, ..Limits::FULL };
+  // Two cuts leave three chunks; one cut or none leaves two.
+  assert_eq!(numbers(two_chunks, "open 616263\nremove 1 2\nremove 1 3\nreset 2 3"), [0, 13, 0, 13]);
+  // In place of 6 the cut that would stay is one too many; an insertion made none.
+  let replaced = "open 6162636465\nupdate_with 2 5 0 58\nremove 1 3\nappend_left 3 -";
+  assert_eq!(numbers(two_chunks, replaced), [0, 0, 13, 6]);
+  // In place of 10, and of 9.
+  assert_eq!(numbers(two_chunks, "open 616263\nremove 1 3\nupdate_with 2 4 0 -"), [0, 0, 13]);
+  assert_eq!(numbers(two_chunks, "open 616263\nrelocate 0 2 3\nrelocate 1 3 0"), [0, 0, 13]);
+
+  let few = Limits { pieces: 1, bytes: 4, ..Limits::FULL };
+  // A refusal that leaves a long text out is that refusal.
+  assert_eq!(numbers(few, "open 6162\nupdate_with 1 1 0 5858585858"), [0, 5]);
+  assert_eq!(numbers(few, "open 6162\nupdate_with 0 3 0 5858585858"), [0, 10]);
+  // Freed bytes are used again, and an empty piece counts.
+  let again = "open 6162\nupdate_with 0 2 0 58585858\nupdate_with 0 2 0 59595959\nappend 61";
+  assert_eq!(numbers(few, again), [0, 0, 0, 13]);
+  assert_eq!(numbers(few, "open 6162\nappend -\nappend -"), [0, 0, 13]);
+  // `trim` fits where `trim_start` alone does not.
+  assert_eq!(numbers(few, "open 206120202020\ntrim_start 0\ntrim 0"), [0, 13, 0]);
+}
