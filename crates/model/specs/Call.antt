@@ -1,6 +1,6 @@
 -- Every call of document 01, by name, and what it gives: `run` for the calls that change a desk, `show` for those that report on it.
 use Prim.Native.Nat.{ℕ, zero, suc, _%_}
-use mathlib.Core.Bool.{Bool, true, false, _&&_, cond}
+use mathlib.Core.Bool.{Bool, true, false, _&&_, _||_, cond}
 use mathlib.Core.List.{List, [], _∷_, _++_}
 use mathlib.Core.Option.{Option, none, some}
 use lib.Dec.{leb, eqb}
@@ -133,6 +133,27 @@ refused-before m e =
 
 unfoldable pub run : Limits → Edit → MagicString → Result
 run k e m = elim (refused-before m e) [ zero ↦ judged k m (steps e m) | suc n ↦ err (suc n) m ]
+
+abbrev pub is-update : Edit → Bool
+is-update (remove a b) = false
+is-update (update-with a b t o) = true
+is-update (reset a b) = false
+is-update (append-left p t) = false
+is-update (append-right p t) = false
+is-update (prepend-left p t) = false
+is-update (prepend-right p t) = false
+is-update (append t) = false
+is-update (prepend t) = false
+is-update (relocate a b to) = false
+is-update (trim p) = false
+is-update (trim-start p) = false
+is-update (trim-end p) = false
+is-update trim-lines = false
+is-update (indent-with i l) = false
+
+-- "Numbers 6, 7, 9 and `update_with`'s 10 leave the desk as the Rust does .. All others change nothing": the numbers with which an edit may change the desk
+unfoldable pub may-change : Edit → ℕ → Bool
+may-change e n = eqb n 0 || (eqb n 6 || (eqb n 7 || (eqb n 9 || (eqb n 10 && is-update e))))
 
 -- ── a call that reports ──
 -- the number, the value (0 where nothing is reported) and the bytes written at the front of the lent buffer; what lies behind them stays

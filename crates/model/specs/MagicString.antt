@@ -46,66 +46,6 @@ err k m = record { number = k; desk = m }
 abbrev pub and-then : Result → (MagicString → Result) → Result
 and-then r f = elim (r .number) [ zero ↦ f (r .desk) | suc k ↦ r ]
 
--- ── chunks by position: `chunk_by_start` and `chunk_by_end` ──
-abbrev pub by-start : ℕ → List Chunk → Option Chunk
-by-start at [] = none
-by-start at (c ∷ cs) = cond (eqb (start-of c) at) (some c) (by-start at cs)
-
-abbrev pub by-end : ℕ → List Chunk → Option Chunk
-by-end at [] = none
-by-end at (c ∷ cs) = cond (eqb (end-of c) at) (some c) (by-end at cs)
-
-abbrev pub found : Option Chunk → Bool
-found none = false
-found (some c) = true
-
--- `self.chunks[idx]` changed, for the chunk that starts, or ends, at a position
-abbrev pub at-start : ℕ → (Texts → Texts) → List Chunk → List Chunk
-at-start at f [] = []
-at-start at f (c ∷ cs) = cond (eqb (start-of c) at) (with-texts f c ∷ cs) (c ∷ at-start at f cs)
-
-abbrev pub at-end : ℕ → (Texts → Texts) → List Chunk → List Chunk
-at-end at f [] = []
-at-end at f (c ∷ cs) = cond (eqb (end-of c) at) (with-texts f c ∷ cs) (c ∷ at-end at f cs)
-
--- ── `split_at`, document 01's cut ──
--- the search for the chunk that contains the position, and its split: 6 if its replacement is not empty
-abbrev pub holder : ℕ → List Chunk → Option Chunk
-holder at [] = none
-holder at (c ∷ cs) = cond (contains c at) (some c) (holder at cs)
-
-abbrev pub split-holder : ℕ → List Chunk → List Chunk
-split-holder at [] = []
-split-holder at (c ∷ cs) =
-    let r : List Chunk = split-holder at cs in
-    cond (contains c at) (first-half at c ∷ second-half at c ∷ cs) (c ∷ r)
-
-abbrev pub refuses-split : Option Chunk → Bool
-refuses-split none = false
-refuses-split (some c) = is-filled (c .texts .edited-content)
-
--- nothing at 0, at or past the source's end, or at a chunk's edge
-unfoldable pub split-at : ℕ → MagicString → Result
-split-at at m =
-    cond (eqb at 0 || (leb (length (m .source)) at || found (by-end at (m .chunks)))) (ok m)
-    (cond (refuses-split (holder at (m .chunks))) (err 6 m) (ok (with-chunks m (split-holder at (m .chunks)))))
-
--- `by_end_mut`, with what its callers do: after the cut the chunk that ends at the position is changed by f, or else the head by g
-unfoldable pub by-end-mut : ℕ → (Texts → Texts) → (List Text → List Text) → MagicString → Result
-by-end-mut at f g m =
-    and-then (split-at at m) (λ m. elim (by-end at (m .chunks)) [
-      | none ↦ ok (with-intro m (g (m .intro)))
-      | some c ↦ ok (with-chunks m (at-end at f (m .chunks)))
-    ])
-
--- `by_start_mut`, with what its callers do: after the cut the chunk that starts at the position is changed by f, or else the tail by g
-unfoldable pub by-start-mut : ℕ → (Texts → Texts) → (List Text → List Text) → MagicString → Result
-by-start-mut at f g m =
-    and-then (split-at at m) (λ m. elim (by-start at (m .chunks)) [
-      | none ↦ ok (with-outro m (g (m .outro)))
-      | some c ↦ ok (with-chunks m (at-start at f (m .chunks)))
-    ])
-
 -- ── what a desk shows ──
 -- the fragments of all chunks, in list order
 abbrev pub chunk-fragments : Text → List Chunk → List Text
@@ -208,3 +148,63 @@ last-line m =
 unfoldable pub is-range-within-edited-chunk : ℕ → ℕ → MagicString → Bool
 is-range-within-edited-chunk start end m =
     any (λ c. (leb (start-of c) start && leb end (end-of c)) && is-edited c) (m .chunks)
+
+-- ── chunks by position: `chunk_by_start` and `chunk_by_end` ──
+abbrev pub by-start : ℕ → List Chunk → Option Chunk
+by-start at [] = none
+by-start at (c ∷ cs) = cond (eqb (start-of c) at) (some c) (by-start at cs)
+
+abbrev pub by-end : ℕ → List Chunk → Option Chunk
+by-end at [] = none
+by-end at (c ∷ cs) = cond (eqb (end-of c) at) (some c) (by-end at cs)
+
+abbrev pub found : Option Chunk → Bool
+found none = false
+found (some c) = true
+
+-- `self.chunks[idx]` changed, for the chunk that starts, or ends, at a position
+abbrev pub at-start : ℕ → (Texts → Texts) → List Chunk → List Chunk
+at-start at f [] = []
+at-start at f (c ∷ cs) = cond (eqb (start-of c) at) (with-texts f c ∷ cs) (c ∷ at-start at f cs)
+
+abbrev pub at-end : ℕ → (Texts → Texts) → List Chunk → List Chunk
+at-end at f [] = []
+at-end at f (c ∷ cs) = cond (eqb (end-of c) at) (with-texts f c ∷ cs) (c ∷ at-end at f cs)
+
+-- ── `split_at`, document 01's cut ──
+-- the search for the chunk that contains the position, and its split: 6 if its replacement is not empty
+abbrev pub holder : ℕ → List Chunk → Option Chunk
+holder at [] = none
+holder at (c ∷ cs) = cond (contains c at) (some c) (holder at cs)
+
+abbrev pub split-holder : ℕ → List Chunk → List Chunk
+split-holder at [] = []
+split-holder at (c ∷ cs) =
+    let r : List Chunk = split-holder at cs in
+    cond (contains c at) (first-half at c ∷ second-half at c ∷ cs) (c ∷ r)
+
+abbrev pub refuses-split : Option Chunk → Bool
+refuses-split none = false
+refuses-split (some c) = is-filled (c .texts .edited-content)
+
+-- nothing at 0, at or past the source's end, or at a chunk's edge
+unfoldable pub split-at : ℕ → MagicString → Result
+split-at at m =
+    cond (eqb at 0 || (leb (length (m .source)) at || found (by-end at (m .chunks)))) (ok m)
+    (cond (refuses-split (holder at (m .chunks))) (err 6 m) (ok (with-chunks m (split-holder at (m .chunks)))))
+
+-- `by_start_mut`, with what its callers do: after the cut the chunk that starts at the position is changed by f, or else the tail by g
+unfoldable pub by-start-mut : ℕ → (Texts → Texts) → (List Text → List Text) → MagicString → Result
+by-start-mut at f g m =
+    and-then (split-at at m) (λ m. elim (by-start at (m .chunks)) [
+      | none ↦ ok (with-outro m (g (m .outro)))
+      | some c ↦ ok (with-chunks m (at-start at f (m .chunks)))
+    ])
+
+-- `by_end_mut`, with what its callers do: after the cut the chunk that ends at the position is changed by f, or else the head by g
+unfoldable pub by-end-mut : ℕ → (Texts → Texts) → (List Text → List Text) → MagicString → Result
+by-end-mut at f g m =
+    and-then (split-at at m) (λ m. elim (by-end at (m .chunks)) [
+      | none ↦ ok (with-intro m (g (m .intro)))
+      | some c ↦ ok (with-chunks m (at-end at f (m .chunks)))
+    ])

@@ -1,0 +1,12 @@
+pub mod Lists
+pub mod Plan
+pub mod Cuts
+pub mod Spans
+pub mod SplitAt
+pub mod ByPosition
+pub mod ByPlan
+pub mod Together
+pub mod UpdateWalk
+pub mod MoveWalk
+pub mod Steps
+pub mod Accepted

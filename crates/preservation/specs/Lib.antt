@@ -1,0 +1,12 @@
+pub mod Lists
+pub mod Spans
+pub mod Desk
+pub mod Retexts
+pub mod Edits
+pub mod Relocate
+pub mod Trim
+pub mod Indent
+pub mod IndentAccepted
+pub mod Calls
+pub mod Refusals
+pub mod Reports

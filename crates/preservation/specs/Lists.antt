@@ -1,0 +1,115 @@
+-- Laws of `All`, `sum`, `skip-while` and `all` that the other files cite, and how a fact is carried through a test.
+-- Assumes nothing.
+use Prim.Native.Nat.{ℕ, zero, suc, _+_, _≤_}
+use native.Mathlib.Omega.{arith}
+use mathlib.Core.Path.{_≡_, refl}
+use mathlib.Core.Bool.{Bool, true, false, _||_, cond, true≢false}
+use mathlib.Core.List.{List, [], _∷_, _++_, map, reverse, reverseAux, head-eq-of-cons-eq, tail-eq-of-cons-eq, nil≢cons, cons≢nil}
+use mathlib.Core.Option.{Option, none, some}
+use Rattle.utf8.specs.Chars.{All, nil, cons}
+use Rattle.utf8.specs.Sequences.{both}
+use Rattle.model.specs.Text.{sum, all, skip-while}
+
+-- ---- a fact of what a test picks, from the fact of each of the two
+module _ {A : Type 0} (P : A → Type 0) where
+  pub of-cond : (b : Bool) {x y : A} → (b ≡ true → P x) → (b ≡ false → P y) → P (cond b x y)
+  of-cond true f g = f refl
+  of-cond false f g = g refl
+
+  pub of-either : (b : Bool) {x y : A} → P x → P y → P (elim b as (λ _. A) [ true ↦ x | false ↦ y ])
+  of-either true f g = f
+  of-either false f g = g
+
+  pub of-option : {B : Type 0} (o : Option B) {x : A} {f : B → A} → (o ≡ none → P x) → ((b : B) → o ≡ some b → P (f b)) → P (elim o as (λ _. A) [ none ↦ x | some b ↦ f b ])
+  of-option none h k = h refl
+  of-option (some b) h k = k b refl
+
+  pub of-number : (n : ℕ) {x : A} {f : ℕ → A} → (n ≡ 0 → P x) → ((k : ℕ) → n ≡ suc k → P (f k)) → P (elim n as (λ _. A) [ zero ↦ x | suc k ↦ f k ])
+  of-number zero h k = h refl
+  of-number (suc n) h k = k n refl
+
+-- `||` of two tests
+pub neither : (p q : Bool) → (p || q) ≡ false → (p ≡ false) × (q ≡ false)
+neither true q e = absurd (true≢false e)
+neither false q e = (refl, e)
+
+-- ---- `All`
+module _ {A : Type 0} where
+  pub all-imp : {P Q : A → Type 0} → ((x : A) → P x → Q x) → {xs : List A} → All P xs → All Q xs
+  all-imp f nil = nil
+  all-imp f (cons {x = x} h k) = cons (f x h) (all-imp f k)
+
+  pub all-every : {P : A → Type 0} → ((x : A) → P x) → (xs : List A) → All P xs
+  all-every f [] = nil
+  all-every f (x ∷ xs) = cons (f x) (all-every f xs)
+
+  pub all-both : {P Q R : A → Type 0} → ((x : A) → P x → Q x → R x) → {xs : List A} → All P xs → All Q xs → All R xs
+  all-both f nil nil = nil
+  all-both f (cons {x = x} h k) (cons i j) = cons (f x h i) (all-both f k j)
+
+  pub all-head : {P : A → Type 0} {x : A} {xs : List A} → All P (x ∷ xs) → P x
+  all-head (cons h k) = h
+
+  pub all-tail : {P : A → Type 0} {x : A} {xs : List A} → All P (x ∷ xs) → All P xs
+  all-tail (cons h k) = k
+
+  -- what holds for each b, element by element
+  pub all-each : {B : Type 0} {P : B → A → Type 0} (xs : List A) → ((b : B) → All (P b) xs) → All (λ x. (b : B) → P b x) xs
+  all-each [] h = nil
+  all-each (x ∷ xs) h = cons (λ b. all-head (h b)) (all-each xs (λ b. all-tail (h b)))
+
+module _ {A : Type 0} (P : A → Type 0) where
+  pub all-append : {xs ys : List A} → All P xs → All P ys → All P (xs ++ ys)
+  all-append nil k = k
+  all-append (cons h i) k = cons h (all-append i k)
+
+  all-reverseAux : {xs ys : List A} → All P xs → All P ys → All P (reverseAux xs ys)
+  all-reverseAux nil k = k
+  all-reverseAux (cons h i) k = all-reverseAux i (cons h k)
+
+  pub all-reverse : {xs : List A} → All P xs → All P (reverse xs)
+  all-reverse h = all-reverseAux h nil
+
+  pub all-skip-while : (f : A → Bool) {xs : List A} → All P xs → All P (skip-while f xs)
+  all-skip-while f nil = nil
+  all-skip-while f (cons {x = x} h k) = of-cond (All P) (f x) (λ _. all-skip-while f k) (λ _. cons h k)
+
+-- `all` tests each element
+pub all-true : {A : Type 0} (f : A → Bool) (xs : List A) → all f xs ≡ true → All (λ x. f x ≡ true) xs
+all-true f [] e = nil
+all-true f (x ∷ xs) e = let h = both (f x) (all f xs) e in cons (h .0) (all-true f xs (h .1))
+
+-- ---- `sum`
+module _ {A : Type 0} (f : A → ℕ) where
+  pub sum-append : (xs ys : List A) → sum f (xs ++ ys) ≡ sum f xs + sum f ys
+  sum-append [] ys = omega arith
+  sum-append (x ∷ xs) ys = omega (arith, sum-append xs ys)
+
+  pub sum-each : (xs : List A) → All (λ x. f x ≤ sum f xs) xs
+  sum-each [] = nil
+  sum-each (x ∷ xs) = cons {x = x} (omega arith) (all-imp (λ y h. omega arith) (sum-each xs))
+
+module _ {A : Type 0} (f g : A → ℕ) (below : (x : A) → g x ≤ f x) where
+  pub sum-le : (xs : List A) → sum g xs ≤ sum f xs
+  sum-le [] = omega arith
+  sum-le (x ∷ xs) = omega (arith, below x, sum-le xs)
+
+  -- where g is at most f, the sums without one element are ordered too
+  pub sum-others : (xs : List A) → All (λ x. sum g xs + f x ≤ sum f xs + g x) xs
+  sum-others [] = nil
+  sum-others (x ∷ xs) =
+      cons {x = x} (omega (arith, sum-le xs)) (all-imp (λ y h. omega (arith, below x)) (sum-others xs))
+
+-- ---- two lists with equal keys
+module _ {A B : Type 0} (key : A → B) where
+  pub all-key : (P : A → Type 0) → ((x y : A) → key y ≡ key x → P x → P y) → (xs ys : List A) → map key ys ≡ map key xs → All P xs → All P ys
+  all-key P f [] [] e h = nil
+  all-key P f [] (y ∷ ys) e h = absurd (cons≢nil e)
+  all-key P f (x ∷ xs) [] e h = absurd (nil≢cons e)
+  all-key P f (x ∷ xs) (y ∷ ys) e (cons h k) = cons (f x y (head-eq-of-cons-eq e) h) (all-key P f xs ys (tail-eq-of-cons-eq e) k)
+
+  pub sum-key : (f : A → ℕ) → ((x y : A) → key y ≡ key x → f y ≡ f x) → (xs ys : List A) → map key ys ≡ map key xs → sum f ys ≡ sum f xs
+  sum-key f g [] [] e = refl
+  sum-key f g [] (y ∷ ys) e = absurd (cons≢nil e)
+  sum-key f g (x ∷ xs) [] e = absurd (nil≢cons e)
+  sum-key f g (x ∷ xs) (y ∷ ys) e = omega (arith, g x y (head-eq-of-cons-eq e), sum-key f g xs ys (tail-eq-of-cons-eq e))
