@@ -1,23 +1,22 @@
 -- `remove`, `reset` and the insertions are their plans. Assumes nothing.
-use Prim.Native.Nat.{ℕ, zero, suc, _≤_, _<_}
-use native.Mathlib.Omega.{arith}
+use Prim.Native.Nat.{ℕ, _<_}
 use mathlib.Core.Path.{_≡_, refl, ap, sym, _∙_}
-use mathlib.Core.Bool.{Bool, true, false, _&&_, cond}
-use mathlib.Core.List.{List, [], _∷_, _++_, map}
+use mathlib.Core.Bool.{true, false, cond}
+use mathlib.Core.List.{List, [], _∷_}
 use mathlib.Core.Option.{Option, none, some}
 use mathlib.Core.Logic.{_⊎_, inl, inr}
 use lib.ListN.{length}
-use Rattle.utf8.specs.Chars.{All, nil, cons}
+use Rattle.utf8.specs.Chars.{All}
 use Rattle.model.specs.Text.{Text}
 use Rattle.model.specs.Chunk.{Texts, Chunk, bare}
-use Rattle.model.specs.MagicString.{MagicString, Result, ok, err, with-chunks, with-intro, with-outro, by-start, by-end, found, at-start, at-end, by-start-mut, by-end-mut}
+use Rattle.model.specs.MagicString.{MagicString, Result, ok, with-chunks, with-intro, with-outro, by-start, by-end, found, at-start, at-end, by-start-mut, by-end-mut}
 use Rattle.model.specs.Movement.{change-by-position, change-range}
-use Rattle.closed_forms.specs.Lists.{bool-cases, all-of, all-map, map-none, first-of, rest-of}
-use Rattle.closed_forms.specs.Plan.{Plan, nothing, clear, insert-left, insert-right, insert-head, insert-tail, End, on-left, on-right, chunk-starts, chunk-ends, cut, cut-all, cuts, add, add-intro, add-outro, act, acted, rearrange, on-head, on-tail, in-order, ends-past, apply, closed-plan}
-use Rattle.closed_forms.specs.Cuts.{Contains, Aligned, cut-aligned, cut-all-aligned, cut-none}
+use Rattle.closed_forms.specs.Lists.{bool-cases, all-of, all-map, map-none, first-of}
+use Rattle.closed_forms.specs.Plan.{nothing, clear, insert-left, insert-right, insert-head, insert-tail, End, on-left, on-right, chunk-starts, chunk-ends, cut, cuts, add, add-intro, add-outro, act, acted, rearrange, on-head, on-tail, in-order, ends-past, closed-plan}
+use Rattle.closed_forms.specs.Cuts.{Contains, cut-aligned, cut-all-aligned, cut-none}
 use Rattle.closed_forms.specs.Spans.{Cover}
 use Rattle.closed_forms.specs.SplitAt.{cover-cut, cover-cut-all, cuts-then, cuts-then-step, cuts-then-closed, aligned-splittable}
-use Rattle.closed_forms.specs.ByPosition.{in-range, if-start, if-end, by-position, at-start-is-map, at-end-is-map, start-is-found, end-is-found, no-start-aligned, no-end-aligned}
+use Rattle.closed_forms.specs.ByPosition.{by-position, at-start-is-map, at-end-is-map, start-is-found, end-is-found, no-start-aligned, no-end-aligned}
 
 -- ── nothing, and head and tail ──
 pub nothing-is-closed : (m : MagicString) → ok m ≡ closed-plan nothing m

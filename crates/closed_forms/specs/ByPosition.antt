@@ -1,11 +1,11 @@
 -- Chunks by position: the walk of `remove` and `reset`, and the chunk that an insertion looks for. Each is a map over the chunks, keyed by their spans.
 -- Assumes nothing.
-use Prim.Native.Nat.{ℕ, zero, suc, _+_, _-_, _≤_, _<_}
+use Prim.Native.Nat.{ℕ, zero, suc, _-_, _≤_, _<_}
 use native.Mathlib.Omega.{arith}
 use native.Mathlib.Decide.{decLe, decLt, ℕ-discrete}
 use mathlib.Core.Path.{_≡_, refl, ap, ap₂, sym, _∙_}
-use mathlib.Core.Bool.{Bool, true, false, _&&_, _||_, not, cond}
-use mathlib.Core.List.{List, [], _∷_, _++_, map, map-map}
+use mathlib.Core.Bool.{Bool, true, false, cond}
+use mathlib.Core.List.{List, [], _∷_, map, map-map}
 use mathlib.Core.Option.{Option, none, some}
 use lib.Dec.{ltb, leb, eqb}
 use lib.ListN.{length}
@@ -16,9 +16,9 @@ use Rattle.model.specs.Chunk.{Texts, Chunk, chunk-of, with-texts, start-of, end
 use Rattle.model.specs.MagicString.{by-start, by-end, found, at-start, at-end}
 use Rattle.model.specs.Movement.{change-by-position}
 use Rattle.model.specs.WellFormed.{covers}
-use Rattle.closed_forms.specs.Lists.{clash, first-of, rest-of, all-of, all-map, all-map₂, map-keeps, map-same, map-none, sum-map, bool-cases}
+use Rattle.closed_forms.specs.Lists.{clash, rest-of, all-of, all-map, all-map₂, map-keeps, map-same, map-none}
 use Rattle.closed_forms.specs.Plan.{inside, chunk-starts, chunk-ends}
-use Rattle.closed_forms.specs.Cuts.{Contains, ends-by, starts-from, Aligned}
+use Rattle.closed_forms.specs.Cuts.{Contains, ends-by, starts-from}
 use Rattle.closed_forms.specs.Spans.{Inside, inside-true, inside-false, dec-inside, Proper, covers-in, covers-out, covers-map, none-cover, self-covered, Once, once-rest, one-start, one-end, Tiling, tiling-once, Cover, empty, tiled}
 
 -- the chunks that start from a up to b are changed by f
@@ -98,18 +98,18 @@ next-here : (f : Texts → Texts) (c : Chunk) (cs : List Chunk) → Once (c ∷ 
 next-here f c cs o (cons p pr) =
     let a : ℕ = start-of c in
     let y : ℕ = end-of c in
-    let here : (z : ℕ) → a ≤ z → z < y → covers z c ≡ 1 = λ z u v. covers-in z c (u, v) in
+    let range-found : (z : ℕ) → a ≤ z → z < y → covers z c ≡ 1 = λ z u v. covers-in z c (u, v) in
     let apart-c : a < a → a < y → ⊥ = λ u v. omega arith in
-    let apart-d : (d : Chunk) → 1 ≤ sum (covers (start-of d)) cs → a < start-of d → start-of d < y → ⊥ = λ d k u v. omega (arith, o (start-of d), here (start-of d) (omega arith) v) in
+    let apart-d : (d : Chunk) → 1 ≤ sum (covers (start-of d)) cs → a < start-of d → start-of d < y → ⊥ = λ d k u v. omega (arith, o (start-of d), range-found (start-of d) (omega arith) v) in
     let aparts : All (λ d. a < start-of d → start-of d < y → ⊥) cs = all-map apart-d (self-covered pr) in
     let edge-c : Contains y c → ⊥ = λ i. omega arith in
-    let gone : sum (covers (y - 1)) cs ≡ 0 = omega (arith, o (y - 1), here (y - 1) (omega arith) (omega arith)) in
+    let gone : sum (covers (y - 1)) cs ≡ 0 = omega (arith, o (y - 1), range-found (y - 1) (omega arith) (omega arith)) in
     let edge-d : (d : Chunk) → (Inside (start-of d) (end-of d) (y - 1) → ⊥) → Contains y d → ⊥ = λ d n i. n (omega arith) in
     let others : (d : Chunk) → (start-of d ≡ a → ⊥) → (a < start-of d → start-of d < y → ⊥) → d ≡ in-range a y f d =
     λ d n m. sym (range-out a y f d (λ i. m (omega (arith, n)) (i .1))) in
     record {
       above = p;
-      covered = λ z u v. omega (arith, here z u v);
+      covered = λ z u v. omega (arith, range-found z u v);
       apart = cons apart-c aparts;
       edge = cons edge-c (all-map edge-d (none-cover (y - 1) cs gone));
       fewer = omega (arith, from-in a c (omega arith), from-out y c p, from-fewer a y cs (omega arith));

@@ -3,16 +3,15 @@ use Prim.Native.Nat.{ℕ, _≤_, _<_}
 use native.Mathlib.Omega.{arith}
 use native.Mathlib.Decide.{decLe, decLt}
 use mathlib.Core.Path.{_≡_, refl, ap, sym, _∙_}
-use mathlib.Core.Bool.{Bool, true, false, _&&_, not, cond}
+use mathlib.Core.Bool.{Bool, true, false, _&&_, not}
 use mathlib.Core.List.{List, [], _∷_, _++_, append-assoc, flatMap}
 use lib.Dec.{ltb}
-use lib.ListN.{length}
 use borrow.Author.Tests.{ltb-true, lt-ltb}
 use Rattle.utf8.specs.Chars.{All, nil, cons}
 use Rattle.utf8.specs.CharLaws.{all-front, all-back}
 use Rattle.model.specs.Text.{all}
 use Rattle.model.specs.Chunk.{Chunk, start-of, end-of, contains, is-filled, first-half, second-half}
-use Rattle.closed_forms.specs.Lists.{both, and-left, and-right, clash, bool-cases, false-of, first-of, rest-of, all-append, all-of, all-map, all-map₂, all-true, true-all}
+use Rattle.closed_forms.specs.Lists.{both, and-left, and-right, false-of, first-of, rest-of, all-append, all-of, all-map, all-map₂, all-true, true-all}
 use Rattle.closed_forms.specs.Plan.{split, cut, cut-all, splittable, cuttable}
 
 -- ── one chunk ──

@@ -10,3 +10,4 @@ pub mod UpdateWalk
 pub mod MoveWalk
 pub mod Steps
 pub mod Accepted
+pub mod RunClosed

@@ -106,10 +106,6 @@ module _ {A B : Type 0} where
   map-same f g nil = refl
   map-same f g (cons e es) = ap₂ (λ y ys. y ∷ ys) e (map-same f g es)
 
-  pub sum-map : (w : B → ℕ) (f : A → B) (xs : List A) → sum w (map f xs) ≡ sum (λ x. w (f x)) xs
-  sum-map w f [] = refl
-  sum-map w f (x ∷ xs) = ap (λ n. w (f x) + n) (sum-map w f xs)
-
 module _ {A : Type 0} where
   pub map-none : (f : A → A) {xs : List A} → All (λ x. f x ≡ x) xs → map f xs ≡ xs
   map-none f nil = refl

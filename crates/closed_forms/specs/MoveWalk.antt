@@ -1,67 +1,66 @@
 -- The walk of `relocate`: where its range stands together, the rearrangement by spans, with no case of its own for a range that stands there already; else 9.
 -- Assumes nothing.
-use Prim.Native.Nat.{ℕ, zero, suc, _+_, _-_, _≤_, _<_}
+use Prim.Native.Nat.{ℕ, _+_, _≤_}
 use native.Mathlib.Omega.{arith}
 use native.Mathlib.Decide.{ℕ-discrete}
 use mathlib.Core.Path.{_≡_, refl, ap, sym, _∙_, subst}
-use mathlib.Core.Bool.{Bool, true, false, _&&_, _||_, not, cond}
-use mathlib.Core.List.{List, [], _∷_, _++_, append-assoc, append-nil}
+use mathlib.Core.Bool.{Bool, true, false, not, cond}
+use mathlib.Core.List.{List, [], _∷_, _++_, append-nil}
 use mathlib.Core.Option.{Option, none, some}
 use mathlib.Core.Logic.{_⊎_, inl, inr}
-use lib.Dec.{eqb}
 use borrow.Author.Tests.{eqb-true, eq-eqb, ne-eqb}
-use Rattle.utf8.specs.Chars.{All, nil, cons}
+use Rattle.utf8.specs.Chars.{All, cons}
 use Rattle.utf8.specs.CharLaws.{all-front, all-back}
 use Rattle.model.specs.Text.{sum}
 use Rattle.model.specs.Chunk.{Chunk, start-of, end-of}
-use Rattle.model.specs.MagicString.{MagicString, Result, ok, err, with-chunks, by-start, found}
-use Rattle.model.specs.Movement.{Segment, together, apart, into-range, before-range, begins-at, range-from, segment, insert-before, stands-there, move-segment}
+use Rattle.model.specs.MagicString.{MagicString, ok, err, with-chunks, by-start, found}
+use Rattle.model.specs.Movement.{Segment, together, apart, into-range, before-range, range-from, segment, insert-before, stands-there, move-segment}
 use Rattle.model.specs.WellFormed.{covers}
 use Rattle.closed_forms.specs.Lists.{clash, bool-cases, first-of, rest-of, all-map, sum-append}
 use Rattle.closed_forms.specs.Plan.{move, inside, outside, keep, ascends, stands-together, rearrange}
-use Rattle.closed_forms.specs.Spans.{Inside, inside-true, inside-false, Proper, covers-in, self-covered, Once, once-rest}
+use Rattle.closed_forms.specs.Spans.{Inside, inside-true, inside-false, Proper, covers-in, self-covered, Once}
 use Rattle.closed_forms.specs.ByPosition.{none-starts}
 use Rattle.closed_forms.specs.Together.{Tiles, tiles-inside, tiles-cover, ascends-from, ascends-from-is-together, keep-append, keep-every, keep-no, insert-skips}
 
 -- ── the range found, or not ──
-data FromHere (a b : ℕ) (cs : List Chunk) : Bool → Segment → Type 0 where
-  here : (range behind : List Chunk) → cs ≡ range ++ behind → Tiles a b range → FromHere a b cs true (together [] range behind)
-  not-here : FromHere a b cs false apart
+data RangeAtHead (a b : ℕ) (cs : List Chunk) : Bool → Segment → Type 0 where
+  range-found : (range behind : List Chunk) → cs ≡ range ++ behind → Tiles a b range → RangeAtHead a b cs true (together [] range behind)
+  range-missing : RangeAtHead a b cs false apart
 
-data Somewhere (a b : ℕ) (cs : List Chunk) : Bool → Segment → Type 0 where
-  there : (before range behind : List Chunk) → cs ≡ before ++ (range ++ behind) → Tiles a b range → Somewhere a b cs true (together before range behind)
-  nowhere : Somewhere a b cs false apart
+data RangeInList (a b : ℕ) (cs : List Chunk) : Bool → Segment → Type 0 where
+  found-in-list : (before range behind : List Chunk) → cs ≡ before ++ (range ++ behind) → Tiles a b range → RangeInList a b cs true (together before range behind)
+  missing-in-list : RangeInList a b cs false apart
 
-one-more : (b : ℕ) (c : Chunk) {y : ℕ} {cs : List Chunk} {k : Bool} {r : Segment} → Proper c → y ≡ end-of c → FromHere y b cs k r → FromHere (start-of c) b (c ∷ cs) k (into-range c r)
-one-more b c p e (here range behind q t) = here (c ∷ range) behind (ap (λ l. c ∷ l) q) (refl, p, subst (λ (y : ℕ). Tiles y b range) e t)
-one-more b c p e not-here = not-here
+one-more : (b : ℕ) (c : Chunk) {y : ℕ} {cs : List Chunk} {k : Bool} {r : Segment} → Proper c → y ≡ end-of c → RangeAtHead y b cs k r → RangeAtHead (start-of c) b (c ∷ cs) k (into-range c r)
+one-more b c p e (range-found range behind q t) = range-found (c ∷ range) behind (ap (λ l. c ∷ l) q) (refl, p, subst (λ (y : ℕ). Tiles y b range) e t)
+one-more b c p e range-missing = range-missing
 
-range-law : (b : ℕ) (c : Chunk) (cs : List Chunk) → All Proper (c ∷ cs) → FromHere (start-of c) b (c ∷ cs) (ascends (end-of c) b cs) (range-from b (c ∷ cs))
+range-law : (b : ℕ) (c : Chunk) (cs : List Chunk) → All Proper (c ∷ cs) → RangeAtHead (start-of c) b (c ∷ cs) (ascends (end-of c) b cs) (range-from b (c ∷ cs))
 range-law b c [] (cons p pr) = go (ℕ-discrete (end-of c) b)
   where
-    go : Dec (end-of c ≡ b) → FromHere (start-of c) b (c ∷ []) (ascends (end-of c) b []) (range-from b (c ∷ []))
-    go (yes e) = rw (eq-eqb (end-of c) b e) (here (c ∷ []) [] refl (refl, p, e))
-    go (no e) = rw (ne-eqb (end-of c) b e) not-here
+    go : Dec (end-of c ≡ b) → RangeAtHead (start-of c) b (c ∷ []) (ascends (end-of c) b []) (range-from b (c ∷ []))
+    go (yes e) = rw (eq-eqb (end-of c) b e) (range-found (c ∷ []) [] refl (refl, p, e))
+    go (no e) = rw (ne-eqb (end-of c) b e) range-missing
 range-law b c (d ∷ ds) (cons p pr) = go (ℕ-discrete (end-of c) b) (ℕ-discrete (start-of d) (end-of c)) (range-law b d ds pr)
   where
-    go : Dec (end-of c ≡ b) → Dec (start-of d ≡ end-of c) → FromHere (start-of d) b (d ∷ ds) (ascends (end-of d) b ds) (range-from b (d ∷ ds)) → FromHere (start-of c) b (c ∷ d ∷ ds) (ascends (end-of c) b (d ∷ ds)) (range-from b (c ∷ d ∷ ds))
-    go (yes e) _ ih = rw (eq-eqb (end-of c) b e) (here (c ∷ []) (d ∷ ds) refl (refl, p, e))
+    go : Dec (end-of c ≡ b) → Dec (start-of d ≡ end-of c) → RangeAtHead (start-of d) b (d ∷ ds) (ascends (end-of d) b ds) (range-from b (d ∷ ds)) → RangeAtHead (start-of c) b (c ∷ d ∷ ds) (ascends (end-of c) b (d ∷ ds)) (range-from b (c ∷ d ∷ ds))
+    go (yes e) _ ih = rw (eq-eqb (end-of c) b e) (range-found (c ∷ []) (d ∷ ds) refl (refl, p, e))
     go (no e) (yes s) ih = rw (ne-eqb (end-of c) b e, eq-eqb (start-of d) (end-of c) s) (one-more b c p s ih)
-    go (no e) (no s) ih = rw (ne-eqb (end-of c) b e, ne-eqb (start-of d) (end-of c) s) not-here
+    go (no e) (no s) ih = rw (ne-eqb (end-of c) b e, ne-eqb (start-of d) (end-of c) s) range-missing
 
-from-start : (a b : ℕ) {y : ℕ} {cs : List Chunk} {k : Bool} {r : Segment} → y ≡ a → FromHere y b cs k r → Somewhere a b cs k r
-from-start a b e (here range behind q t) = there [] range behind q (subst (λ (y : ℕ). Tiles y b range) e t)
-from-start a b e not-here = nowhere
+from-start : (a b : ℕ) {y : ℕ} {cs : List Chunk} {k : Bool} {r : Segment} → y ≡ a → RangeAtHead y b cs k r → RangeInList a b cs k r
+from-start a b e (range-found range behind q t) = found-in-list [] range behind q (subst (λ (y : ℕ). Tiles y b range) e t)
+from-start a b e range-missing = missing-in-list
 
-one-before : (a b : ℕ) (c : Chunk) {cs : List Chunk} {k : Bool} {r : Segment} → Somewhere a b cs k r → Somewhere a b (c ∷ cs) k (before-range c r)
-one-before a b c (there before range behind q t) = there (c ∷ before) range behind (ap (λ l. c ∷ l) q) t
-one-before a b c nowhere = nowhere
+one-before : (a b : ℕ) (c : Chunk) {cs : List Chunk} {k : Bool} {r : Segment} → RangeInList a b cs k r → RangeInList a b (c ∷ cs) k (before-range c r)
+one-before a b c (found-in-list before range behind q t) = found-in-list (c ∷ before) range behind (ap (λ l. c ∷ l) q) t
+one-before a b c missing-in-list = missing-in-list
 
-segment-law : (a b : ℕ) (cs : List Chunk) → All Proper cs → Somewhere a b cs (ascends-from a b cs) (segment a b cs)
-segment-law a b [] pr = nowhere
+segment-law : (a b : ℕ) (cs : List Chunk) → All Proper cs → RangeInList a b cs (ascends-from a b cs) (segment a b cs)
+segment-law a b [] pr = missing-in-list
 segment-law a b (c ∷ cs) pr = go (ℕ-discrete (start-of c) a) (segment-law a b cs (rest-of pr))
   where
-    go : Dec (start-of c ≡ a) → Somewhere a b cs (ascends-from a b cs) (segment a b cs) → Somewhere a b (c ∷ cs) (ascends-from a b (c ∷ cs)) (segment a b (c ∷ cs))
+    go : Dec (start-of c ≡ a) → RangeInList a b cs (ascends-from a b cs) (segment a b cs) → RangeInList a b (c ∷ cs) (ascends-from a b (c ∷ cs)) (segment a b (c ∷ cs))
     go (yes e) ih = rw (eq-eqb (start-of c) a e) (from-start a b e (range-law b c cs pr))
     go (no e) ih = rw (ne-eqb (start-of c) a e) (one-before a b c ih)
 
@@ -143,10 +142,10 @@ moved a b to xs ys zs one pr t = go (bool-cases (stands-there (by-start to (xs +
     go (inr h) = rw h
 
 -- ── the step behind the cuts ──
-move-law : (a b to : ℕ) (m : MagicString) {k : Bool} {r : Segment} → Somewhere a b (m .chunks) k r → Once (m .chunks) → All Proper (m .chunks)
+move-law : (a b to : ℕ) (m : MagicString) {k : Bool} {r : Segment} → RangeInList a b (m .chunks) k r → Once (m .chunks) → All Proper (m .chunks)
     → move-segment to m r ≡ cond k (ok (with-chunks m (rearrange (move a b to) (m .chunks)))) (err 9 m)
-move-law a b to m nowhere one pr = refl
-move-law a b to m (there xs ys zs q t) one pr =
+move-law a b to m missing-in-list one pr = refl
+move-law a b to m (found-in-list xs ys zs q t) one pr =
     either (stands-there (by-start to (m .chunks)) zs) (insert-before to ys (xs ++ zs))
     ∙ ap (λ cs. ok (with-chunks m cs)) (subst (λ (l : List Chunk). cond (stands-there (by-start to l) zs) l (insert-before to ys (xs ++ zs)) ≡ rearrange (move a b to) l) (sym q)
     (moved a b to xs ys zs (subst Once q one) (subst (All Proper) q pr) t))

@@ -1,11 +1,10 @@
 -- Spans: which bytes they cover, that they cover the source once, and what keeps that. Assumes nothing.
-use Prim.Native.Nat.{ℕ, zero, suc, _+_, _-_, _≤_, _<_}
+use Prim.Native.Nat.{ℕ, _+_, _-_, _≤_, _<_}
 use native.Mathlib.Omega.{arith}
 use native.Mathlib.Decide.{decLe, decLt}
-use mathlib.Core.Path.{_≡_, refl, ap, sym, _∙_, subst}
-use mathlib.Core.Bool.{Bool, true, false, _&&_, cond}
+use mathlib.Core.Path.{_≡_, refl, sym, _∙_, subst}
+use mathlib.Core.Bool.{true, false}
 use mathlib.Core.List.{List, [], _∷_, _++_, map}
-use mathlib.Core.Option.{Option, none, some}
 use lib.Dec.{ltb, leb}
 use lib.ListN.{length}
 use borrow.Author.Tests.{ltb-true, leb-true, lt-ltb, le-leb}
@@ -13,8 +12,8 @@ use Rattle.utf8.specs.Chars.{All, nil, cons}
 use Rattle.model.specs.Text.{Text, sum}
 use Rattle.model.specs.Chunk.{Span, Texts, Chunk, chunk-of, with-texts, start-of, end-of, first-half, second-half}
 use Rattle.model.specs.MagicString.{MagicString}
-use Rattle.model.specs.WellFormed.{covers, ProperSpan, Tiled, Covered, Formed}
-use Rattle.closed_forms.specs.Lists.{both, and-left, and-right, false-of, first-of, rest-of, all-of, all-map, all-map₂, map-keeps, sum-append}
+use Rattle.model.specs.WellFormed.{covers, Covered, Formed}
+use Rattle.closed_forms.specs.Lists.{both, and-left, and-right, false-of, all-of, all-map, all-map₂}
 use Rattle.closed_forms.specs.Plan.{Plan, inside, split, cut, cut-all, act, acted}
 use Rattle.closed_forms.specs.Cuts.{Contains, dec-contains, split-in, split-out, cut-keeps}
 
@@ -159,10 +158,6 @@ tiling-cut {n} {cs} p t = record {
   within = cut-keeps p (λ c h i. (omega arith, h)) (t .within);
   exact = λ x h. covers-cut x p cs ∙ t .exact x h;
 }
-
-pub tiling-cut-all : {n : ℕ} (ps : List ℕ) {cs : List Chunk} → Tiling n cs → Tiling n (cut-all ps cs)
-tiling-cut-all [] t = t
-tiling-cut-all (p ∷ ps) t = tiling-cut-all ps (tiling-cut p t)
 
 -- ── a well-formed desk's spans: a tiling, or the one chunk of an empty source ──
 pub data Cover : Text → List Chunk → Type 0 where

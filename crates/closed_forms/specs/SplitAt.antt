@@ -1,25 +1,24 @@
 -- `split_at` is the cut, refused with 6 where a chunk is not splittable; the cuts that an edit makes one after another; and a plan as its cuts and what is left to do.
 -- Assumes nothing.
-use Prim.Native.Nat.{ℕ, zero, suc, _+_, _-_, _≤_, _<_}
+use Prim.Native.Nat.{ℕ, _+_, _-_, _≤_, _<_}
 use native.Mathlib.Omega.{arith}
 use native.Mathlib.Decide.{ℕ-discrete}
-use mathlib.Core.Path.{_≡_, refl, ap, sym, _∙_}
+use mathlib.Core.Path.{_≡_, refl, ap, _∙_}
 use mathlib.Core.Bool.{Bool, true, false, _&&_, _||_, not, cond}
-use mathlib.Core.List.{List, [], _∷_, _++_}
-use mathlib.Core.Option.{Option, none, some}
+use mathlib.Core.List.{List, [], _∷_}
 use mathlib.Core.Logic.{_⊎_, inl, inr}
 use lib.Dec.{leb, eqb}
 use lib.ListN.{length}
-use borrow.Author.Tests.{leb-true, eqb-true, eq-eqb, ne-eqb}
+use borrow.Author.Tests.{leb-true, eqb-true, ne-eqb}
 use Rattle.utf8.specs.Chars.{All, nil, cons}
 use Rattle.model.specs.Text.{Text, all, sum}
-use Rattle.model.specs.Chunk.{Texts, Chunk, chunk-of, start-of, end-of, contains, is-filled}
+use Rattle.model.specs.Chunk.{Texts, Chunk, chunk-of, end-of, is-filled}
 use Rattle.model.specs.MagicString.{MagicString, Result, ok, err, and-then, with-chunks, by-end, found, holder, split-holder, refuses-split, split-at}
 use Rattle.model.specs.WellFormed.{covers, Formed}
 use Rattle.closed_forms.specs.Lists.{or-cases, bool-cases, clash, all-of, all-map, true-all}
-use Rattle.closed_forms.specs.Plan.{Plan, split, cut, cut-all, splittable, cuttable, cut-until-refused, cuts, apply, in-order, order-number, left-over, ends-past, closed-plan}
+use Rattle.closed_forms.specs.Plan.{Plan, cut, cut-all, splittable, cuttable, cut-until-refused, cuts, apply, in-order, order-number, left-over, ends-past, closed-plan}
 use Rattle.closed_forms.specs.Cuts.{Contains, dec-contains, contains-true, contains-false, split-in, split-out, cut-none, splittable-true}
-use Rattle.closed_forms.specs.Spans.{Inside, Proper, covers-in, covers-out, none-cover, Once, once-rest, Tiling, tiling-once, tiling-cut, Cover, empty, tiled, formed-cover}
+use Rattle.closed_forms.specs.Spans.{Proper, covers-in, covers-out, none-cover, Once, once-rest, tiling-once, tiling-cut, Cover, empty, tiled, formed-cover}
 
 -- ── the spans of any desk ──
 empty-once : (t : Texts) → Once (chunk-of 0 0 t ∷ [])

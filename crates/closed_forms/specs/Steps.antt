@@ -1,19 +1,19 @@
 -- The theorem: on a well-formed desk the Rust's steps of an edit of L, walk by walk, are its closed form, number and desk, refusals included. Assumes nothing.
-use Prim.Native.Nat.{ℕ, zero, suc, _≤_, _<_}
+use Prim.Native.Nat.{ℕ, _≤_, _<_}
 use native.Mathlib.Omega.{arith}
-use native.Mathlib.Decide.{decLe, decLt, ℕ-discrete}
+use native.Mathlib.Decide.{decLt, ℕ-discrete}
 use mathlib.Core.Path.{_≡_, refl, ap, sym, _∙_}
 use mathlib.Core.Bool.{Bool, true, false, _&&_, cond}
-use mathlib.Core.List.{List, [], _∷_, map}
-use mathlib.Core.Option.{Option, none, some}
+use mathlib.Core.List.{List, [], _∷_}
+use mathlib.Core.Option.{none, some}
 use mathlib.Core.Logic.{_⊎_, inl, inr}
-use lib.Dec.{ltb, leb, eqb}
+use lib.Dec.{ltb, leb}
 use lib.ListN.{length}
 use borrow.Author.Tests.{ltb-false, eq-eqb, ne-eqb, lt-ltb, le-ltb}
 use Rattle.utf8.specs.Chars.{All}
 use Rattle.model.specs.Text.{Text}
-use Rattle.model.specs.Chunk.{Chunk, Texts, bare, edit, reset-texts}
-use Rattle.model.specs.MagicString.{MagicString, Result, ok, err, with-chunks}
+use Rattle.model.specs.Chunk.{Chunk}
+use Rattle.model.specs.MagicString.{MagicString, ok, err, with-chunks}
 use Rattle.model.specs.Update.{update-chunks}
 use Rattle.model.specs.Update as update-rs
 use Rattle.model.specs.Movement.{segment, move-segment}
@@ -22,7 +22,7 @@ use Rattle.model.specs.Reset as reset-rs
 use Rattle.model.specs.Call.{Edit, remove, update-with, reset, append-left, append-right, prepend-left, prepend-right, append, prepend, relocate, trim, trim-start, trim-end, trim-lines, indent-with, steps}
 use Rattle.model.specs.WellFormed.{Formed}
 use Rattle.closed_forms.specs.Lists.{clash, bool-cases, all-of, map-none}
-use Rattle.closed_forms.specs.Plan.{listed, Plan, clear, replace, move, front, back, plan, refused-first, cut-all, cuts, rearrange, act, acted, on-head, on-tail, in-order, order-number, stands-together, left-over, ends-past, apply, closed-plan, closed}
+use Rattle.closed_forms.specs.Plan.{listed, replace, move, front, back, plan, refused-first, cut-all, cuts, rearrange, act, acted, on-head, on-tail, in-order, order-number, stands-together, left-over, ends-past, apply, closed-plan, closed}
 use Rattle.closed_forms.specs.Spans.{Proper, Cover, empty, tiled, formed-cover}
 use Rattle.closed_forms.specs.SplitAt.{cover-once, cover-cut-all, cuts-then-step}
 use Rattle.closed_forms.specs.ByPlan.{nothing-is-closed, head-is-closed, tail-is-closed, clear-is-closed, left-is-closed, right-is-closed}

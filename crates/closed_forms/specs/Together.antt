@@ -1,22 +1,21 @@
 -- A range whose chunks stand together in the list: the test, and the list taken apart around the range. Assumes nothing.
-use Prim.Native.Nat.{ℕ, zero, suc, _+_, _-_, _≤_, _<_}
+use Prim.Native.Nat.{ℕ, _+_, _≤_, _<_}
 use native.Mathlib.Omega.{arith}
-use native.Mathlib.Decide.{decLe, decLt, ℕ-discrete}
+use native.Mathlib.Decide.{decLt, ℕ-discrete}
 use mathlib.Core.Path.{_≡_, refl, ap, sym, _∙_}
-use mathlib.Core.Bool.{Bool, true, false, _&&_, _||_, not, cond, or-false}
-use mathlib.Core.List.{List, [], _∷_, _++_, append-assoc, append-nil}
+use mathlib.Core.Bool.{Bool, true, false, _&&_, cond, or-false}
+use mathlib.Core.List.{List, [], _∷_, _++_, append-assoc}
 use mathlib.Core.Logic.{_⊎_, inl, inr}
 use lib.Dec.{eqb}
 use borrow.Author.Tests.{eqb-true, eq-eqb, ne-eqb}
 use Rattle.utf8.specs.Chars.{All, nil, cons}
-use Rattle.utf8.specs.CharLaws.{all-front, all-back}
 use Rattle.model.specs.Text.{sum}
 use Rattle.model.specs.Chunk.{Chunk, start-of, end-of}
 use Rattle.model.specs.Movement.{insert-before}
 use Rattle.model.specs.WellFormed.{covers}
-use Rattle.closed_forms.specs.Lists.{both, and-left, and-right, or-cases, or-left, or-right, bool-cases, first-of, rest-of, all-map, sum-append}
-use Rattle.closed_forms.specs.Plan.{Plan, inside, outside, keep, ascends, stands-together}
-use Rattle.closed_forms.specs.Spans.{Inside, inside-true, inside-false, Proper, covers-in, self-covered, Once, once-rest, one-start}
+use Rattle.closed_forms.specs.Lists.{both, and-left, and-right, or-cases, or-left, or-right, rest-of, all-map, sum-append}
+use Rattle.closed_forms.specs.Plan.{keep, ascends, stands-together}
+use Rattle.closed_forms.specs.Spans.{Inside, Proper, covers-in, Once, once-rest, one-start}
 
 -- cs covers the range from a up to b in ascending order
 abbrev pub Tiles : ℕ → ℕ → List Chunk → Type 0

@@ -1,25 +1,23 @@
 -- The walk of `update_with` is a map over the chunks: where its range stands together the replacement, else the chunks that it cleared before 7. Assumes nothing.
-use Prim.Native.Nat.{ℕ, zero, suc, _+_, _-_, _≤_, _<_}
+use Prim.Native.Nat.{ℕ, _-_, _≤_, _<_}
 use native.Mathlib.Omega.{arith}
-use native.Mathlib.Decide.{decLe, decLt, ℕ-discrete}
+use native.Mathlib.Decide.{decLt, ℕ-discrete}
 use mathlib.Core.Path.{_≡_, refl, ap, ap₂, sym, _∙_}
-use mathlib.Core.Bool.{Bool, true, false, _&&_, _||_, not, cond}
-use mathlib.Core.List.{List, [], _∷_, _++_, map}
-use mathlib.Core.Option.{Option, none, some}
+use mathlib.Core.Bool.{Bool, true, false, _&&_, _||_, cond}
+use mathlib.Core.List.{List, [], _∷_, map}
+use mathlib.Core.Option.{some}
 use mathlib.Core.Logic.{_⊎_, inl, inr}
-use lib.Dec.{ltb, leb, eqb}
-use lib.ListN.{length}
+use lib.Dec.{ltb, eqb}
 use borrow.Author.Tests.{eqb-true, eq-eqb, ne-eqb, lt-ltb, le-ltb}
-use Rattle.utf8.specs.Chars.{All, nil, cons}
+use Rattle.utf8.specs.Chars.{All}
 use Rattle.model.specs.Text.{Text, sum}
-use Rattle.model.specs.Chunk.{Texts, Chunk, bare, with-texts, start-of, end-of, edit}
-use Rattle.model.specs.MagicString.{MagicString, Result, ok, err, with-chunks}
+use Rattle.model.specs.Chunk.{Chunk, bare, with-texts, start-of, end-of, edit}
+use Rattle.model.specs.MagicString.{MagicString, ok, err, with-chunks}
 use Rattle.model.specs.Update.{Walk, onto, clear-run, update-walk, update-chunks}
 use Rattle.model.specs.WellFormed.{covers}
 use Rattle.closed_forms.specs.Lists.{clash, bool-cases, false-of, and-left, and-right, or-cases, first-of, rest-of, all-of, all-map, all-map₂, map-same, map-none}
-use Rattle.closed_forms.specs.Plan.{Plan, replace, inside, act, acted, cuts, cut-all, ascends, stands-together, cleared-so-far, left-over, in-order, order-number, ends-past, on-head, on-tail, rearrange}
-use Rattle.closed_forms.specs.Spans.{Inside, inside-true, inside-false, Proper, covers-in, member-covers, self-covered, Once, once-rest, one-start, one-end, Tiling, tiling-once, tiling-cut-all}
-use Rattle.closed_forms.specs.SplitAt.{after-cuts}
+use Rattle.closed_forms.specs.Plan.{replace, act, acted, ascends, stands-together, cleared-so-far}
+use Rattle.closed_forms.specs.Spans.{Inside, inside-true, inside-false, Proper, covers-in, member-covers, self-covered, Once, once-rest, one-end}
 use Rattle.closed_forms.specs.Together.{Together, together-of, together-cover, ascends-from, ascends-from-is-together, ascends-le}
 
 -- ── what a replacement makes of one chunk ──

@@ -1,0 +1,51 @@
+-- `run` of an edit of L: accepted exactly if it passes every test of the whole order, and what it leaves then. Assumes nothing.
+use Prim.Native.Nat.{ℕ, zero, suc}
+use native.Mathlib.Omega.{arith}
+use mathlib.Core.Path.{_≡_, refl, ap, sym, _∙_}
+use mathlib.Core.Bool.{Bool, true, false, cond}
+use Rattle.model.specs.MagicString.{MagicString, Result, ok, err}
+use Rattle.model.specs.Limits.{Limits, within, judged}
+use Rattle.model.specs.Call.{Edit, steps, refused-before, run}
+use Rattle.model.specs.WellFormed.{Formed}
+use Rattle.closed_forms.specs.Plan.{listed, apply, unless-refused, closed}
+use Rattle.closed_forms.specs.Steps.{steps-are-closed}
+use Rattle.closed_forms.specs.Accepted.{plan-of, Accepted, accepted-closed, closed-accepted}
+
+run-parts : (k : Limits) (e : Edit) (m : MagicString) → run k e m ≡ unless-refused (refused-before m e) m (judged k m (steps e m))
+unfolding run
+run-parts k e m = go (refused-before m e) (judged k m (steps e m))
+  where
+    go : (j : ℕ) (r : Result) → elim j [ zero ↦ r | suc n ↦ err (suc n) m ] ≡ unless-refused j m r
+    go zero r = refl
+    go (suc n) r = refl
+
+-- every number in its order: 15, 1, 3; then 13 judged on what the closed form leaves; else the closed form
+pub run-closed : (k : Limits) (e : Edit) (m : MagicString) → listed e ≡ true → Formed m → run k e m ≡ unless-refused (refused-before m e) m (judged k m (closed e m))
+run-closed k e m l f = run-parts k e m ∙ ap (λ r. unless-refused (refused-before m e) m (judged k m r)) (steps-are-closed e m l f)
+
+-- no number of the whole order is given: 15, 1, 3, the edit's own, 13
+pub record RunAccepted (k : Limits) (e : Edit) (m : MagicString) : Type 0 where
+  pub before : refused-before m e ≡ 0
+  pub accepted : Accepted e m
+  pub space : within k (apply (plan-of e m) m) ≡ true
+
+pub accepted-run : (k : Limits) (e : Edit) (m : MagicString) → listed e ≡ true → Formed m → RunAccepted k e m → run k e m ≡ ok (apply (plan-of e m) m)
+unfolding judged
+accepted-run k e m l f g = run-parts k e m ∙ rw (g .before, steps-are-closed e m l f, accepted-closed e m (g .accepted), g .space)
+
+pub run-accepted : (k : Limits) (e : Edit) (m : MagicString) → listed e ≡ true → Formed m → run k e m .number ≡ 0 → RunAccepted k e m
+unfolding judged
+run-accepted k e m l f h = before (refused-before m e) refl (rw (run-parts k e m) at h)
+  where
+    kept : closed e m .number ≡ 0 → refused-before m e ≡ 0 → within k (closed e m .desk) ≡ true → RunAccepted k e m
+    kept z b w =
+        let a : Accepted e m = closed-accepted e m z in
+        record { before = b; accepted = a; space = sym (ap (λ r. within k (r .desk)) (accepted-closed e m a)) ∙ w }
+
+    space : refused-before m e ≡ 0 → (w : Bool) → within k (closed e m .desk) ≡ w → cond w (closed e m) (err 13 m) .number ≡ 0 → RunAccepted k e m
+    space b true w z = kept z b w
+    space b false w z = absurd (omega arith)
+
+    before : (j : ℕ) → refused-before m e ≡ j → unless-refused j m (judged k m (steps e m)) .number ≡ 0 → RunAccepted k e m
+    before zero b z = space b (within k (closed e m .desk)) refl (rw (steps-are-closed e m l f) at z)
+    before (suc j) b z = absurd (omega arith)
