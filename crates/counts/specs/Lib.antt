@@ -1,0 +1,5 @@
+pub mod Counts
+pub mod Sums
+pub mod Lists
+pub mod Places
+pub mod Once

@@ -1,0 +1,1 @@
+// Laws of counting, in specs/: there is no code here.

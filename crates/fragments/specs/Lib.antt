@@ -1,0 +1,5 @@
+pub mod Sections
+pub mod Output
+pub mod Valid
+pub mod Writing
+pub mod Telling

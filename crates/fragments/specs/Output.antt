@@ -1,0 +1,185 @@
+-- What a desk's sections show is what the desk shows, and how long that is at most.
+use mathlib.Core.Path.{_≡_, refl, ap, sym, _∙_, subst}
+use mathlib.Core.Bool.{Bool, true, false, _&&_, cond}
+use mathlib.Core.List.{List, [], _∷_, _++_, map, append-assoc, append-nil}
+use mathlib.Core.Option.{Option, none, some}
+use Prim.Native.Nat.{ℕ, zero, suc, _+_, _*_, _-_, _^_, _≤_, _<_}
+use native.Mathlib.Omega.{arith}
+use native.Mathlib.Nat.{mul-le-mul, add-zero}
+use lib.Dec.{leb}
+use lib.ListN.{length, getD, take, drop, length-append, length-map, length-take, length-drop}
+use borrow.Author.Tests.{leb-true}
+use Rattle.utf8.specs.Chars.{All, nil, cons, concat}
+use Rattle.utf8.specs.CharLaws.{concat-append}
+use Rattle.utf8.specs.Sequences.{both}
+use Rattle.table.specs.Order.{Entry, entryAt, entries, countOf, Linked}
+use Rattle.model.specs.Text.{Text, sum}
+use Rattle.model.specs.Chunk.{Chunk, Span, start-of, end-of, content}
+use Rattle.model.specs.Chunk as chunk
+use Rattle.model.specs.MagicString.{MagicString, chunk-fragments, fragments, to-string, output-len, len}
+use Rattle.model.specs.Limits.{full, within, chunk-pieces, chunk-bytes, replacement-bytes, byte-count, piece-count}
+use Rattle.model.specs.WellFormed.{Covered, ProperSpan, Tiled}
+use Rattle.model.specs.WellFormed as model
+use Rattle.memory.specs.Layout.{runOf, chunkOf, magicStringOf, replacementOf}
+use Rattle.memory.specs.WellFormed.{RunIn, ReplacementIn, EntryIn, RunsIn, Readable, WellFormed}
+use Rattle.texts.specs.Texts.{SpanIn, concat-cons, concat-nil, concat-one, run-length, run-tabulate, run-piece}
+use Rattle.fragments.specs.Sections.{headOf, tailOf, section, sections, sections-are, fragmentsOf, fragmentsAll, size, Shown, Ready, Narrow, each-section}
+
+-- ---- fragments of several sections
+pub all-append : (source p s : List ℕ) (xs ys : List Entry) → fragmentsAll source p s (xs ++ ys) ≡ fragmentsAll source p s xs ++ fragmentsAll source p s ys
+all-append source p s [] ys = refl
+all-append source p s (x ∷ xs) ys =
+    ap (λ (l : List Text). fragmentsOf source p s x ++ l) (all-append source p s xs ys)
+    ∙ sym (append-assoc (fragmentsOf source p s x) (fragmentsAll source p s xs) (fragmentsAll source p s ys))
+
+run-none : (p s : List ℕ) → runOf p s (0, 0) ≡ []
+run-none p s = run-tabulate p s 0 0
+
+-- the head shows its pieces and the empty text, the tail the empty text and its pieces
+head-fragments : (source p s t : List ℕ) → fragmentsOf source p s (headOf t) ≡ runOf p s (entryAt t 0 .intro) ++ ([] ∷ [])
+unfolding replacementOf
+head-fragments source p s t = rw run-none
+
+tail-fragments : (source p s t : List ℕ) → fragmentsOf source p s (tailOf t) ≡ [] ∷ runOf p s (entryAt t 0 .outro)
+unfolding replacementOf
+tail-fragments source p s t = rw run-none
+
+-- all fragments, with the two empty ones
+pub output-sections : (source t p s : List ℕ) → Linked t
+    → fragmentsAll source p s (sections t)
+    ≡ (runOf p s (entryAt t 0 .intro) ++ ([] ∷ [])) ++ (fragmentsAll source p s (entries t) ++ ([] ∷ runOf p s (entryAt t 0 .outro)))
+output-sections source t p s l =
+    ap (fragmentsAll source p s) (sections-are t l)
+    ∙ ap (λ (x : List Text). fragmentsOf source p s (headOf t) ++ x) (all-append source p s (entries t) (tailOf t ∷ []))
+    ∙ rw (head-fragments source p s t, append-nil (fragmentsOf source p s (tailOf t)), tail-fragments source p s t)
+
+-- ---- a sum over the fragments
+pub sum-append : {A : Type 0} (f : A → ℕ) (xs ys : List A) → sum f (xs ++ ys) ≡ sum f xs + sum f ys
+sum-append f [] ys = omega arith
+sum-append f (x ∷ xs) ys = omega (arith, sum-append f xs ys)
+
+-- a count that the empty text does not change
+pub sum-sections : (f : Text → ℕ) → f [] ≡ 0 → (source t p s : List ℕ) → Linked t
+    → sum f (fragmentsAll source p s (sections t)) ≡ sum f (fragments (magicStringOf source t p s))
+unfolding magicStringOf
+sum-sections f z source t p s l =
+    let m = fragmentsAll source p s (entries t) in
+    let i = runOf p s (entryAt t 0 .intro) in
+    let o = runOf p s (entryAt t 0 .outro) in
+    ap (sum f) (output-sections source t p s l)
+    ∙ omega (arith, z, sum-append f (i ++ ([] ∷ [])) (m ++ ([] ∷ o)), sum-append f i ([] ∷ []), sum-append f m ([] ∷ o), sum-append f i (m ++ o), sum-append f m o)
+
+-- the text
+pub concat-sections : (source t p s : List ℕ) → Linked t → concat (fragmentsAll source p s (sections t)) ≡ to-string (magicStringOf source t p s)
+unfolding magicStringOf to-string
+concat-sections source t p s l =
+    let m = fragmentsAll source p s (entries t) in
+    let i = runOf p s (entryAt t 0 .intro) in
+    let o = runOf p s (entryAt t 0 .outro) in
+    ap concat (output-sections source t p s l)
+    ∙ simp (concat-append, concat-cons, concat-nil, append-nil)
+
+pub sum-length : (ts : List Text) → sum length ts ≡ length (concat ts)
+sum-length [] = ap length (sym concat-nil)
+sum-length (t ∷ ts) = ap (λ (n : ℕ). length t + n) (sum-length ts) ∙ sym (length-append t (concat ts)) ∙ ap length (sym (concat-cons t ts))
+
+-- a count of at most one for each byte
+pub sum-le : (f : Text → ℕ) → ((t : Text) → f t ≤ length t) → (ts : List Text) → sum f ts ≤ sum length ts
+sum-le f h [] = omega arith
+sum-le f h (t ∷ ts) = omega (arith, h t, sum-le f h ts)
+
+-- ---- the output is short: each chunk shows at most the source and its own texts
+content-le : (source : Text) (e : Option Text) (a b : ℕ) → length (chunk.content-or e (take (b - a) (drop a source))) ≤ length source + replacement-bytes e
+content-le source none a b = simp (length-take, length-drop) (omega arith)
+content-le source (some t) a b = omega arith
+
+chunks-le : (source : Text) (cs : List Chunk) → sum length (chunk-fragments source cs) ≤ length cs * length source + sum chunk-bytes cs
+chunks-le source [] = omega arith
+chunks-le source (c ∷ cs) =
+    let e = sum-append length (chunk.fragments source c) (chunk-fragments source cs) in
+    let f = sum-append length (c .texts .intro) (content source c ∷ c .texts .outro) in
+    let k = content-le source (c .texts .edited-content) (c .span .start) (c .span .end) in
+    let n : length (c ∷ cs) * length source ≡ length source + length cs * length source = suc-times (length cs) (length source) in
+    omega (arith, chunks-le source cs)
+  where
+    suc-times : (a b : ℕ) → suc a * b ≡ b + a * b
+    suc-times a b = native.Mathlib.Nat.suc-mul a b ∙ native.Mathlib.Nat.add-comm (a * b) b
+
+pub output-short : (m : MagicString) → within full m ≡ true → sum length (fragments m) ≤ 8421376
+unfolding within
+output-short m w =
+    let a = both (leb (length (m .source)) 16384) (leb (length (m .chunks)) 512 && (leb (piece-count m) 1024 && leb (byte-count m) 32768)) w in
+    let b = both (leb (length (m .chunks)) 512) (leb (piece-count m) 1024 && leb (byte-count m) 32768) (a .1) in
+    let d = both (leb (piece-count m) 1024) (leb (byte-count m) 32768) (b .1) in
+    let x = leb-true (length (m .source)) 16384 (a .0) in
+    let y = leb-true (length (m .chunks)) 512 (b .0) in
+    let z = leb-true (byte-count m) 32768 (d .1) in
+    let k : length (m .chunks) * length (m .source) ≤ 8388608 = mul-le-mul y x in
+    omega (arith, sum-append length (m .intro) (chunk-fragments (m .source) (m .chunks) ++ m .outro), sum-append length (chunk-fragments (m .source) (m .chunks)) (m .outro), chunks-le (m .source) (m .chunks))
+
+-- ---- a well-formed desk is ready for every report
+module _ {A : Type 0} where
+  pub all-map : {P Q : A → Type 0} → ((x : A) → P x → Q x) → {xs : List A} → All P xs → All Q xs
+  all-map f nil = nil
+  all-map f (cons {x = x} h k) = cons (f x h) (all-map f k)
+
+  pub all-both : {P Q : A → Type 0} {xs : List A} → All P xs → All Q xs → All (λ x. P x × Q x) xs
+  all-both nil nil = nil
+  all-both (cons h k) (cons i j) = cons (h, i) (all-both k j)
+
+pub all-unmap : {A B : Type 0} {P : B → Type 0} (f : A → B) (xs : List A) → All P (map f xs) → All (λ x. P (f x)) xs
+all-unmap f [] nil = nil
+all-unmap f (x ∷ xs) (cons h k) = cons h (all-unmap f xs k)
+
+Zero : Span → Type 0
+Zero x = (x .start ≡ 0) × (x .end ≡ 0)
+
+pub spans-in : (source p s : List ℕ) (es : List Entry) → Covered source (map (chunkOf p s) es) → All (SpanIn source) es
+unfolding Zero
+spans-in [] p s es h =
+    let a : All Zero (map (λ (c : Chunk). c .span) (map (chunkOf p s) es)) = subst (All Zero) (sym h) (cons (refl, refl) nil) in
+    let b = all-unmap {P = λ (c : Chunk). Zero (c .span)} (chunkOf p s) es (all-unmap {P = Zero} (λ (c : Chunk). c .span) (map (chunkOf p s) es) a) in
+    all-map (λ e z. record { ordered = omega (arith, z .0); inside = omega (arith, z .1) }) b
+spans-in (x ∷ source) p s es h =
+    all-map (λ e z. record { ordered = omega (arith, z .proper); inside = z .inside }) (all-unmap {P = ProperSpan (x ∷ source)} (chunkOf p s) es (h .spans))
+
+run-short : (p s : List ℕ) (at n : ℕ) → RunIn p s (at, n) → n * 2 ≤ length p
+run-short p s at zero h = omega arith
+run-short p s at (suc n) h = omega (arith, run-piece p s at (suc n) n h (omega arith) .row)
+
+none-in : (p s : List ℕ) → RunIn p s (0, 0)
+unfolding RunIn
+none-in p s k h = absurd (omega arith)
+
+empty-in : (s : List ℕ) → ReplacementIn s (0, 0)
+unfolding ReplacementIn
+empty-in s h = omega arith
+
+pub ready : (source t p s : List ℕ) → WellFormed source t p s → Ready source t p s
+unfolding magicStringOf
+ready source t p s w =
+    let r = w .readable in
+    let a : All (SpanIn source) (entries t) = spans-in source p s (entries t) (w .desk .formed .covered) in
+    let z : SpanIn source (headOf t) = record { ordered = omega arith; inside = omega arith } in
+    let y : SpanIn source (tailOf t) = record { ordered = omega arith; inside = omega arith } in
+    let h : (g : ℕ) → Shown source p s (section t g) =
+    each-section {P = Shown source p s} t (r .linked)
+    (all-map (λ e x. record { entry = x .0; span = x .1 }) (all-both (r .chunks) a))
+    (record { entry = record { runs = record { intro = r .desk .intro; outro = none-in p s }; replacement = empty-in s }; span = z })
+    (record { entry = record { runs = record { intro = none-in p s; outro = r .desk .outro }; replacement = empty-in s }; span = y }) in
+    record {
+      linked = r .linked;
+      narrow = (
+        omega (arith, r .linked .room, w .sized .chunks),
+        λ g.
+            let x = run-short p s (section t g .intro .0) (section t g .intro .1) (h g .entry .runs .intro) in
+            let k = run-short p s (section t g .outro .0) (section t g .outro .1) (h g .entry .runs .outro) in
+            omega (arith, w .sized .pieces),
+      );
+      shown = h;
+    }
+
+-- the length of the output
+pub output-bound : (source t p s : List ℕ) → WellFormed source t p s → sum length (fragmentsAll source p s (sections t)) ≤ 8421376
+output-bound source t p s w =
+    rw (sum-sections length refl source t p s (w .readable .linked)) (output-short (magicStringOf source t p s) (w .desk .limits))

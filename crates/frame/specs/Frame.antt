@@ -1,0 +1,244 @@
+-- What makes a call on a well-formed desk what `Ran` asks, for any edit: a refusal before the steps, a desk that stays, or steps on scratch tables and their end.
+use mathlib.Core.Path.{_≡_, refl, sym, ap, ap₂, _∙_, subst}
+use mathlib.Core.Bool.{Bool, true, false, _&&_, cond}
+use mathlib.Core.List.{List, [], _∷_, _++_}
+use Prim.Native.Nat.{ℕ, zero, suc, _+_, _*_, _-_, _≤_, _<_}
+use native.Mathlib.Omega.{arith}
+use lib.Dec.{leb}
+use lib.ListN.{length, getD, take, drop, replicate, length-append, length-drop, length-take, length-map, length-replicate}
+use borrow.Author.Tests.{leb-true, le-leb}
+use Rattle.table.specs.Ring.{length-follow}
+use Rattle.table.specs.Order.{Linked, entryAt, entries, order, nextOf, countOf}
+use Rattle.model.specs.MagicString.{MagicString, Result, err}
+use Rattle.model.specs.Limits.{full, within, judged, piece-count, byte-count}
+use Rattle.model.specs.Text.{all}
+use Rattle.model.specs.Call.{Edit, options-valid, texts, positions, steps, refused-before, run}
+use Rattle.utf8.specs.Rfc3629.{utf8, between}
+use Rattle.model.specs.WellFormed as model
+use Rattle.memory.specs.Layout.{chunkOf, magicStringOf}
+use Rattle.memory.specs.WellFormed.{Sized, Readable, WellFormed}
+use Rattle.memory.specs.Calls.{Same, idle, may-write, Ran}
+use Rattle.preservation.specs.Calls.{run-keeps}
+use Rattle.rebuild.specs.Rebuilt.{Rebuilt, Finished}
+use Rattle.frame.specs.Loaded.{Loaded}
+use Rattle.frame.specs.Front.{bool-elim, padded, same-desk, desk-front}
+
+-- ── scratch tables ──
+-- chunk rows for three chunks more, and clear; pieces and store as long as the lent ones, or longer
+pub record Scratch (t p s : List ℕ) : Type 0 where
+  pub chunks : length t ≡ 516 * 12
+  pub clear : (k : ℕ) → getD t k 0 ≡ 0
+  pub pieces : 4096 ≤ length p
+  pub store : 32768 ≤ length s
+
+-- rows with room for n chunks more
+pub record Roomy (n : ℕ) (t : List ℕ) : Type 0 where
+  pub linked : Linked t
+  pub room : (countOf t + n) * 12 + 12 ≤ length t
+  pub narrow : length t ≤ 4294967296
+
+pub zeros-length : (n k : ℕ) → k ≤ n → length {A = ℕ} (take {A = ℕ} k (replicate n 0)) ≡ k
+zeros-length n k h = simp (length-take, length-replicate) (omega arith)
+
+pub zeros-at : (n k b : ℕ) → getD {A = ℕ} (take {A = ℕ} k (replicate n 0)) b 0 ≡ 0
+zeros-at n zero b = refl
+zeros-at zero (suc k) b = refl
+zeros-at (suc n) (suc k) zero = refl
+zeros-at (suc n) (suc k) (suc b) = zeros-at n k b
+
+-- ── the limits of a desk ──
+no-tf : {X : Type 0} → _≡_ {A = Bool} true false → X
+no-tf z = let y : _≡_ {A = ℕ} 0 1 = cc in absurd (omega arith)
+
+and-left : (x y : Bool) → x && y ≡ true → x ≡ true
+and-left true y e = refl
+and-left false y e = e
+
+and-right : (x y : Bool) → x && y ≡ true → y ≡ true
+and-right true y e = e
+and-right false y e = no-tf (sym e)
+
+pub small-source : (source t p s : List ℕ) → within full (magicStringOf source t p s) ≡ true → length source ≤ 16384
+unfolding within magicStringOf
+small-source source t p s e = leb-true (length source) 16384 (and-left (leb (length source) 16384) _ e)
+
+pub few-chunks : (source t p s : List ℕ) → within full (magicStringOf source t p s) ≡ true → countOf t ≤ 512
+unfolding within magicStringOf order
+few-chunks source t p s e =
+    let k = and-left (leb (length (magicStringOf source t p s .chunks)) 512) _ (and-right (leb (length source) 16384) _ e) in
+    omega (
+      arith,
+      leb-true (length (magicStringOf source t p s .chunks)) 512 k,
+      length-map (entries t) (chunkOf p s),
+      length-map (order t) (entryAt t),
+      length-follow (nextOf t) (countOf t) (nextOf t 0),
+    )
+
+-- the source's length is the only limit that the source decides
+within-any : (source t p s : List ℕ) → length source ≤ 16384 → within full (magicStringOf [] t p s) ≡ within full (magicStringOf source t p s)
+unfolding within magicStringOf
+within-any source t p s h = rw (le-leb (length source) 16384 h)
+
+-- ── loaded tables ──
+module _ {source t p s t₀ p₀ s₀ t1 p1 s1 : List ℕ} (w : WellFormed source t p s) (f : Scratch t₀ p₀ s₀) (d : Loaded t p s t₀ p₀ s₀ t1 p1 s1) where
+  same-words : (k : ℕ) → getD t1 k 0 ≡ getD t k 0
+  same-words k = ap (λ (l : List ℕ). getD l k 0) (d .chunks) ∙ padded t t₀ (f .clear) k
+
+  loaded-length : length t1 ≡ 6192
+  loaded-length = ap length (d .chunks) ∙ simp (length-append, length-drop) (omega (arith, w .sized .chunks, f .chunks))
+
+  loaded : Readable t1 p s × ((source : List ℕ) → magicStringOf source t1 p s ≡ magicStringOf source t p s)
+  loaded = same-desk t t1 same-words p s (omega (arith, loaded-length, w .sized .chunks)) (w .readable)
+
+  -- the scratch rows with the lent pieces and store hold the desk
+  pub loaded-readable : Readable t1 p s
+  loaded-readable = loaded .0
+
+  pub loaded-desk : magicStringOf source t1 p s ≡ magicStringOf source t p s
+  loaded-desk = loaded .1 source
+
+  -- with room for three chunks
+  pub loaded-roomy : Roomy 3 t1
+  loaded-roomy =
+      let c = few-chunks source t1 p s (ap (within full) loaded-desk ∙ w .desk .limits) in
+      record { linked = loaded-readable .linked; room = omega (arith, loaded-length); narrow = omega (arith, loaded-length) }
+
+  -- and so it does with the scratch pieces and store, whatever the steps made of the rows
+  pub with-scratch : (t2 : List ℕ) → Readable t2 p s → Readable t2 p1 s1
+  with-scratch t2 h = rw (d .pieces, d .store) (desk-front p s (drop (length p) p₀) (drop (length s) s₀) t2 h .0)
+
+  pub with-scratch-desk : (t2 : List ℕ) → Readable t2 p s → magicStringOf source t2 p1 s1 ≡ magicStringOf source t2 p s
+  with-scratch-desk t2 h = rw (d .pieces, d .store) (desk-front p s (drop (length p) p₀) (drop (length s) s₀) t2 h .1 source)
+
+-- ── the call ──
+-- every byte stays
+pub all-same : (t p s : List ℕ) → Same t p s t p s
+all-same t p s = record { chunks = refl; pieces = refl; store = refl }
+
+run-refused : (e : Edit) (m : MagicString) (n : ℕ) → refused-before m e ≡ suc n → run full e m ≡ err (suc n) m
+unfolding run
+run-refused e m n h = rw (h, run)
+
+run-judged : (e : Edit) (m : MagicString) → refused-before m e ≡ 0 → run full e m ≡ judged full m (steps e m)
+unfolding run
+run-judged e m h = rw (h, run)
+
+judged-in : (m : MagicString) (r : Result) → within full (r .desk) ≡ true → judged full m r ≡ r
+unfolding judged
+judged-in m r e = rw e
+
+judged-out : (m : MagicString) (r : Result) → within full (r .desk) ≡ false → judged full m r ≡ err 13 m
+unfolding judged
+judged-out m r e = rw e
+
+-- nothing is written where the call leaves the desk as it was
+still : (e : Edit) (source t p s : List ℕ) (r : ℕ) → WellFormed source t p s → run full e (magicStringOf source t p s) ≡ err r (magicStringOf source t p s)
+    → Ran e source t p s t p s r
+still e source t p s r w q =
+    record {
+      number-is = sym (ap (λ (x : Result). x .number) q);
+      desk-is = sym (ap (λ (x : Result). x .desk) q);
+      well-formed = w;
+      same = λ _. all-same t p s;
+    }
+
+-- ── 1 and 3 ──
+module _ (e : Edit) (source t p s : List ℕ) (o : options-valid e ≡ true) where
+  pub refused-1 : all utf8 (texts e) ≡ false → refused-before (magicStringOf source t p s) e ≡ 1
+  unfolding refused-before magicStringOf
+  refused-1 h = rw (o, h)
+
+  pub refused-3 : all utf8 (texts e) ≡ true → all (between source) (positions e) ≡ false → refused-before (magicStringOf source t p s) e ≡ 3
+  unfolding refused-before magicStringOf
+  refused-3 h k = rw (o, h, k)
+
+  pub not-refused : all utf8 (texts e) ≡ true → all (between source) (positions e) ≡ true → refused-before (magicStringOf source t p s) e ≡ 0
+  unfolding refused-before magicStringOf
+  not-refused h k = rw (o, h, k)
+
+pub ran-before : (e : Edit) (source t p s : List ℕ) (n r : ℕ) → WellFormed source t p s → refused-before (magicStringOf source t p s) e ≡ suc n → r ≡ suc n
+    → Ran e source t p s t p s r
+ran-before e source t p s n r w h q = still e source t p s r w (run-refused e (magicStringOf source t p s) n h ∙ rw q)
+
+-- a refusal that changes nothing, and a no-op
+pub ran-same : (e : Edit) (source t p s : List ℕ) (r : ℕ) → WellFormed source t p s → refused-before (magicStringOf source t p s) e ≡ 0
+    → steps e (magicStringOf source t p s) ≡ err r (magicStringOf source t p s) → Ran e source t p s t p s r
+ran-same e source t p s r w h q =
+    let m = magicStringOf source t p s in
+    still e source t p s r w (run-judged e m h ∙ ap (judged full m) q ∙ judged-in m (err r m) (w .desk .limits))
+
+-- 13 where the steps would leave too much
+pub ran-past-limits : (e : Edit) (source t p s : List ℕ) → WellFormed source t p s → refused-before (magicStringOf source t p s) e ≡ 0
+    → within full (steps e (magicStringOf source t p s) .desk) ≡ false → Ran e source t p s t p s 13
+ran-past-limits e source t p s w h q =
+    let m = magicStringOf source t p s in
+    still e source t p s 13 w (run-judged e m h ∙ judged-out m (steps e m) q)
+
+-- what steps show: the desk of t p s before, the desk of t2 p2 s2 after, and r, their answer, are the model's
+pub record Did (f : MagicString → Result) (source t p s t2 p2 s2 : List ℕ) (r : ℕ) : Type 0 where
+  pub readable : Readable t2 p2 s2
+  pub result : f (magicStringOf source t p s) ≡ err r (magicStringOf source t2 p2 s2)
+
+-- steps on the loaded rows alone, and the scratch pieces and store as they were loaded
+pub did-loaded : {f : MagicString → Result} {source t p s t₀ p₀ s₀ t1 p1 s1 t2 : List ℕ} {r : ℕ} → WellFormed source t p s → Scratch t₀ p₀ s₀ → Loaded t p s t₀ p₀ s₀ t1 p1 s1
+    → Did f source t1 p s t2 p s r → Did f source t p s t2 p1 s1 r
+did-loaded {f} {source} {t2 = t2} {r = r} w c d l =
+    record {
+      readable = with-scratch w c d t2 (l .readable);
+      result = ap f (sym (loaded-desk w c d)) ∙ l .result ∙ ap (err r) (sym (with-scratch-desk w c d t2 (l .readable)));
+    }
+
+-- ── which answers may write ──
+pub may-write-0 : (e : Edit) → idle e ≡ false → may-write e 0 ≡ true
+unfolding may-write
+may-write-0 e h = rw h
+
+pub may-write-6 : (e : Edit) → may-write e 6 ≡ true
+unfolding may-write
+may-write-6 e = refl
+
+pub may-write-7 : (e : Edit) → may-write e 7 ≡ true
+unfolding may-write
+may-write-7 e = refl
+
+pub may-write-9 : (e : Edit) → may-write e 9 ≡ true
+unfolding may-write
+may-write-9 e = refl
+
+-- the steps, and their end
+pub ran-finished : {e : Edit} {source t p s t2 p2 s2 t' p' s' : List ℕ} {r r' : ℕ} → WellFormed source t p s → refused-before (magicStringOf source t p s) e ≡ 0
+    → Did (steps e) source t p s t2 p2 s2 r → may-write e r ≡ true → Finished t2 p2 s2 t p s t' p' s' r r' → Ran e source t p s t' p' s' r'
+ran-finished {e} {source} {t} {p} {s} {t2} {p2} {s2} {t'} {p'} {s'} {r} {r'} w h d may f =
+    let m = magicStringOf source t p s in
+    let n = magicStringOf source t2 p2 s2 in
+    let q : run full e m ≡ judged full m (err r n) = run-judged e m h ∙ ap (judged full m) (d .result) in
+    let i : within full (magicStringOf [] t2 p2 s2) ≡ within full n = within-any source t2 p2 s2 (small-source source t p s (w .desk .limits)) in
+    bool-elim (within full n)
+    (λ k.
+    let g = f .fits (i ∙ k) in
+    let o : run full e m ≡ err r n = q ∙ judged-in m (err r n) k in
+    let x : magicStringOf source t' p' s' ≡ run full e m .desk = g .1 .desk source ∙ sym (ap (λ (y : Result). y .desk) o) in
+    record {
+      number-is = g .0 ∙ sym (ap (λ (y : Result). y .number) o);
+      desk-is = x;
+      well-formed =
+          record {
+            sized = g .1 .sized;
+            readable = g .1 .readable;
+            each = g .1 .each;
+            disjoint = g .1 .disjoint;
+            desk = subst (model.WellFormed full) (sym x) (run-keeps full e m (w .desk));
+          };
+      same = λ z. no-tf (sym may ∙ ap (may-write e) (sym (g .0)) ∙ z);
+    })
+    (λ k.
+    let g = f .breaks (i ∙ k) in
+    let o : run full e m ≡ err 13 m = q ∙ judged-out m (err r n) k in
+    let a = g .1 in
+    let x : magicStringOf source t' p' s' ≡ m = rw (a .chunks, a .pieces, a .store) refl in
+    record {
+      number-is = g .0 ∙ sym (ap (λ (y : Result). y .number) o);
+      desk-is = x ∙ sym (ap (λ (y : Result). y .desk) o);
+      well-formed = rw (a .chunks, a .pieces, a .store) w;
+      same = λ _. a;
+    })

@@ -1,0 +1,3 @@
+pub mod Loaded
+pub mod Front
+pub mod Frame

@@ -1,0 +1,155 @@
+// What every edit shares: the lent tables are copied into scratch tables, the edit's steps run there, and the desk that they leave is written back if it keeps the limits.
+ghost use mathlib.Core.Path.{_≡_};
+ghost use mathlib.Core.Bool.{true};
+ghost use mathlib.Core.List.{[], _∷_};
+ghost use Prim.Native.Nat.{_+_, _≤_, min};
+ghost use lib.ListN.{length};
+ghost use Rattle.table.specs.Order.{entryOf};
+ghost use Rattle.utf8.specs.Rfc3629.{utf8, between};
+ghost use Rattle.model.specs.Text.{sum, all};
+ghost use Rattle.model.specs.Limits.{full, within, chunk-pieces, chunk-bytes};
+ghost use Rattle.memory.specs.Layout.{runOf, chunkOf, magicStringOf};
+ghost use Rattle.memory.specs.WellFormed.{RunIn, EntryIn, Readable, Sized};
+ghost use Rattle.rebuild.specs.Rebuilt.{Finished};
+ghost use Rattle.frame.specs.Loaded.{Loaded};
+
+// Whether two positions stand between characters: those of an edit of a range.
+pub fn between_both(source: &[u8], a: u32, b: u32) -> bool
+    requires { ⌜ utf8 (now source) ≡ true ⌝ }
+    ensures { λ r. ⌜ r ≡ all (between (now (source .entry))) (a ∷ b ∷ []) ⌝ }
+{
+    if utf8::boundary(source, a as usize) {
+        return utf8::boundary(source, b as usize);
+    }
+    false
+}
+
+// The lent tables, at the front of the scratch tables.
+pub fn load(
+    chunks: &[u32],
+    pieces: &[u32],
+    store: &[u8],
+    t: &mut [u32],
+    p: &mut [u32],
+    s: &mut [u8],
+)
+    requires { ⌜ (length (now chunks) ≤ length (now t)) × (length (now pieces) ≤ length (now p)) × (length (now store) ≤ length (now s)) ⌝ }
+    ensures { λ _. ⌜ Loaded (now (chunks .entry)) (now (pieces .entry)) (now (store .entry)) (now (t .entry)) (now (p .entry)) (now (s .entry))
+        (now (t .exit)) (now (p .exit)) (now (s .exit)) ⌝ }
+{
+    texts::put_words(t, chunks);
+    texts::put_words(p, pieces);
+    texts::put(s, store);
+}
+
+// total + n, or cap where that is more.
+fn add_capped(total: usize, n: usize, cap: usize) -> usize
+    requires { ⌜ total ≤ cap ⌝ }
+    ensures { λ r. ⌜ r ≡ min (total + n) cap ⌝ }
+{
+    if n < cap - total {
+        return total + n;
+    }
+    cap
+}
+
+// The bytes of a run's texts, added to a count that stops past the limit of the store.
+fn run_bytes(p: &[u32], s: &[u8], at: u32, n: u32, total: usize) -> usize
+    requires { ⌜ RunIn (now p) (now s) (at, n) ⌝ }
+    requires { ⌜ total ≤ 32769 ⌝ }
+    ensures { λ r. ⌜ r ≡ min (total + sum length (runOf (now (p .entry)) (now (s .entry)) (at, n))) 32769 ⌝ }
+{
+    let first = at as usize;
+    let count = n as usize;
+    let mut sum = total;
+    let mut i = 0;
+    while i < count {
+        let text = texts::text_of(p, s, first + i);
+        sum = add_capped(sum, text.len(), 32769);
+        i += 1;
+    }
+    sum
+}
+
+// Pieces and bytes, each counted up to one past its limit.
+pub struct Counts {
+    pub pieces: usize,
+    pub bytes: usize,
+}
+
+// A row's pieces and bytes, added to the counts.
+fn count_row(p: &[u32], s: &[u8], r: table::Row, c: Counts) -> Counts
+    requires { ⌜ EntryIn (now p) (now s) (entryOf r) ⌝ }
+    requires { ⌜ (c .pieces ≤ 1025) × (c .bytes ≤ 32769) ⌝ }
+    ensures { λ d. ⌜ (d .pieces ≡ min (c .pieces + chunk-pieces (chunkOf (now (p .entry)) (now (s .entry)) (entryOf r))) 1025)
+        × (d .bytes ≡ min (c .bytes + chunk-bytes (chunkOf (now (p .entry)) (now (s .entry)) (entryOf r))) 32769) ⌝ }
+{
+    let a = add_capped(c.pieces, r.intro_n as usize, 1025);
+    let pieces = add_capped(a, r.outro_n as usize, 1025);
+    let b = run_bytes(p, s, r.intro_at, r.intro_n, c.bytes);
+    let d = run_bytes(p, s, r.outro_at, r.outro_n, b);
+    if r.text_at == texts::NONE {
+        return Counts { pieces, bytes: d };
+    }
+    let bytes = add_capped(d, r.text_n as usize, 32769);
+    Counts { pieces, bytes }
+}
+
+// Whether the desk keeps the limits of document 01: 512 chunks, 1,024 pieces, 32,768 bytes.
+pub fn keeps(t: &[u32], p: &[u32], s: &[u8]) -> bool
+    requires { ⌜ Readable (now t) (now p) (now s) ⌝ }
+    ensures { λ r. ⌜ r ≡ within full (magicStringOf [] (now (t .entry)) (now (p .entry)) (now (s .entry))) ⌝ }
+{
+    let z = table::get_row(t, 0);
+    let n = z.start;
+    if n > 512 {
+        return false;
+    }
+    let c = count_row(
+        p,
+        s,
+        rebuild::own_row(z),
+        Counts {
+            pieces: 0,
+            bytes: 0,
+        },
+    );
+    let mut pieces = c.pieces;
+    let mut bytes = c.bytes;
+    let mut cur = z.next;
+    let mut k = 0;
+    while k < n {
+        let r = table::get_row(t, cur);
+        let d = count_row(p, s, r, Counts { pieces, bytes });
+        pieces = d.pieces;
+        bytes = d.bytes;
+        cur = r.next;
+        k += 1;
+    }
+    if pieces > 1024 {
+        return false;
+    }
+    bytes <= 32768
+}
+
+// The end of every edit: the desk of the scratch tables written into the lent tables with the answer r; or 13, and nothing written.
+pub fn finish(
+    t: &[u32],
+    p: &[u32],
+    s: &[u8],
+    chunks: &mut [u32],
+    pieces: &mut [u32],
+    store: &mut [u8],
+    r: u32,
+) -> u32
+    requires { ⌜ Readable (now t) (now p) (now s) ⌝ }
+    requires { ⌜ Sized (now chunks) (now pieces) (now store) ⌝ }
+    ensures { λ q. ⌜ Finished (now (t .entry)) (now (p .entry)) (now (s .entry)) (now (chunks .entry)) (now (pieces .entry)) (now (store .entry))
+        (now (chunks .exit)) (now (pieces .exit)) (now (store .exit)) r q ⌝ }
+{
+    if keeps(t, p, s) {
+        rebuild::rebuild(t, p, s, chunks, pieces, store);
+        return r;
+    }
+    13
+}

@@ -1,0 +1,98 @@
+// The calls that report on a desk.
+ghost use mathlib.Core.Path.{_≡_};
+ghost use mathlib.Core.List.{[]};
+ghost use lib.ListN.{length};
+ghost use Rattle.model.specs.Call.{to-string as ToString, len as Len, len-utf16 as LenUtf16, line-count as LineCount, is-empty as IsEmpty};
+ghost use Rattle.memory.specs.Calls.{Reported};
+use texts::Answer;
+
+#[no_mangle]
+pub extern "C" fn magic_string_to_string<'a>(
+    source: &'a [u8],
+    chunks: &[u32],
+    pieces: &[u32],
+    store: &'a [u8],
+    out: &mut [u8],
+) -> Answer
+    ensures { λ r. ⌜ Reported (ToString (length (now (out .entry)))) (now (source .entry)) (now (chunks .entry)) (now (pieces .entry)) (now (store .entry)) (now (out .entry)) (now (out .exit)) (r .number) (r .value) ⌝ }
+{
+    if well_formed::well_formed(source, chunks, pieces, store) {
+        return reports::to_string(source, chunks, pieces, store, out);
+    }
+    Answer {
+        number: 2,
+        value: 0,
+    }
+}
+
+#[no_mangle]
+pub extern "C" fn magic_string_len<'a>(
+    source: &'a [u8],
+    chunks: &[u32],
+    pieces: &[u32],
+    store: &'a [u8],
+) -> Answer
+    ensures { λ r. ⌜ Reported (Len) (now (source .entry)) (now (chunks .entry)) (now (pieces .entry)) (now (store .entry)) [] [] (r .number) (r .value) ⌝ }
+{
+    if well_formed::well_formed(source, chunks, pieces, store) {
+        return reports::len(source, chunks, pieces, store);
+    }
+    Answer {
+        number: 2,
+        value: 0,
+    }
+}
+
+#[no_mangle]
+pub extern "C" fn magic_string_len_utf16<'a>(
+    source: &'a [u8],
+    chunks: &[u32],
+    pieces: &[u32],
+    store: &'a [u8],
+) -> Answer
+    ensures { λ r. ⌜ Reported (LenUtf16) (now (source .entry)) (now (chunks .entry)) (now (pieces .entry)) (now (store .entry)) [] [] (r .number) (r .value) ⌝ }
+{
+    if well_formed::well_formed(source, chunks, pieces, store) {
+        return reports::len_utf16(source, chunks, pieces, store);
+    }
+    Answer {
+        number: 2,
+        value: 0,
+    }
+}
+
+#[no_mangle]
+pub extern "C" fn magic_string_line_count<'a>(
+    source: &'a [u8],
+    chunks: &[u32],
+    pieces: &[u32],
+    store: &'a [u8],
+) -> Answer
+    ensures { λ r. ⌜ Reported (LineCount) (now (source .entry)) (now (chunks .entry)) (now (pieces .entry)) (now (store .entry)) [] [] (r .number) (r .value) ⌝ }
+{
+    if well_formed::well_formed(source, chunks, pieces, store) {
+        return reports::line_count(source, chunks, pieces, store);
+    }
+    Answer {
+        number: 2,
+        value: 0,
+    }
+}
+
+#[no_mangle]
+pub extern "C" fn magic_string_is_empty<'a>(
+    source: &'a [u8],
+    chunks: &[u32],
+    pieces: &[u32],
+    store: &'a [u8],
+) -> Answer
+    ensures { λ r. ⌜ Reported (IsEmpty) (now (source .entry)) (now (chunks .entry)) (now (pieces .entry)) (now (store .entry)) [] [] (r .number) (r .value) ⌝ }
+{
+    if well_formed::well_formed(source, chunks, pieces, store) {
+        return reports::is_empty(source, chunks, pieces, store);
+    }
+    Answer {
+        number: 2,
+        value: 0,
+    }
+}

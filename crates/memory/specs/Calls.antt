@@ -1,0 +1,80 @@
+-- What an exported call promises of every input. `Edited` for the calls that change a desk, `Reported` for the reports, `Opened` for the opening.
+use Prim.Native.Nat.{ℕ, zero, suc}
+use mathlib.Core.Path.{_≡_}
+use mathlib.Core.Bool.{Bool, true, false, _&&_, _||_, not, cond}
+use mathlib.Core.List.{List, [], _∷_, _++_}
+use mathlib.Core.Option.{Option, none, some}
+use lib.Dec.{eqb}
+use lib.ListN.{length, drop}
+use Rattle.model.specs.Text.{is-nil}
+use Rattle.model.specs.MagicString.{MagicString, Result, new}
+use Rattle.model.specs.Limits.{full}
+use Rattle.model.specs.Call.{Edit, remove, update-with, reset, append-left, append-right, prepend-left, prepend-right, append, prepend, relocate, trim, trim-start, trim-end, trim-lines, indent-with, Report, Shown, is-update, run, show, opened}
+use Rattle.memory.specs.Layout.{magicStringOf}
+use Rattle.memory.specs.WellFormed.{Sized, WellFormed}
+
+-- every byte of the lent tables is as it was
+pub record Same (t p s t′ p′ s′ : List ℕ) : Type 0 where
+  pub chunks : t′ ≡ t
+  pub pieces : p′ ≡ p
+  pub store : s′ ≡ s
+
+-- an edit that the Rust accepts without a step: zero width, or an empty indentor
+abbrev pub empty-indentor : Option (List ℕ) → Bool
+empty-indentor none = false
+empty-indentor (some t) = is-nil t
+
+unfoldable pub idle : Edit → Bool
+idle (remove a b) = eqb a b
+idle (update-with a b t o) = false
+idle (reset a b) = eqb a b
+idle (append-left p t) = false
+idle (append-right p t) = false
+idle (prepend-left p t) = false
+idle (prepend-right p t) = false
+idle (append t) = false
+idle (prepend t) = false
+idle (relocate a b to) = eqb a b
+idle (trim p) = false
+idle (trim-start p) = false
+idle (trim-end p) = false
+idle trim-lines = false
+idle (indent-with i l) = empty-indentor i
+
+-- "Numbers 6, 7, 9 and `update_with`'s 10 leave the desk as the Rust does .. All others change nothing": whether a call with this answer may write the tables
+unfoldable pub may-write : Edit → ℕ → Bool
+may-write e n =
+    (eqb n 0 && not (idle e))
+    || (eqb n 6 || (eqb n 7 || (eqb n 9 || (eqb n 10 && is-update e))))
+
+-- A call that changes a well-formed desk: its number and the desk after are the model's. Numbering, places in the store and unused bytes are the program's choice;
+-- every choice is a well-formed desk that reads as the model's
+pub record Ran (e : Edit) (source t p s t′ p′ s′ : List ℕ) (number : ℕ) : Type 0 where
+  pub number-is : number ≡ run full e (magicStringOf source t p s) .number
+  pub desk-is : magicStringOf source t′ p′ s′ ≡ run full e (magicStringOf source t p s) .desk
+  pub well-formed : WellFormed source t′ p′ s′
+  pub same : may-write e number ≡ false → Same t p s t′ p′ s′
+
+-- the same on any memory: 2 and nothing written where it holds no well-formed desk
+pub record Edited (e : Edit) (source t p s t′ p′ s′ : List ℕ) (number : ℕ) : Type 0 where
+  pub not-well-formed : (WellFormed source t p s → ⊥) → (number ≡ 2) × Same t p s t′ p′ s′
+  pub well-formed : WellFormed source t p s → Ran e source t p s t′ p′ s′ number
+
+-- A report on a desk: the number, the value, and the buffer `out` after the call, `out′`, with the model's bytes at its front. Where a call takes no buffer both are empty
+pub record Told (q : Report) (m : MagicString) (out out′ : List ℕ) (number value : ℕ) : Type 0 where
+  pub number-is : number ≡ show q m .number
+  pub value-is : value ≡ show q m .value
+  pub written : out′ ≡ show q m .written ++ drop (length (show q m .written)) out
+
+-- the same on any memory
+pub record Reported (q : Report) (source t p s out out′ : List ℕ) (number value : ℕ) : Type 0 where
+  pub not-well-formed : (WellFormed source t p s → ⊥) → (number ≡ 2) × (value ≡ 0) × (out′ ≡ out)
+  pub well-formed : WellFormed source t p s → Told q (magicStringOf source t p s) out out′ number value
+
+-- Opening, over any earlier content: 2 for tables of other lengths, then what `opened` says. A refusal writes nothing
+pub record Opened (source t p s t′ p′ s′ : List ℕ) (number : ℕ) : Type 0 where
+  pub not-sized : (Sized t p s → ⊥) → number ≡ 2
+  pub number-is : Sized t p s → number ≡ opened full source (new []) .number
+  pub desk-is : number ≡ 0 → magicStringOf source t′ p′ s′ ≡ new source
+  pub well-formed : number ≡ 0 → WellFormed source t′ p′ s′
+  pub refused : (number ≡ 0 → ⊥) → Same t p s t′ p′ s′

@@ -1,0 +1,233 @@
+-- The desk that an opening leaves, and the answers of its refusals.
+use mathlib.Core.Path.{_≡_, refl, ap, sym, subst, _∙_}
+use mathlib.Core.Bool.{true, false}
+use mathlib.Core.List.{List, [], _∷_, map}
+use Prim.Native.Nat.{ℕ, zero, suc, _+_, _≤_, _<_}
+use native.Mathlib.Omega.{arith}
+use borrow.Author.Tests.{le-leb, lt-leb}
+use lib.ListN.{length}
+use Rattle.utf8.specs.Rfc3629.{utf8, between}
+use Rattle.utf8.specs.Boundaries.{between-zero, between-past}
+use Rattle.table.specs.declared.Row.{Row}
+use Rattle.table.specs.Table.{rowAt, Put}
+use Rattle.table.specs.Ring.{follow, ring-of}
+use Rattle.table.specs.Order.{Entry, entryOf, entryAt, nextOf, prevOf, countOf, order, Linked}
+use Rattle.model.specs.Text.{Text}
+use Rattle.model.specs.Chunk.{Chunk, new-chunk}
+use Rattle.model.specs.MagicString.{MagicString, new}
+use Rattle.model.specs.Limits.{full}
+use Rattle.model.specs.Call.{opened}
+use Rattle.memory.specs.Layout.{NONE, runOf, replacementOf, chunkOf, magicStringOf}
+use Rattle.memory.specs.WellFormed.{Sized, pieceUses, runUses, replacementUses, byteUses, WellFormed}
+use Rattle.memory.specs.Calls.{Same, Opened}
+use Rattle.counts.specs.Sums.{indicator-in}
+use Rattle.counts.specs.Places.{among-none}
+use Rattle.spans.specs.Spans.{Spans, Edged, Edges, startsOf, endsOf}
+use Rattle.marks.specs.Marks.{RowsIn, BothIn, RunsApart, pieceCount, pieceTotal, RunTexts, BothTexts, ReplacementText, EntryTexts, TextsApart}
+use Rattle.well_formed.specs.Bridge.{rows-formed}
+use Rattle.opening.specs.Fresh.{deskRow, chunkRow, Fresh}
+
+-- two rows written one after the other
+pub fresh-of : {t t₁ t₂ : List ℕ} {len : ℕ} → Put t t₁ 0 deskRow → Put t₁ t₂ 1 (chunkRow len) → length t₁ ≡ length t → length t₂ ≡ length t₁ → Fresh t t₂ len
+fresh-of a b l m =
+    record {
+      desk = b .off 0 (λ e. omega arith) ∙ a .at;
+      chunk = b .at;
+      others = λ j h. b .off j (λ e. omega arith) ∙ a .off j (λ e. omega arith);
+      same = m ∙ l;
+    }
+
+-- ── the desk ──
+-- a row with no pieces and no replacement
+abbrev bareEntry : ℕ → ℕ → Entry
+bareEntry a e = record { start = a; end = e; intro = (0, 0); outro = (0, 0); text = (NONE, 0) }
+
+module _ (p s : List ℕ) where
+  run-empty : (at : ℕ) → runOf p s (at, 0) ≡ []
+  unfolding runOf
+  run-empty at = refl
+
+  bare-chunk : (a e : ℕ) → chunkOf p s (bareEntry a e) ≡ new-chunk a e
+  unfolding runOf replacementOf
+  bare-chunk a e = refl
+
+  rows-empty : (words at : ℕ) → RowsIn words (at, 0)
+  unfolding RowsIn
+  rows-empty words at k h = absurd (omega arith)
+
+  texts-empty : (at : ℕ) → RunTexts p s (at, 0)
+  unfolding RunTexts
+  texts-empty at k h = absurd (omega arith)
+
+  text-none : ReplacementText s (NONE, 0)
+  unfolding ReplacementText
+  text-none h = absurd (h refl)
+
+  uses-empty : (at b : ℕ) → runUses p b (at, 0) ≡ 0
+  unfolding runUses
+  uses-empty at b = refl
+
+  uses-none : (b : ℕ) → replacementUses b (NONE, 0) ≡ 0
+  unfolding replacementUses
+  uses-none b = refl
+
+-- the only number below 1
+only : (P : ℕ → Type 0) → P 1 → (k : ℕ) → k < 1 → P (k + 1)
+only P x zero h = x
+only P x (suc k) h = absurd (omega arith)
+
+same-desk : (source : Text) {i i′ o o′ : List Text} {c c′ : List Chunk} → i ≡ i′ → o ≡ o′ → c ≡ c′
+    → _≡_ {A = MagicString} (record { source = source; intro = i; outro = o; chunks = c }) (record { source = source; intro = i′; outro = o′; chunks = c′ })
+same-desk source a b c = rw (a, b, c)
+
+module _ (t₀ t source p s : List ℕ) (f : Fresh t₀ t (length source)) where
+  desk-entry : entryAt t 0 ≡ bareEntry 1 0
+  desk-entry = ap entryOf (f .desk)
+
+  chunk-entry : entryAt t 1 ≡ bareEntry 0 (length source)
+  chunk-entry = ap entryOf (f .chunk)
+
+  count-is : countOf t ≡ 1
+  count-is = ap (λ (r : Row). r .start) (f .desk)
+
+  next-is : nextOf t 0 ≡ 1
+  next-is = ap (λ (r : Row). r .next) (f .desk)
+
+  order-is : order t ≡ 1 ∷ []
+  unfolding order
+  order-is = ap (λ (n : ℕ). follow (nextOf t) n (nextOf t 0)) count-is ∙ ap (λ (x : ℕ). x ∷ []) next-is
+
+  pub fresh-desk : magicStringOf source t p s ≡ new source
+  unfolding magicStringOf
+  fresh-desk =
+      same-desk source
+      (ap (λ (e : Entry). runOf p s (e .intro)) desk-entry ∙ run-empty p s 0)
+      (ap (λ (e : Entry). runOf p s (e .outro)) desk-entry ∙ run-empty p s 0)
+      (ap (λ (xs : List ℕ). map (chunkOf p s) (map (entryAt t) xs)) order-is
+      ∙ ap (λ (e : Entry). chunkOf p s e ∷ []) chunk-entry
+      ∙ ap (λ (c : Chunk). c ∷ []) (bare-chunk p s 0 (length source)))
+
+  fresh-linked : 24 ≤ length t → Linked t
+  fresh-linked h =
+      let pd : prevOf t 0 ≡ 1 = ap (λ (r : Row). r .prev) (f .desk) in
+      let nc : nextOf t 1 ≡ 0 = ap (λ (r : Row). r .next) (f .chunk) in
+      let pc : prevOf t 1 ≡ 0 = ap (λ (r : Row). r .prev) (f .chunk) in
+      let g = ring-of (nextOf t) (prevOf t) 1 (1 ∷ []) refl
+      (record { fwd = next-is; bwd = pc }, record { fwd = nc; bwd = pd }) ((omega arith, omega arith), tt) in
+      record { ring = rw count-is (g .1); room = omega (arith, count-is) }
+
+  fresh-spans : Spans t 1 (length source)
+  fresh-spans =
+      let a : startsOf t 0 ≡ 0 = ap (λ (e : Entry). e .start) chunk-entry in
+      let e : endsOf t 0 ≡ length source = ap (λ (e : Entry). e .end) chunk-entry in
+      record {
+        empty = λ z. record { single = refl; start = a; end = e ∙ z };
+        full = λ h.
+            record {
+              filled = only (λ i. rowAt t i .start < rowAt t i .end) (omega arith);
+              inside = only (λ i. rowAt t i .end ≤ length source) (omega arith);
+              cover = λ b l. rw (a, e) (omega (arith, indicator-in 0 (length source) b (omega arith) l));
+            };
+      }
+
+  fresh-edges : utf8 source ≡ true → Edges source t 1
+  fresh-edges u =
+      only (λ i. Edged source (rowAt t i .start) (rowAt t i .end))
+      (record {
+        start = ap (λ (e : Entry). between source (e .start)) chunk-entry ∙ between-zero source;
+        end = ap (λ (e : Entry). between source (e .end)) chunk-entry ∙ between-past source (length source) u (omega arith);
+      })
+
+  -- a row without pieces and replacement uses no piece row and no byte
+  none-used : (i a e : ℕ) → entryAt t i ≡ bareEntry a e → (j : ℕ) → pieceUses j (entryAt t i) ≡ 0
+  none-used i a e q j = ap (pieceUses j) q ∙ omega (arith, among-none 0 j)
+
+  no-byte : (i a e : ℕ) → entryAt t i ≡ bareEntry a e → (b : ℕ) → byteUses p b (entryAt t i) ≡ 0
+  no-byte i a e q b = ap (byteUses p b) q ∙ omega (arith, uses-empty p s 0 b, uses-none p s b)
+
+  fresh-runs : (words : ℕ) → RunsApart t 1 words
+  fresh-runs words =
+      let x : (a e : ℕ) → BothIn words (bareEntry a e) = λ a e. (rows-empty p s words 0, rows-empty p s words 0) in
+      record {
+        desk = subst (BothIn words) (sym desk-entry) (x 1 0);
+        chunks = only (λ i. BothIn words (entryAt t i)) (subst (BothIn words) (sym chunk-entry) (x 0 (length source)));
+        once = λ j. omega (arith, none-used 0 1 0 desk-entry j, none-used 1 0 (length source) chunk-entry j);
+      }
+
+  fresh-texts : TextsApart t p s 1
+  fresh-texts =
+      let x : (a e : ℕ) → BothTexts p s (bareEntry a e) = λ a e. (texts-empty p s 0, texts-empty p s 0) in
+      record {
+        desk = subst (BothTexts p s) (sym desk-entry) (x 1 0);
+        chunks = only (λ i. EntryTexts p s (entryAt t i)) (subst (EntryTexts p s) (sym chunk-entry) (x 0 (length source), text-none p s));
+        once = λ b. omega (arith, no-byte 0 1 0 desk-entry b, no-byte 1 0 (length source) chunk-entry b);
+      }
+
+  fresh-count : pieceTotal t 1 ≤ 1024
+  fresh-count =
+      let a : pieceCount (entryAt t 0) ≡ 0 = ap pieceCount desk-entry in
+      let b : pieceCount (entryAt t 1) ≡ 0 = ap pieceCount chunk-entry in
+      omega arith
+
+  pub fresh-formed : Sized t p s → length source ≤ 16384 → utf8 source ≡ true → WellFormed source t p s
+  fresh-formed z h u =
+      rows-formed source t p s
+      (record {
+        shaped = record { sized = z; fits = h };
+        text = u;
+        chunked = record {
+          linked = fresh-linked (omega (arith, z .chunks));
+          spans = rw count-is fresh-spans;
+          edges = rw count-is (fresh-edges u);
+        };
+        pieced = record { count = rw count-is fresh-count; runs = rw count-is (fresh-runs (length p)); texts = rw count-is fresh-texts };
+      })
+
+-- ── the answers ──
+same : (t p s : List ℕ) → Same t p s t p s
+same t p s = record { chunks = refl; pieces = refl; store = refl }
+
+module _ (source t p s : List ℕ) where
+  pub refused-2 : (Sized t p s → ⊥) → Opened source t p s t p s 2
+  refused-2 h =
+      record {
+        not-sized = λ x. refl;
+        number-is = λ z. absurd (h z);
+        desk-is = λ e. absurd (omega arith);
+        well-formed = λ e. absurd (omega arith);
+        refused = λ e. same t p s;
+      }
+
+  pub refused-13 : Sized t p s → 16384 < length source → Opened source t p s t p s 13
+  unfolding opened
+  refused-13 z h =
+      record {
+        not-sized = λ x. absurd (x z);
+        number-is = λ x. rw (lt-leb (length source) 16384 h);
+        desk-is = λ e. absurd (omega arith);
+        well-formed = λ e. absurd (omega arith);
+        refused = λ e. same t p s;
+      }
+
+  pub refused-1 : Sized t p s → length source ≤ 16384 → utf8 source ≡ false → Opened source t p s t p s 1
+  unfolding opened
+  refused-1 z h u =
+      record {
+        not-sized = λ x. absurd (x z);
+        number-is = λ x. rw (le-leb (length source) 16384 h, u);
+        desk-is = λ e. absurd (omega arith);
+        well-formed = λ e. absurd (omega arith);
+        refused = λ e. same t p s;
+      }
+
+  pub opened-0 : (t′ : List ℕ) → Sized t p s → length source ≤ 16384 → utf8 source ≡ true → Fresh t t′ (length source) → Opened source t p s t′ p s 0
+  unfolding opened
+  opened-0 t′ z h u f =
+      let z′ : Sized t′ p s = record { chunks = f .same ∙ z .chunks; pieces = z .pieces; store = z .store } in
+      record {
+        not-sized = λ x. absurd (x z);
+        number-is = λ x. rw (le-leb (length source) 16384 h, u);
+        desk-is = λ e. fresh-desk t t′ source p s f;
+        well-formed = λ e. fresh-formed t t′ source p s f z′ h u;
+        refused = λ e. absurd (e refl);
+      }

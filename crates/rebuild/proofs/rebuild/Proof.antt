@@ -1,0 +1,84 @@
+use mathlib.Core.Path.{_≡_, refl, sym, ap, _∙_, subst}
+use native.Mathlib.Omega.{arith}
+use Rattle.rebuild.proofs.LayAll.{own-in, own-room, lay-start, within-room}
+use borrow.Author.Needs.{needs}
+use Rattle.rebuild.proofs.rebuild.Statement.{statement}
+use Rattle.rebuild.proofs.rebuild.Tie as tie
+use Rattle.rebuild.proofs.rebuild.Reads as reads
+use Rattle.rebuild.proofs.rebuild.Lts as lts
+use Rattle.rebuild.proofs.lay_rest.Reads as lay-rest-reads
+use Rattle.rebuild.proofs.lay_row.Reads as lay-row-reads
+use Rattle.rebuild.proofs.own_row.Reads as own-row-reads
+use Rattle.rebuild.proofs.top_row.Reads as top-row-reads
+use Rattle.table.proofs.get_row.Reads as get-row-reads
+use Rattle.table.proofs.put_row.Reads as put-row-reads
+
+get-row-requires : tie.Need-get-row-requires
+get-row-requires c κs = search needs
+
+own-row-requires : tie.Need-own-row-requires
+own-row-requires c κs = search needs
+
+lay-row-requires : tie.Need-lay-row-requires
+lay-row-requires c κs =
+    let own-row = c .own-row in
+    let get-row = c .before .before .before .get-row in
+    let start = c .before .before .before .before .before .before .before .before .before .before in
+    let e = own-row .ensures in
+    let f = get-row .ensures in
+    (rw (e, f) (own-in (start .pre .0)), rw (e, f) (own-room _ _ _ (start .pre .1 .0) (start .pre .1 .1)))
+
+top-row-requires : tie.Need-top-row-requires
+top-row-requires c κs = search needs
+
+put-row-requires : tie.Need-put-row-requires
+put-row-requires c κs =
+    let start = c .before .before .before .before .before .before .before .before .before .before .before .before .before .before .before .before .before in
+    omega (arith, start .pre .1 .1 .chunks)
+
+lay-rest-requires : tie.Need-lay-rest-requires
+lay-rest-requires c κs =
+    let own-row = c .before .before .before .before .before .before .before .before .before .before .before .before .before .own-row in
+    let get-row = c .before .before .before .before .before .before .before .before .before .before .before .before .before .before .before .before .get-row in
+    let start = c .before .before .before .before .before .before .before .before .before .before .before .before .before .before .before .before .before .before .before .before .before .before .before in
+    let lay-row = c .before .before .before .before .before .before .before .before .before .before .before .before .lay-row in
+    let top-row = c .before .before .before .before .before .before .top-row in
+    let put-row = c .before .before .before .before .before .put-row in
+    let e = own-row .ensures in
+    let f = get-row .ensures in
+    let z = start .pre .1 .1 in
+    let lp = lay-row .kept .1 .1 .0 ∙ z .pieces in
+    let ls = lay-row .kept .1 .1 .1 .0 ∙ z .store in (
+      start .pre .0,
+      (
+        rw f (lay-start (rw (e, f) at (lay-row .ensures)) (rw f at (top-row .ensures)) (put-row .ensures) (start .pre .1 .0) lp ls),
+        (record { chunks = put-row .kept .0 ∙ z .chunks; pieces = lp; store = ls }, rw f (within-room _ _ _ (start .pre .1 .0) .2)),
+      ),
+    )
+
+same-length : tie.Need-same-length
+same-length c = search needs
+
+same-length-2 : tie.Need-same-length-2
+same-length-2 c = search needs
+
+same-length-3 : tie.Need-same-length-3
+same-length-3 c = search needs
+
+returns : tie.Need-returns
+returns c = search needs
+
+pub rebuild-spec : {M : Type 1} → statement M
+rebuild-spec =
+    tie.close
+    (tie.spec
+    get-row-requires
+    own-row-requires
+    lay-row-requires
+    top-row-requires
+    put-row-requires
+    lay-rest-requires
+    same-length
+    same-length-2
+    same-length-3
+    returns)

@@ -1,0 +1,91 @@
+use mathlib.Core.Path.{_≡_, refl, sym, _∙_}
+use mathlib.Core.Logic.{inr}
+use native.Mathlib.Omega.{arith}
+use Rattle.reset.proofs.ResetTests.{valid-source, reset-outside, reset-nothing, reset-reversed, reset-past, reset-range}
+use borrow.Author.Needs.{needs}
+use Rattle.reset.proofs.reset.Statement.{statement}
+use Rattle.reset.proofs.reset.Tie as tie
+use Rattle.reset.proofs.reset.Reads as reads
+use Rattle.reset.proofs.reset.Lts as lts
+use Rattle.frame.proofs.between_both.Reads as between-both-reads
+use Rattle.movement.proofs.range_with.Reads as range-with-reads
+
+between-both-requires : tie.Need-between-both-requires
+between-both-requires c κs =
+    let start = c .before .before .before .before in
+    valid-source (start .pre)
+
+returns : tie.Need-returns
+returns c =
+    let start = c .before .before .before .before .before .before .before in
+    let between-both = c .before .before .between-both in
+    let if1 = c .before .if1 in
+    let if2 = c .if2 in
+    reset-nothing _ _ (start .pre) (sym (between-both .ensures) ∙ if1 .taken) (if2 .taken)
+
+returns-2 : tie.Need-returns-2
+returns-2 c =
+    let start = c .before .before .before .before .before .before .before .before in
+    let between-both = c .before .before .before .between-both in
+    let if1 = c .before .before .if1 in
+    let if3 = c .if3 in
+    reset-reversed _ _ (start .pre) (sym (between-both .ensures) ∙ if1 .taken) (if3 .taken)
+
+returns-3 : tie.Need-returns-3
+returns-3 c =
+    let start = c .before .before .before .before .before .before .before .before .before in
+    let between-both = c .before .before .before .before .between-both in
+    let if1 = c .before .before .before .if1 in
+    let if2 = c .before .before .if2 in
+    let if3 = c .before .if3 in
+    let if4 = c .if4 in
+    reset-past _ _ (start .pre) (sym (between-both .ensures) ∙ if1 .taken) (omega (arith, if2 .left, if3 .left)) (if4 .taken)
+
+range-with-requires : tie.Need-range-with-requires
+range-with-requires c κs =
+    let start = c .before .before .before .before .before .before .before .before .before .before .before .before in
+    let if2 = c .before .before .before .before .before .if2 in
+    let if3 = c .before .before .before .before .if3 in
+    (start .pre, (omega (arith, if2 .left, if3 .left), inr refl))
+
+same-length : tie.Need-same-length
+same-length c = search needs
+
+same-length-2 : tie.Need-same-length-2
+same-length-2 c = search needs
+
+same-length-3 : tie.Need-same-length-3
+same-length-3 c = search needs
+
+returns-4 : tie.Need-returns-4
+returns-4 c =
+    let start = c .before .before .before .before .before .before .before .before .before .before .before .before .before .before .before .before .before .before .before in
+    let between-both = c .before .before .before .before .before .before .before .before .before .before .before .before .before .before .between-both in
+    let if1 = c .before .before .before .before .before .before .before .before .before .before .before .before .before .if1 in
+    let if2 = c .before .before .before .before .before .before .before .before .before .before .before .before .if2 in
+    let if3 = c .before .before .before .before .before .before .before .before .before .before .before .if3 in
+    let if4 = c .before .before .before .before .before .before .before .before .before .before .if4 in
+    let range-with = c .before .before .before .before .before .before .range-with in
+    reset-range _ _ (start .pre) (sym (between-both .ensures) ∙ if1 .taken) (omega (arith, if2 .left, if3 .left)) (if4 .left) (range-with .ensures)
+
+returns-5 : tie.Need-returns-5
+returns-5 c =
+    let start = c .before .before .before .before .before .before in
+    let between-both = c .before .between-both in
+    let if1 = c .if1 in
+    reset-outside _ _ (start .pre) (sym (between-both .ensures) ∙ if1 .left)
+
+pub reset-spec : {M : Type 1} → statement M
+reset-spec =
+    tie.close
+    (tie.spec
+    between-both-requires
+    returns
+    returns-2
+    returns-3
+    range-with-requires
+    same-length
+    same-length-2
+    same-length-3
+    returns-4
+    returns-5)

@@ -1,0 +1,128 @@
+-- Writes to a row of the list that keep its links, and the split of a row in two (`Chunk::split`).
+use mathlib.Core.Path.{_≡_, refl, sym, ap, ap₂, _∙_, subst}
+use mathlib.Core.List.{List, [], _∷_, _++_, map}
+use Prim.Native.Nat.{ℕ, zero, suc, _+_, _*_, _-_, _≤_, _<_}
+use native.Mathlib.Omega.{arith}
+use lib.ListN.{length, length-map}
+use Rattle.table.specs.declared.Row.{Row}
+use Rattle.table.specs.Ring.{Each, each-map, each-both, Not, length-follow}
+use Rattle.table.specs.Table.{rowAt, Put}
+use Rattle.table.specs.Order.{Entry, entryOf, entryAt, entries, order, nextOf, prevOf, countOf, Linked, put-keep, same-links, others, ranges, inside-at, write-keeps}
+use Rattle.rows.specs.Insert.{LinkedIn, Placed, runsOf, startF}
+
+-- the first half keeps the intro, the second takes the outro, a replacement goes to both
+abbrev pub first : ℕ → Entry → Entry
+first p c = record { start = c .start; end = p; intro = c .intro; outro = (0, 0); text = c .text }
+
+abbrev pub second : ℕ → Entry → Entry
+second p c = record { start = p; end = c .end; intro = (0, 0); outro = c .outro; text = c .text }
+
+-- ── on lists of rows ──
+pub map-same : (f g : ℕ → Entry) (xs : List ℕ) → Each (λ x. f x ≡ g x) xs → map f xs ≡ map g xs
+map-same f g [] e = refl
+map-same f g (x ∷ xs) e = ap₂ (λ (a : Entry) (l : List Entry). a ∷ l) (e .0) (map-same f g xs (e .1))
+
+pub map-append : (f : ℕ → Entry) (xs ys : List ℕ) → map f (xs ++ ys) ≡ map f xs ++ map f ys
+map-append f [] ys = refl
+map-append f (x ∷ xs) ys = ap (λ (l : List Entry). f x ∷ l) (map-append f xs ys)
+
+join : {us us' : List Entry} {x x' y y' : Entry} {bs bs' : List Entry} → us ≡ us' → x ≡ x' → y ≡ y' → bs ≡ bs' → us ++ x ∷ y ∷ bs ≡ us' ++ x' ∷ y' ∷ bs'
+join a b c d = cc
+
+join-one : {us us' : List Entry} {x x' : Entry} {bs bs' : List Entry} → us ≡ us' → x ≡ x' → bs ≡ bs' → us ++ x ∷ bs ≡ us' ++ x' ∷ bs'
+join-one a b d = cc
+
+pub count-entries : (t : List ℕ) → length (entries t) ≡ countOf t
+unfolding order
+count-entries t = length-map (order t) (entryAt t) ∙ length-follow (nextOf t) (countOf t) (nextOf t 0)
+
+-- the entries where row i stands in the list
+pub entries-at : (t us : List ℕ) (i : ℕ) (bs : List ℕ) → order t ≡ us ++ i ∷ bs → entries t ≡ map (entryAt t) us ++ entryAt t i ∷ map (entryAt t) bs
+entries-at t us i bs o = ap (map (entryAt t)) o ∙ map-append (entryAt t) us (i ∷ bs)
+
+-- ── row i of the list written as r, its links kept ──
+pub record RowSet (t t' : List ℕ) (i : ℕ) (e : Entry) : Type 0 where
+  pub linked : Linked t'
+  pub order-is : order t' ≡ order t
+  pub here : entryAt t' i ≡ e
+  pub off : (a : ℕ) → Not i a → rowAt t' a ≡ rowAt t a
+  pub place : (us bs : List ℕ) → order t ≡ us ++ i ∷ bs → entries t' ≡ map (entryAt t) us ++ e ∷ map (entryAt t) bs
+  pub desk : runsOf (rowAt t' 0) ≡ runsOf (rowAt t 0)
+  pub count : countOf t' ≡ countOf t
+
+pub row-set : (t t' : List ℕ) (i : ℕ) (r : Row) → Linked t → Placed t i → Put t t' i r → r .next ≡ nextOf t i → r .prev ≡ prevOf t i → length t' ≡ length t
+    → RowSet t t' i (entryOf r)
+row-set t t' i r l w p en ep len =
+    let b = inside-at t (w .us) i (w .bs) l (w .place) in
+    let i0 : Not i 0 = λ h. omega arith in
+    let k = write-keeps t t' i r p en ep (λ h. absurd (omega arith)) len l in
+    let same : (xs : List ℕ) → Each (Not i) xs → map (entryAt t') xs ≡ map (entryAt t) xs =
+    λ xs n. map-same (entryAt t') (entryAt t) xs (each-map (Not i) (λ x. entryAt t' x ≡ entryAt t x) (λ x h. ap entryOf (p .off x h)) xs n) in
+    record {
+      linked = k .1;
+      order-is = k .0;
+      here = ap entryOf (p .at);
+      off = p .off;
+      place = λ us bs o.
+          let v = others t us i bs l o in
+          entries-at t' us i bs (k .0 ∙ o) ∙ join-one (same us (v .0)) (ap entryOf (p .at)) (same bs (v .1));
+      desk = ap runsOf (p .off 0 i0);
+      count = ap startF (p .off 0 i0);
+    }
+
+-- ── row 0 written with other runs ──
+pub record DeskSet (t t' : List ℕ) (runs : (ℕ × ℕ) × (ℕ × ℕ)) : Type 0 where
+  pub linked : Linked t'
+  pub chunks : entries t' ≡ entries t
+  pub desk : runsOf (rowAt t' 0) ≡ runs
+  pub count : countOf t' ≡ countOf t
+
+pub desk-set : (t t' : List ℕ) (r : Row) → Linked t → Put t t' 0 r → r .next ≡ nextOf t 0 → r .prev ≡ prevOf t 0 → r .start ≡ countOf t → length t' ≡ length t
+    → DeskSet t t' (runsOf r)
+unfolding order
+desk-set t t' r l p en ep es len =
+    let k = write-keeps t t' 0 r p en ep (λ h. es) len l in
+    record {
+      linked = k .1;
+      chunks =
+          ap (map (entryAt t')) (k .0)
+          ∙ map-same (entryAt t') (entryAt t) (order t)
+          (each-map (λ x. (0 < x) × (x ≤ countOf t)) (λ x. entryAt t' x ≡ entryAt t x) (λ x h. ap entryOf (p .off x (λ e. omega arith))) (order t) (l .ring .inside));
+      desk = ap runsOf (p .at);
+      count = ap startF (p .at) ∙ es;
+    }
+
+-- ── the split: row i becomes the first half, then the second half is linked in after it ──
+pub record SplitRow (t t' : List ℕ) (i p : ℕ) : Type 0 where
+  pub linked : Linked t'
+  pub place : (us bs : List ℕ) → order t ≡ us ++ i ∷ bs
+      → entries t' ≡ map (entryAt t) us ++ first p (entryAt t i) ∷ second p (entryAt t i) ∷ map (entryAt t) bs
+  pub desk : runsOf (rowAt t' 0) ≡ runsOf (rowAt t 0)
+  pub count : countOf t' ≡ countOf t + 1
+
+module _ (t ta tb : List ℕ) (p i : ℕ) (s : Row) (l : Linked t) (w : Placed t i) (ra : RowSet t ta i (first p (entryAt t i)))
+    (es : entryOf s ≡ second p (entryAt t i)) (d : LinkedIn ta tb i s) where
+  pub split-row : SplitRow t tb i p
+  split-row =
+      let b = inside-at t (w .us) i (w .bs) l (w .place) in
+      let ca = ra .count in
+      let same : (xs : List ℕ) → Each (Not i) xs → Each (λ x. (0 < x) × (x ≤ countOf t)) xs → map (entryAt tb) xs ≡ map (entryAt t) xs =
+      λ xs n m.
+      map-same (entryAt tb) (entryAt t) xs
+      (each-map (λ x. Not i x × ((0 < x) × (x ≤ countOf t))) (λ x. entryAt tb x ≡ entryAt t x)
+      (λ x h. d .old x (λ e. omega arith) (λ e. omega arith) ∙ ap entryOf (ra .off x (h .0))) xs
+      (each-both (Not i) (λ x. (0 < x) × (x ≤ countOf t)) xs n m)) in
+      record {
+        linked = d .linked;
+        place = λ us bs o.
+            let v = others t us i bs l o in
+            let g = ranges t us i bs l o in
+            ap (map (entryAt tb)) (d .place us bs (ra .order-is ∙ o))
+            ∙ map-append (entryAt tb) us (i ∷ (countOf ta + 1) ∷ bs)
+            ∙ join (same us (v .0) (g .0)) (d .old i (λ e. omega arith) (λ e. omega arith) ∙ ra .here) (d .new ∙ es) (same bs (v .1) (g .1));
+        desk = d .desk ∙ ra .desk;
+        count = omega (arith, d .count);
+      }
+
+pub placed-still : (t ta : List ℕ) (i : ℕ) {e : Entry} → Placed t i → RowSet t ta i e → Placed ta i
+placed-still t ta i w r = record { us = w .us; bs = w .bs; place = r .order-is ∙ w .place }

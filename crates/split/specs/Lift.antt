@@ -1,0 +1,194 @@
+-- From entries to the model: what a change of the rows of a scratch table means for the desk that it holds with given pieces and store.
+use mathlib.Core.Path.{_≡_, refl, sym, ap, ap₂, _∙_, subst}
+use mathlib.Core.Bool.{Bool, true, false, _&&_, not, cond}
+use mathlib.Core.List.{List, [], _∷_, _++_, map}
+use mathlib.Core.Option.{Option, none, some}
+use Prim.Native.Nat.{ℕ, zero, suc, _+_, _≤_, _<_}
+use native.Mathlib.Omega.{arith}
+use lib.Dec.{ltb, leb, eqb}
+use lib.ListN.{length, take, drop, length-drop, length-append}
+use borrow.Author.Tests.{eqb-true, eqb-false, lt-ltb, leb-true}
+use Rattle.utf8.specs.Rfc3629.{utf8}
+use Rattle.utf8.specs.Chars.{All, nil, cons, concat}
+use Rattle.table.specs.Ring.{Each}
+use Rattle.table.specs.Table.{rowAt}
+use Rattle.table.specs.Order.{Entry, entryAt, entries, Linked}
+use Rattle.model.specs.Text.{Text, is-nil, sum}
+use Rattle.model.specs.Limits.{full, within, chunk-pieces, chunk-bytes, piece-count, byte-count}
+use Rattle.model.specs.Chunk.{Chunk, Texts, is-filled, first-half, second-half}
+use Rattle.model.specs.MagicString.{MagicString, with-chunks}
+use Rattle.memory.specs.Layout.{NONE, Place, runOf, replacementOf, chunkOf, magicStringOf}
+use Rattle.memory.specs.WellFormed.{RunIn, ReplacementIn, RunsIn, EntryIn, Readable, WellFormed}
+use Rattle.texts.specs.Texts.{concat-cons, concat-nil}
+use Rattle.rows.specs.Insert.{runsOf}
+use Rattle.rows.specs.Split.{first, second}
+use Rattle.frame.specs.Front.{bool-elim, desk-same}
+
+-- ── lists ──
+module _ {A : Type 0} {P : A → Type 0} where
+  pub all-first : {x : A} {xs : List A} → All P (x ∷ xs) → P x
+  all-first (cons h k) = h
+
+  pub all-rest : {x : A} {xs : List A} → All P (x ∷ xs) → All P xs
+  all-rest (cons h k) = k
+
+  pub all-append : {xs ys : List A} → All P xs → All P ys → All P (xs ++ ys)
+  all-append nil q = q
+  all-append (cons p ps) q = cons p (all-append ps q)
+
+pub map-append : {A B : Type 0} (f : A → B) (xs ys : List A) → map f (xs ++ ys) ≡ map f xs ++ map f ys
+map-append f [] ys = refl
+map-append {A} {B} f (x ∷ xs) ys = ap (λ (l : List B). f x ∷ l) (map-append f xs ys)
+
+-- ── the runs of row 0 stay ──
+module _ (t t' : List ℕ) (k : runsOf (rowAt t' 0) ≡ runsOf (rowAt t 0)) where
+  pub same-head : entryAt t' 0 .intro ≡ entryAt t 0 .intro
+  same-head = ap (λ (x : (ℕ × ℕ) × (ℕ × ℕ)). x .0) k
+
+  pub same-tail : entryAt t' 0 .outro ≡ entryAt t 0 .outro
+  same-tail = ap (λ (x : (ℕ × ℕ) × (ℕ × ℕ)). x .1) k
+
+-- the rows have the entries es, and the desk's own runs are as they were
+pub record Reordered (t t' : List ℕ) (es : List Entry) : Type 0 where
+  pub linked : Linked t'
+  pub chunks : entries t' ≡ es
+  pub desk : runsOf (rowAt t' 0) ≡ runsOf (rowAt t 0)
+
+module _ (t p s t' : List ℕ) {es : List Entry} (h : Readable t p s) (d : Reordered t t' es) where
+  pub still-readable : All (EntryIn p s) es → Readable t' p s
+  still-readable i =
+      record {
+        linked = d .linked;
+        desk =
+            record {
+              intro = subst (RunIn p s) (sym (same-head t t' (d .desk))) (h .desk .intro);
+              outro = subst (RunIn p s) (sym (same-tail t t' (d .desk))) (h .desk .outro);
+            };
+        chunks = rw (d .chunks) i;
+      }
+
+  pub with-entries : (source : List ℕ) → magicStringOf source t' p s ≡ with-chunks (magicStringOf source t p s) (map (chunkOf p s) es)
+  unfolding magicStringOf
+  with-entries source = desk-same source (ap (runOf p s) (same-head t t' (d .desk))) (ap (runOf p s) (same-tail t t' (d .desk))) (ap (map (chunkOf p s)) (d .chunks))
+
+pub chunks-of : (source t p s : List ℕ) → magicStringOf source t p s .chunks ≡ map (chunkOf p s) (entries t)
+unfolding magicStringOf
+chunks-of source t p s = refl
+
+pub source-of : (source t p s : List ℕ) → magicStringOf source t p s .source ≡ source
+unfolding magicStringOf
+source-of source t p s = refl
+
+pub valid-source : {source t p s : List ℕ} → WellFormed source t p s → utf8 source ≡ true
+valid-source {source} {t} {p} {s} w = ap utf8 (sym (source-of source t p s)) ∙ w .desk .formed .source
+
+-- ── runs that keep the limits by themselves ──
+pub record RunSmall (p s : List ℕ) (r : Place) : Type 0 where
+  pub pieces : length (runOf p s r) ≤ 1024
+  pub bytes : length (concat (runOf p s r)) ≤ 32768
+
+pub record EntrySmall (p s : List ℕ) (e : Entry) : Type 0 where
+  pub intro : RunSmall p s (e .intro)
+  pub outro : RunSmall p s (e .outro)
+
+-- every run of the desk
+pub record DeskSmall (t p s : List ℕ) : Type 0 where
+  pub desk : EntrySmall p s (entryAt t 0)
+  pub chunks : All (EntrySmall p s) (entries t)
+
+concat-sum : (ts : List Text) → length (concat ts) ≡ sum length ts
+concat-sum [] = ap length concat-nil
+concat-sum (t ∷ ts) = ap length (concat-cons t ts) ∙ length-append t (concat ts) ∙ ap (λ (n : ℕ). length t + n) (concat-sum ts)
+
+small-entry : (p s : List ℕ) (e : Entry) → chunk-pieces (chunkOf p s e) ≤ 1024 → chunk-bytes (chunkOf p s e) ≤ 32768 → EntrySmall p s e
+small-entry p s e h k =
+    record {
+      intro = record { pieces = omega arith; bytes = omega (arith, concat-sum (runOf p s (e .intro))) };
+      outro = record { pieces = omega arith; bytes = omega (arith, concat-sum (runOf p s (e .outro))) };
+    }
+
+small-entries : (p s : List ℕ) (a b : ℕ) (es : List Entry) → a + sum chunk-pieces (map (chunkOf p s) es) ≤ 1024 → b + sum chunk-bytes (map (chunkOf p s) es) ≤ 32768 → All (EntrySmall p s) es
+small-entries p s a b [] h k = nil
+small-entries p s a b (e ∷ es) h k =
+    let c = small-entry p s e (omega arith) (omega arith) in
+    cons c (small-entries p s (a + chunk-pieces (chunkOf p s e)) (b + chunk-bytes (chunkOf p s e)) es (omega arith) (omega arith))
+
+and-right : (x y : Bool) → x && y ≡ true → y ≡ true
+and-right true y e = e
+and-right false y e = let z : _≡_ {A = ℕ} 0 1 = cc in absurd (omega arith)
+
+and-left : (x y : Bool) → x && y ≡ true → x ≡ true
+and-left true y e = refl
+and-left false y e = e
+
+-- a desk that keeps the limits
+pub desk-small : (source t p s : List ℕ) → within full (magicStringOf source t p s) ≡ true → DeskSmall t p s
+unfolding within magicStringOf
+desk-small source t p s e =
+    let m = magicStringOf source t p s in
+    let u = and-right (leb (length (m .chunks)) 512) _ (and-right (leb (length source) 16384) _ e) in
+    let a = leb-true (piece-count m) 1024 (and-left (leb (piece-count m) 1024) _ u) in
+    let b = leb-true (byte-count m) 32768 (and-right (leb (piece-count m) 1024) _ u) in
+    let own : Entry = record { start = 0; end = 0; intro = entryAt t 0 .intro; outro = entryAt t 0 .outro; text = (NONE, 0) } in
+    let c = small-own p s own (omega (arith, a)) (omega (arith, b)) in
+    record {
+      desk = record { intro = c .intro; outro = c .outro };
+      chunks = small-entries p s (length (m .intro) + length (m .outro)) (sum length (m .intro) + sum length (m .outro)) (entries t) a b;
+    }
+  where
+    small-own : (p s : List ℕ) (e : Entry) → length (runOf p s (e .intro)) + length (runOf p s (e .outro)) ≤ 1024 → sum length (runOf p s (e .intro)) + sum length (runOf p s (e .outro)) ≤ 32768 → EntrySmall p s e
+    small-own p s e h k =
+        record {
+          intro = record { pieces = omega arith; bytes = omega (arith, concat-sum (runOf p s (e .intro))) };
+          outro = record { pieces = omega arith; bytes = omega (arith, concat-sum (runOf p s (e .outro))) };
+        }
+
+-- ── an empty run, and the two halves of a chunk ──
+pub no-run : (p s : List ℕ) (a : ℕ) → runOf p s (a, 0) ≡ []
+unfolding runOf
+no-run p s a = refl
+
+pub no-run-in : (p s : List ℕ) (a : ℕ) → RunIn p s (a, 0)
+unfolding RunIn
+no-run-in p s a k h = absurd (omega arith)
+
+module _ (p s : List ℕ) (q : ℕ) (e : Entry) where
+  pub lift-first : chunkOf p s (first q e) ≡ first-half q (chunkOf p s e)
+  lift-first = rw (no-run p s 0)
+
+  pub lift-second : chunkOf p s (second q e) ≡ second-half q (chunkOf p s e)
+  lift-second = rw (no-run p s 0)
+
+  pub first-in : EntryIn p s e → EntryIn p s (first q e)
+  first-in h = record { runs = record { intro = h .runs .intro; outro = no-run-in p s 0 }; replacement = h .replacement }
+
+  pub second-in : EntryIn p s e → EntryIn p s (second q e)
+  second-in h = record { runs = record { intro = no-run-in p s 0; outro = h .runs .outro }; replacement = h .replacement }
+
+pub no-run-small : (p s : List ℕ) (a : ℕ) → RunSmall p s (a, 0)
+no-run-small p s a =
+    record {
+      pieces = omega (arith, ap length (no-run p s a));
+      bytes = omega (arith, ap (λ (l : List Text). length (concat l)) (no-run p s a), ap length concat-nil);
+    }
+
+pub first-small : (p s : List ℕ) (q : ℕ) (e : Entry) → EntrySmall p s e → EntrySmall p s (first q e)
+first-small p s q e h = record { intro = h .intro; outro = no-run-small p s 0 }
+
+pub second-small : (p s : List ℕ) (q : ℕ) (e : Entry) → EntrySmall p s e → EntrySmall p s (second q e)
+second-small p s q e h = record { intro = no-run-small p s 0; outro = h .outro }
+
+-- ── a replacement that is not empty ──
+abbrev pub filled : Entry → Bool
+filled e = cond (eqb (e .text .0) NONE) false (ltb 0 (e .text .1))
+
+pub lift-filled : (s : List ℕ) (e : Entry) → ReplacementIn s (e .text) → is-filled (replacementOf s (e .text)) ≡ filled e
+unfolding replacementOf ReplacementIn
+lift-filled s e h =
+    bool-elim (eqb (e .text .0) NONE) (λ k. rw k)
+    (λ k. rw k (size (e .text .1) (drop (e .text .0) s) (simp length-drop (omega (arith, h (eqb-false _ _ k))))))
+  where
+    size : (n : ℕ) (l : List ℕ) → n ≤ length l → not (is-nil (take n l)) ≡ ltb 0 n
+    size zero l g = refl
+    size (suc n) [] g = absurd (omega arith)
+    size (suc n) (x ∷ l) g = sym (lt-ltb 0 (suc n) (omega arith))

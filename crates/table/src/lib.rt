@@ -1,0 +1,101 @@
+// Tables in lent words: rows of a chunk table and of a piece table, read and written by value.
+ghost use mathlib.Core.Path.{_≡_};
+ghost use Prim.Native.Nat.{_+_, _*_, _≤_};
+ghost use lib.ListN.{length};
+ghost use lib.Seq.{sets};
+ghost use Rattle.table.specs.Table.{rowAt, Put};
+ghost use Rattle.table.specs.Pieces.{pieceAt, PutPiece};
+
+pub struct Row {
+    pub start: u32,
+    pub end: u32,
+    pub next: u32,
+    pub prev: u32,
+    pub intro_at: u32,
+    pub intro_n: u32,
+    pub outro_at: u32,
+    pub outro_n: u32,
+    pub text_at: u32,
+    pub text_n: u32,
+    pub spare0: u32,
+    pub spare1: u32,
+}
+
+pub fn get_row(t: &[u32], i: u32) -> Row
+    requires { ⌜ i * 12 + 12 ≤ length (now t) ⌝ }
+    ensures { λ r. ⌜ r ≡ rowAt (now (t .entry)) i ⌝ }
+{
+    let b = i as usize * 12;
+    Row {
+        start: t[b],
+        end: t[b + 1],
+        next: t[b + 2],
+        prev: t[b + 3],
+        intro_at: t[b + 4],
+        intro_n: t[b + 5],
+        outro_at: t[b + 6],
+        outro_n: t[b + 7],
+        text_at: t[b + 8],
+        text_n: t[b + 9],
+        spare0: t[b + 10],
+        spare1: t[b + 11],
+    }
+}
+
+// The words w, stored from b on.
+fn put_words(t: &mut [u32], b: usize, w: &[u32])
+    requires { ⌜ b + length (now w) ≤ length (now t) ⌝ }
+    ensures { λ _. ⌜ now (t .exit) ≡ sets (now (t .entry)) b (now (w .entry)) ⌝ }
+{
+    let mut k = 0;
+    while k < w.len() {
+        t[b + k] = w[k];
+        k += 1;
+    }
+}
+
+pub fn put_row(t: &mut [u32], i: u32, r: Row)
+    requires { ⌜ i * 12 + 12 ≤ length (now t) ⌝ }
+    ensures { λ _. ⌜ Put (now (t .entry)) (now (t .exit)) i r ⌝ }
+{
+    let w = [
+        r.start,
+        r.end,
+        r.next,
+        r.prev,
+        r.intro_at,
+        r.intro_n,
+        r.outro_at,
+        r.outro_n,
+        r.text_at,
+        r.text_n,
+        r.spare0,
+        r.spare1,
+    ];
+    put_words(t, i as usize * 12, &w);
+}
+
+// A piece's place and length in the store.
+pub struct Piece {
+    pub at: u32,
+    pub n: u32,
+}
+
+pub fn get_piece(t: &[u32], i: u32) -> Piece
+    requires { ⌜ i * 2 + 2 ≤ length (now t) ⌝ }
+    ensures { λ r. ⌜ r ≡ pieceAt (now (t .entry)) i ⌝ }
+{
+    let b = i as usize * 2;
+    Piece {
+        at: t[b],
+        n: t[b + 1],
+    }
+}
+
+pub fn put_piece(t: &mut [u32], i: u32, r: Piece)
+    requires { ⌜ i * 2 + 2 ≤ length (now t) ⌝ }
+    ensures { λ _. ⌜ PutPiece (now (t .entry)) (now (t .exit)) i r ⌝ }
+{
+    let w = [r.at, r.n];
+    put_words(t, i as usize * 2, &w);
+}

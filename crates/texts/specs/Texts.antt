@@ -1,0 +1,102 @@
+-- A chunk's text in lent memory, and the laws of a run's texts.
+use mathlib.Core.Path.{_≡_, refl, ap, sym, _∙_}
+use mathlib.Core.List.{List, [], _∷_, _++_, append-assoc, append-nil, flatten}
+use Prim.Native.Nat.{ℕ, zero, suc, _+_, _-_, _≤_, _<_}
+use native.Mathlib.Omega.{arith}
+use native.Mathlib.Decide.{le-ind, decLt}
+use lib.ListN.{length, getD, take, drop, length-append, List·getD-append}
+use lib.Seq.{drop-cons, getD-append-add}
+use Rattle.utf8.specs.Chars.{concat}
+use Rattle.utf8.specs.CharLaws.{concat-append}
+use Rattle.table.specs.Order.{Entry}
+use Rattle.model.specs.Text.{Text}
+use Rattle.model.specs.Chunk.{content-or}
+use Rattle.model.specs.Chunk as chunk
+use Rattle.memory.specs.Layout.{Place, bytesAt, pieceAt, tabulate, runOf, replacementOf, chunkOf}
+use Rattle.memory.specs.WellFormed.{PieceIn, RunIn, ReplacementIn}
+
+-- a span inside the source
+pub record SpanIn (source : List ℕ) (e : Entry) : Type 0 where
+  pub ordered : e .start ≤ e .end
+  pub inside : e .end ≤ length source
+
+pub record ContentIn (source s : List ℕ) (start end : ℕ) (text : Place) : Type 0 where
+  pub ordered : start ≤ end
+  pub inside : end ≤ length source
+  pub replacement : ReplacementIn s text
+
+-- a chunk's content: its replacement, or else its part of the source
+abbrev pub contentAt : List ℕ → List ℕ → ℕ → ℕ → Place → Text
+contentAt source s start end text = content-or (replacementOf s text) (take (end - start) (drop start source))
+
+-- all that a chunk shows
+abbrev pub chunkText : List ℕ → List ℕ → List ℕ → Entry → Text
+chunkText source p s e = concat (chunk.fragments source (chunkOf p s e))
+
+-- ---- lists f 0, f 1, ..
+pub length-tabulate : {A : Type 0} (f : ℕ → A) (n : ℕ) → length (tabulate f n) ≡ n
+length-tabulate f zero = refl
+length-tabulate f (suc n) = simp (length-append, length-tabulate f n) (omega arith)
+
+pub tabulate-ext : {A : Type 0} (f g : ℕ → A) (n : ℕ) → ((k : ℕ) → k < n → f k ≡ g k) → tabulate f n ≡ tabulate g n
+tabulate-ext f g zero h = refl
+tabulate-ext f g (suc n) h = rw (tabulate-ext f g n (λ k hk. h k (omega arith)), h n (omega arith))
+
+pub tabulate-cons : {A : Type 0} (f : ℕ → A) (n : ℕ) → tabulate f (suc n) ≡ f 0 ∷ tabulate (λ k. f (suc k)) n
+tabulate-cons f zero = refl
+tabulate-cons f (suc n) = rw (tabulate-cons f n)
+
+pub tabulate-list : {A : Type 0} (d : A) (us : List A) → tabulate (λ k. getD us k d) (length us) ≡ us
+tabulate-list d [] = refl
+tabulate-list d (u ∷ us) = tabulate-cons (λ k. getD (u ∷ us) k d) (length us) ∙ ap (λ l. u ∷ l) (tabulate-list d us)
+
+-- the rest from k on
+pub tabulate-drop : {A : Type 0} (f : ℕ → A) (n k : ℕ) → k < n → drop k (tabulate f n) ≡ f k ∷ drop (suc k) (tabulate f n)
+tabulate-drop f zero k h = absurd (omega arith)
+tabulate-drop f (suc n) zero h = rw (tabulate-cons f n)
+tabulate-drop f (suc n) (suc k) h = rw (tabulate-cons f n) (tabulate-drop (λ j. f (suc j)) n k (omega arith))
+
+-- ---- texts one behind the other
+pub concat-cons : (t : Text) (ts : List Text) → concat (t ∷ ts) ≡ t ++ concat ts
+unfolding flatten
+concat-cons t ts = refl
+
+pub concat-nil : concat [] ≡ []
+unfolding flatten
+concat-nil = refl
+
+pub concat-one : (t : Text) → concat (t ∷ []) ≡ t
+concat-one t = concat-cons t [] ∙ ap (λ (l : Text). t ++ l) concat-nil ∙ append-nil t
+
+pub concat-snoc : (ts : List Text) (t : Text) → concat (ts ++ (t ∷ [])) ≡ concat ts ++ t
+concat-snoc ts t = concat-append ts (t ∷ []) ∙ ap (λ (l : Text). concat ts ++ l) (concat-one t)
+
+-- a chunk's text is its intro, its content and its outro
+pub chunk-text : (source p s : List ℕ) (e : Entry)
+    → chunkText source p s e ≡ concat (runOf p s (e .intro)) ++ (contentAt source s (e .start) (e .end) (e .text) ++ concat (runOf p s (e .outro)))
+chunk-text source p s e =
+    concat-append (runOf p s (e .intro)) _ ∙ ap (λ (l : Text). concat (runOf p s (e .intro)) ++ l) (concat-cons _ (runOf p s (e .outro)))
+
+pub concat-mono : (f : ℕ → Text) (i n : ℕ) → i ≤ n → length (concat (tabulate f i)) ≤ length (concat (tabulate f n))
+concat-mono f i n h =
+    le-ind (λ k. length (concat (tabulate f i)) ≤ length (concat (tabulate f k))) (omega arith)
+    (λ m (hm : i ≤ m) ih. simp (concat-snoc, length-append) (omega arith)) n h
+
+-- there is room for one more
+pub concat-room : (f : ℕ → Text) (i n : ℕ) → i < n → length (concat (tabulate f i)) + length (f i) ≤ length (concat (tabulate f n))
+concat-room f i n h = simp (concat-snoc, length-append) at (concat-mono f (suc i) n h)
+
+-- ---- a run's texts
+pub run-piece : (p s : List ℕ) (at n k : ℕ) → RunIn p s (at, n) → k < n → PieceIn p s (at + k)
+unfolding RunIn
+run-piece p s at n k h l = h k l
+
+pub run-tabulate : (p s : List ℕ) (at n : ℕ) → runOf p s (at, n) ≡ tabulate (λ k. bytesAt s (pieceAt p (at + k))) n
+unfolding runOf
+run-tabulate p s at n = refl
+
+pub run-length : (p s : List ℕ) (at n : ℕ) → length (runOf p s (at, n)) ≡ n
+run-length p s at n = ap length (run-tabulate p s at n) ∙ length-tabulate _ n
+
+pub run-drop : (p s : List ℕ) (at n k : ℕ) → k < n → drop k (runOf p s (at, n)) ≡ bytesAt s (pieceAt p (at + k)) ∷ drop (suc k) (runOf p s (at, n))
+run-drop p s at n k h = rw run-tabulate (tabulate-drop (λ k. bytesAt s (pieceAt p (at + k))) n k h)

@@ -1,0 +1,4 @@
+pub mod Rows
+pub mod Chunks
+pub mod Bytes
+pub mod Bridge

@@ -1,0 +1,34 @@
+-- The facts that the check decides, by row number: row 0 and rows 1 to the count. specs/Bridge.antt shows that they are `WellFormed`.
+use mathlib.Core.Path.{_≡_}
+use mathlib.Core.Bool.{true}
+use mathlib.Core.List.{List}
+use Prim.Native.Nat.{ℕ, _≤_}
+use lib.ListN.{length}
+use Rattle.utf8.specs.Rfc3629.{utf8}
+use Rattle.table.specs.Order.{countOf, Linked}
+use Rattle.memory.specs.WellFormed.{Sized}
+use Rattle.spans.specs.Spans.{Spans, Edges}
+use Rattle.marks.specs.Marks.{RunsApart, pieceTotal, TextsApart}
+
+-- tables of the layout's lengths, and a source that is short enough
+pub record Shaped (source t p s : List ℕ) : Type 0 where
+  pub sized : Sized t p s
+  pub fits : length source ≤ 16384
+
+-- one list, and spans that cover the source
+pub record Chunked (source t : List ℕ) : Type 0 where
+  pub linked : Linked t
+  pub spans : Spans t (countOf t) (length source)
+  pub edges : Edges source t (countOf t)
+
+-- runs and texts
+pub record Pieced (t p s : List ℕ) : Type 0 where
+  pub count : pieceTotal t (countOf t) ≤ 1024
+  pub runs : RunsApart t (countOf t) (length p)
+  pub texts : TextsApart t p s (countOf t)
+
+pub record ByRows (source t p s : List ℕ) : Type 0 where
+  pub shaped : Shaped source t p s
+  pub text : utf8 source ≡ true
+  pub chunked : Chunked source t
+  pub pieced : Pieced t p s

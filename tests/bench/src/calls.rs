@@ -1,0 +1,92 @@
+//! Each call on one desk, beside the Rust.
+
+use differential::{Answer, Core, Image, Unseen, image};
+use oracle::{
+  Call::{self, *},
+  Desk, DeskData, Limits,
+  random::Random,
+};
+use string_wizard::MagicString;
+
+use crate::{rust::RustCall, timing::least};
+
+/// Long enough for every output.
+pub const ROOM: usize = 50_000;
+
+pub fn print(core: &mut impl Core, desk: &DeskData) {
+  let (source, chunks) = (desk.source.len(), desk.chunks.len());
+  println!("\nsource of {source} bytes, {chunks} chunks");
+  println!("{:<30} {:>10} {:>10} {:>8}", "", "Rust ns", "ns", "ratio");
+  let rust = Desk::build(Limits::FULL, desk).magic_string().clone();
+  let image = image::encode(desk, &mut Random::new(1));
+  let source: &'static str = desk.source.clone().leak();
+  let theirs = least(|| None, |opened| *opened = Some(MagicString::new(source)));
+  let ours = time(core, &image, &Open { source: Vec::new() });
+  line("open", theirs, ours);
+  for call in every(desk) {
+    let rust_call = RustCall::new(&call);
+    let theirs = least(|| rust.clone(), |desk| rust_call.make(desk));
+    let ours = time(core, &image, &call);
+    let name = call.to_string();
+    line(name.split(' ').next().unwrap_or_default(), theirs, ours);
+  }
+}
+
+fn line(name: &str, theirs: f64, ours: f64) {
+  println!("{name:<30} {theirs:>10.0} {ours:>10.0} {:>8.2}", ours / theirs);
+}
+
+/// Nanoseconds of the call on copies of this memory.
+pub fn time(core: &mut impl Core, image: &Image, call: &Call) -> f64 {
+  let mut out = vec![0; ROOM];
+  let mut number = 0;
+  let took = least(
+    || image.clone(),
+    |image| {
+      let Answer { number: got, .. } = core.call(&mut image.lend(), call, &Unseen::PLAIN, &mut out);
+      number |= got;
+    },
+  );
+  assert_eq!(number, 0, "{call} is refused");
+  took
+}
+
+/// Every call but `open`, in and around a chunk in the middle that is not
+/// replaced.
+fn every(desk: &DeskData) -> Vec<Call> {
+  let mut spans: Vec<_> =
+    desk.chunks.iter().filter(|chunk| chunk.edited_content.is_none()).collect();
+  spans.sort_by_key(|chunk| chunk.start);
+  let chunk = spans[spans.len() / 2];
+  let (start, at, end) = (chunk.start, chunk.start + 1, chunk.end);
+  let text = b"inserted".to_vec();
+  let room = Some(ROOM as u32);
+  vec![
+    Remove { start: at, end },
+    UpdateWith { start: at, end, overwrite: 1, text: text.clone() },
+    Reset { start: at, end },
+    AppendLeft { at, text: text.clone() },
+    AppendRight { at, text: text.clone() },
+    PrependLeft { at, text: text.clone() },
+    PrependRight { at, text: text.clone() },
+    Append { text: text.clone() },
+    Prepend { text },
+    Relocate { start, end, to: 0 },
+    Trim { pattern: 0 },
+    TrimStart { pattern: 0 },
+    TrimEnd { pattern: 1 },
+    TrimLines,
+    IndentWith { indentor: None, exclude: Vec::new() },
+    Slice { start, end: None, room },
+    ToString { room },
+    LastLine { room },
+    GetIndentString { room },
+    Len,
+    LenUtf16,
+    LineCount,
+    IsEmpty,
+    HasChanged,
+    LastChar,
+    IsRangeWithinEditedChunk { start, end },
+  ]
+}

@@ -1,0 +1,84 @@
+//! Whole papers: an opening, 200 edits, and the output.
+
+use std::hint::black_box;
+
+use differential::{Core, Image, Unseen};
+use oracle::{
+  Call::{self, *},
+  Desk, Limits, apply,
+  random::Random,
+};
+use string_wizard::MagicString;
+
+use crate::{calls::ROOM, desks, rust::RustCall, timing::least};
+
+const EDITS: usize = 200;
+
+pub fn print(core: &mut impl Core) {
+  println!("\na whole paper: open, {EDITS} edits, to_string");
+  println!("{:<30} {:>10} {:>10} {:>8}", "", "Rust us", "us", "ratio");
+  for source in [2_048, 16_384] {
+    let source = desks::edited(source, 1).source;
+    let calls = edits(&source);
+    let theirs = rust(&source, &calls) / 1_000.0;
+    let ours = time(core, &source, &calls) / 1_000.0;
+    let name = format!("source of {} bytes", source.len());
+    println!("{name:<30} {theirs:>10.1} {ours:>10.1} {:>8.2}", ours / theirs);
+  }
+}
+
+/// Edits at random that are accepted, one after the other.
+fn edits(source: &str) -> Vec<Call> {
+  let mut random = Random::new(7);
+  let mut desk = Desk::open(Limits::FULL, source.as_bytes()).expect("a source within the limits");
+  let mut calls = Vec::new();
+  while calls.len() < EDITS {
+    let at = random.below(source.len()) as u32;
+    let (start, end) = (at, (at + random.between(1, 12) as u32).min(source.len() as u32));
+    let text = b"inserted"[..random.between(1, 8)].to_vec();
+    let call = match random.below(10) {
+      0..=3 => UpdateWith { start, end, overwrite: 1, text },
+      4 => Remove { start, end },
+      5 => AppendLeft { at, text },
+      6 => AppendRight { at, text },
+      7 => PrependLeft { at, text },
+      8 => PrependRight { at, text },
+      _ => Relocate { start, end, to: random.below(source.len()) as u32 },
+    };
+    if apply(&mut desk, &call).number == 0 {
+      calls.push(call);
+    }
+  }
+  calls
+}
+
+fn rust(source: &str, calls: &[Call]) -> f64 {
+  let source: &'static str = source.to_string().leak();
+  let calls: Vec<RustCall> = calls.iter().map(RustCall::new).collect();
+  least(
+    || (),
+    |()| {
+      let mut desk = MagicString::new(source);
+      calls.iter().for_each(|call| call.make(&mut desk));
+      black_box(desk.to_string());
+    },
+  )
+}
+
+fn time(core: &mut impl Core, source: &str, calls: &[Call]) -> f64 {
+  let mut image = Image::junk(source.as_bytes().to_vec(), &mut Random::new(1));
+  let mut out = vec![0; ROOM];
+  let open = Call::Open { source: Vec::new() };
+  let to_string = Call::ToString { room: Some(ROOM as u32) };
+  let mut number = 0;
+  let took = least(
+    || (),
+    |()| {
+      for call in [&open].into_iter().chain(calls).chain([&to_string]) {
+        number |= core.call(&mut image.lend(), call, &Unseen::PLAIN, &mut out).number;
+      }
+    },
+  );
+  assert_eq!(number, 0, "a call of the paper is refused");
+  took
+}

@@ -1,0 +1,64 @@
+//! The exported functions as a core.
+
+use oracle::Call;
+
+use super::{Core, Unseen};
+use crate::{Answer, Lent, missing};
+
+#[derive(Debug, Clone, Copy)]
+pub struct Archive;
+
+impl Core for Archive {
+  fn name(&self) -> &'static str {
+    "archive"
+  }
+
+  fn call(&mut self, lent: &mut Lent, call: &Call, unseen: &Unseen, out: &mut [u8]) -> Answer {
+    match *call {
+      Call::Open { .. } => lent.open(),
+      Call::Remove { start, end } => lent.remove(start, end),
+      Call::UpdateWith { start, end, overwrite, ref text } => {
+        lent.update_with(start, end, text, overwrite)
+      }
+      Call::Reset { start, end } => lent.reset(start, end),
+      Call::AppendLeft { at, ref text } => lent.append_left(at, text),
+      Call::AppendRight { at, ref text } => lent.append_right(at, text),
+      Call::PrependLeft { at, ref text } => lent.prepend_left(at, text),
+      Call::PrependRight { at, ref text } => lent.prepend_right(at, text),
+      Call::Append { ref text } => lent.append(text),
+      Call::Prepend { ref text } => lent.prepend(text),
+      Call::Relocate { start, end, to } => lent.relocate(start, end, to),
+      Call::Trim { pattern } => lent.trim(pattern),
+      Call::TrimStart { pattern } => lent.trim_start(pattern),
+      Call::TrimEnd { pattern } => lent.trim_end(pattern),
+      Call::TrimLines => lent.trim_lines(),
+      Call::IndentWith { indentor: Some(ref indentor), ref exclude } => {
+        lent.indent_with(unseen.yes, indentor, exclude)
+      }
+      Call::IndentWith { indentor: None, ref exclude } => lent.indent_with(0, unseen.text, exclude),
+      Call::Slice { start, end: Some(end), .. } => lent.slice(start, unseen.yes, end, out),
+      Call::Slice { start, end: None, .. } => lent.slice(start, 0, unseen.position, out),
+      Call::ToString { .. } => lent.to_string(out),
+      Call::LastLine { .. } => lent.last_line(out),
+      Call::GetIndentString { .. } => lent.get_indent_string(out),
+      Call::Len => lent.len(),
+      Call::LenUtf16 => lent.len_utf16(),
+      Call::LineCount => lent.line_count(),
+      Call::IsEmpty => lent.is_empty(),
+      Call::HasChanged => lent.has_changed(),
+      Call::LastChar => lent.last_char(),
+      Call::IsRangeWithinEditedChunk { start, end } => {
+        lent.is_range_within_edited_chunk(start, end)
+      }
+      Call::Dump => unreachable!("a dump is no exported call"),
+    }
+  }
+
+  fn has(&self, call: &Call) -> bool {
+    missing::has(call)
+  }
+
+  fn well_formed(&mut self, lent: &Lent) -> Answer {
+    lent.well_formed()
+  }
+}

@@ -1,0 +1,173 @@
+//! One damaged image on both sides.
+
+use std::{collections::BTreeMap, fmt};
+
+use oracle::{Call, Desk, Limits, random::Random};
+
+use crate::{
+  Answer, Core, Image, Made, Unseen, every_call, image, layout::*, out::Out, step::Both,
+  well_formed,
+};
+
+/// What was counted, by kind of damage: images that are well formed all the
+/// same, and images that are not.
+#[derive(Debug, Clone, Default)]
+pub struct Verdicts {
+  pub kinds: BTreeMap<&'static str, [u64; 2]>,
+  pub calls: u64,
+}
+
+impl Verdicts {
+  /// Images of all kinds that are well formed, and that are not.
+  pub fn totals(&self) -> [u64; 2] {
+    [0, 1].map(|verdict| self.kinds.values().map(|counts| counts[verdict]).sum())
+  }
+}
+
+/// An image on which the core is wrong.
+#[derive(Debug, Clone)]
+pub struct Found {
+  kind: &'static str,
+  what: String,
+  image: Box<Image>,
+}
+
+pub struct Judge<'a, C> {
+  core: &'a mut C,
+  random: Random,
+  /// Calls whose arguments are in order, and calls whose are not.
+  every: [Vec<Call>; 2],
+  before: Image,
+  pub verdicts: Verdicts,
+}
+
+impl<'a, C: Core> Judge<'a, C> {
+  pub fn new(core: &'a mut C, seed: u64) -> Self {
+    let mut random = Random::new(seed);
+    let before = Image::junk(Vec::new(), &mut random);
+    let mut every = [every_call::accepted(), every_call::refused()];
+    every.iter_mut().for_each(|calls| calls.retain(|call| core.has(call)));
+    Self { core, random, every, before, verdicts: Verdicts::default() }
+  }
+
+  /// Judges the image, which is left as it is.
+  pub fn image(&mut self, kind: &'static str, image: &mut Image) -> Result<(), Found> {
+    self.before.copy_from(image);
+    let holds = well_formed(&image.source, &image.chunks, &image.pieces, &image.store);
+    self.verdicts.kinds.entry(kind).or_default()[!holds as usize] += 1;
+    let judged = self
+      .verdict(image, holds)
+      .and_then(|()| self.open(image))
+      .and_then(|()| if holds { self.calls_on_desk(image) } else { self.calls_on_no_desk(image) });
+    judged.map_err(|what| Found { kind, what, image: Box::new(self.before.clone()) })
+  }
+
+  fn verdict(&mut self, image: &mut Image, holds: bool) -> Result<(), String> {
+    let expected = if holds { Answer::ACCEPTED } else { Answer::NO_DESK };
+    let answer = self.core.well_formed(&image.lend());
+    self.check("well_formed", answer, expected, image)
+  }
+
+  /// Every call gives 2, leaves every byte and writes no buffer.
+  fn calls_on_no_desk(&mut self, image: &mut Image) -> Result<(), String> {
+    let every = std::mem::take(&mut self.every);
+    let calls = &every[self.random.below(2)];
+    let unseen = Unseen::any(&mut self.random);
+    let judged = calls.iter().try_for_each(|call| {
+      let room = call.clone().room_mut().copied().flatten().unwrap_or(0);
+      let mut out = Out::new(room as usize, &mut self.random);
+      let answer = self.core.call(&mut image.lend(), call, &unseen, out.lend());
+      let name = call.to_string();
+      self.check(&name, answer, Answer::NO_DESK, image)?;
+      out.check(&[]).map_err(|what| format!("{name}: {what}"))
+    });
+    self.every = every;
+    judged
+  }
+
+  /// The memory still means a desk: a few calls get the oracle's answers on it.
+  fn calls_on_desk(&mut self, image: &Image) -> Result<(), String> {
+    let mut both = Both::of(image.clone());
+    let calls = &self.every[self.random.below(2)];
+    let any = calls.get(self.random.below(calls.len().max(1))).cloned();
+    let calls = [Call::ToString { room: None }, Call::LastLine { room: None }];
+    for call in any.into_iter().chain(calls).filter(|call| self.core.has(call)).collect::<Vec<_>>()
+    {
+      self.verdicts.calls += 1;
+      let made = Made { call, seed: self.random.number() };
+      both.step(self.core, &made).map_err(|what| format!("{}: {what}", made.call))?;
+    }
+    Ok(())
+  }
+
+  /// An opening looks at the lengths of the tables and at no word in them.
+  fn open(&mut self, image: &Image) -> Result<(), String> {
+    let mut image = image.clone();
+    let call = Call::Open { source: image.source.clone() };
+    let answer = self.core.call(&mut image.lend(), &call, &Unseen::PLAIN, &mut []);
+    if !has_layout(&image) {
+      return self.check("open", answer, Answer::NO_DESK, &image);
+    }
+    let desk = match Desk::open(Limits::FULL, &image.source) {
+      Err(number) => return self.check("open", answer, Answer { number, value: 0 }, &image),
+      Ok(desk) => desk.data(),
+    };
+    self.verdicts.calls += 1;
+    let opened = answer == Answer::ACCEPTED
+      && image.source == self.before.source
+      && well_formed(&image.source, &image.chunks, &image.pieces, &image.store)
+      && image::decode(&image.source, &image.chunks, &image.pieces, &image.store) == desk;
+    if opened { Ok(()) } else { Err("open does not make a fresh desk".to_string()) }
+  }
+
+  /// The answer is the one expected, and no byte changed.
+  fn check(
+    &mut self,
+    name: &str,
+    answer: Answer,
+    expected: Answer,
+    image: &Image,
+  ) -> Result<(), String> {
+    self.verdicts.calls += 1;
+    if answer != expected {
+      return Err(format!("{name} gives {answer:?}, not {expected:?}"));
+    }
+    if *image != self.before {
+      return Err(format!("{name} changed the lent memory"));
+    }
+    Ok(())
+  }
+}
+
+fn has_layout(image: &Image) -> bool {
+  image.chunks.len() == CHUNK_WORDS
+    && image.pieces.len() == PIECE_WORDS
+    && image.store.len() == STORE_BYTES
+}
+
+impl fmt::Display for Verdicts {
+  fn fmt(&self, out: &mut fmt::Formatter) -> fmt::Result {
+    for (kind, [well, ill]) in &self.kinds {
+      writeln!(out, "  {kind}: {well} well formed, {ill} not")?;
+    }
+    let [well, ill] = self.totals();
+    writeln!(out, "images: {}, {well} well formed, {ill} not", well + ill)?;
+    writeln!(out, "calls: {}", self.calls)
+  }
+}
+
+/// The damage, the difference, and the words in use.
+impl fmt::Display for Found {
+  fn fmt(&self, out: &mut fmt::Formatter) -> fmt::Result {
+    let image = &self.image;
+    writeln!(out, "{}: {}", self.kind, self.what)?;
+    writeln!(out, "source: {:02x?}", image.source)?;
+    let lengths = [image.chunks.len(), image.pieces.len(), image.store.len()];
+    writeln!(out, "lengths of chunks, pieces, store: {lengths:?}")?;
+    let rows = image.chunks.first().map_or(0, |&count| count.min(8) as usize);
+    for (number, row) in image.chunks.chunks(ROW).take(rows + 1).enumerate() {
+      writeln!(out, "row {number}: {row:?}")?;
+    }
+    Ok(())
+  }
+}

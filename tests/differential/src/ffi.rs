@@ -1,0 +1,211 @@
+//! The exported functions (include/magic_string.h) and a method of `Lent` for
+//! each. A slice passes as its address and its length in elements.
+
+use crate::{Answer, Lent};
+
+/// Declares functions that take the tables by `$pointer` after the source, and
+/// their own arguments behind them.
+macro_rules! exported {
+  ($pointer:tt $($name:ident($($argument:ident: $type:ty),*);)*) => {
+    unsafe extern "C" {
+      $(fn $name(
+        source: *const u8, source_len: usize,
+        chunks: *$pointer u32, chunks_len: usize,
+        pieces: *$pointer u32, pieces_len: usize,
+        store: *$pointer u8, store_len: usize,
+        $($argument: $type),*
+      ) -> Answer;)*
+    }
+  };
+}
+
+exported! { mut
+  magic_string_open();
+  magic_string_remove(start: u32, end: u32);
+  magic_string_update_with(
+    start: u32, end: u32, text: *const u8, text_len: usize, overwrite: u32
+  );
+  magic_string_reset(start: u32, end: u32);
+  magic_string_append_left(at: u32, text: *const u8, text_len: usize);
+  magic_string_append_right(at: u32, text: *const u8, text_len: usize);
+  magic_string_prepend_left(at: u32, text: *const u8, text_len: usize);
+  magic_string_prepend_right(at: u32, text: *const u8, text_len: usize);
+  magic_string_append(text: *const u8, text_len: usize);
+  magic_string_prepend(text: *const u8, text_len: usize);
+  magic_string_relocate(start: u32, end: u32, to: u32);
+  magic_string_trim(pattern: u32);
+  magic_string_trim_start(pattern: u32);
+  magic_string_trim_end(pattern: u32);
+  magic_string_trim_lines();
+  magic_string_indent_with(
+    has_indentor: u32, indentor: *const u8, indentor_len: usize,
+    exclude: *const u32, exclude_len: usize
+  );
+}
+
+exported! { const
+  magic_string_slice(start: u32, has_end: u32, end: u32, out: *mut u8, out_len: usize);
+  magic_string_to_string(out: *mut u8, out_len: usize);
+  magic_string_last_line(out: *mut u8, out_len: usize);
+  magic_string_get_indent_string(out: *mut u8, out_len: usize);
+  magic_string_len();
+  magic_string_len_utf16();
+  magic_string_line_count();
+  magic_string_is_empty();
+  magic_string_has_changed();
+  magic_string_is_range_within_edited_chunk(start: u32, end: u32);
+  magic_string_last_char();
+  magic_string_well_formed();
+}
+
+/// Calls a function that may write to the tables.
+macro_rules! edit {
+  ($lent:ident, $name:ident $(, $argument:expr)*) => {
+    // Sound: each address comes with the length of the slice that it is of, the
+    // slices are borrowed for the call, and those that are written are apart.
+    unsafe {
+      $name(
+        $lent.source.as_ptr(), $lent.source.len(),
+        $lent.chunks.as_mut_ptr(), $lent.chunks.len(),
+        $lent.pieces.as_mut_ptr(), $lent.pieces.len(),
+        $lent.store.as_mut_ptr(), $lent.store.len()
+        $(, $argument)*
+      )
+    }
+  };
+}
+
+/// Calls a function that reads the tables.
+macro_rules! report {
+  ($lent:ident, $name:ident $(, $argument:expr)*) => {
+    // Sound: as above.
+    unsafe {
+      $name(
+        $lent.source.as_ptr(), $lent.source.len(),
+        $lent.chunks.as_ptr(), $lent.chunks.len(),
+        $lent.pieces.as_ptr(), $lent.pieces.len(),
+        $lent.store.as_ptr(), $lent.store.len()
+        $(, $argument)*
+      )
+    }
+  };
+}
+
+/// Edits.
+impl Lent<'_> {
+  pub fn open(&mut self) -> Answer {
+    edit!(self, magic_string_open)
+  }
+
+  pub fn remove(&mut self, start: u32, end: u32) -> Answer {
+    edit!(self, magic_string_remove, start, end)
+  }
+
+  pub fn update_with(&mut self, start: u32, end: u32, text: &[u8], overwrite: u32) -> Answer {
+    edit!(self, magic_string_update_with, start, end, text.as_ptr(), text.len(), overwrite)
+  }
+
+  pub fn reset(&mut self, start: u32, end: u32) -> Answer {
+    edit!(self, magic_string_reset, start, end)
+  }
+
+  pub fn append_left(&mut self, at: u32, text: &[u8]) -> Answer {
+    edit!(self, magic_string_append_left, at, text.as_ptr(), text.len())
+  }
+
+  pub fn append_right(&mut self, at: u32, text: &[u8]) -> Answer {
+    edit!(self, magic_string_append_right, at, text.as_ptr(), text.len())
+  }
+
+  pub fn prepend_left(&mut self, at: u32, text: &[u8]) -> Answer {
+    edit!(self, magic_string_prepend_left, at, text.as_ptr(), text.len())
+  }
+
+  pub fn prepend_right(&mut self, at: u32, text: &[u8]) -> Answer {
+    edit!(self, magic_string_prepend_right, at, text.as_ptr(), text.len())
+  }
+
+  pub fn append(&mut self, text: &[u8]) -> Answer {
+    edit!(self, magic_string_append, text.as_ptr(), text.len())
+  }
+
+  pub fn prepend(&mut self, text: &[u8]) -> Answer {
+    edit!(self, magic_string_prepend, text.as_ptr(), text.len())
+  }
+
+  pub fn relocate(&mut self, start: u32, end: u32, to: u32) -> Answer {
+    edit!(self, magic_string_relocate, start, end, to)
+  }
+
+  pub fn trim(&mut self, pattern: u32) -> Answer {
+    edit!(self, magic_string_trim, pattern)
+  }
+
+  pub fn trim_start(&mut self, pattern: u32) -> Answer {
+    edit!(self, magic_string_trim_start, pattern)
+  }
+
+  pub fn trim_end(&mut self, pattern: u32) -> Answer {
+    edit!(self, magic_string_trim_end, pattern)
+  }
+
+  pub fn trim_lines(&mut self) -> Answer {
+    edit!(self, magic_string_trim_lines)
+  }
+
+  pub fn indent_with(&mut self, has_indentor: u32, indentor: &[u8], exclude: &[u32]) -> Answer {
+    let (at, len) = (indentor.as_ptr(), indentor.len());
+    edit!(self, magic_string_indent_with, has_indentor, at, len, exclude.as_ptr(), exclude.len())
+  }
+}
+
+/// Reports. Those that fill `out` answer how many bytes they wrote.
+impl Lent<'_> {
+  pub fn slice(&self, start: u32, has_end: u32, end: u32, out: &mut [u8]) -> Answer {
+    report!(self, magic_string_slice, start, has_end, end, out.as_mut_ptr(), out.len())
+  }
+
+  pub fn to_string(&self, out: &mut [u8]) -> Answer {
+    report!(self, magic_string_to_string, out.as_mut_ptr(), out.len())
+  }
+
+  pub fn last_line(&self, out: &mut [u8]) -> Answer {
+    report!(self, magic_string_last_line, out.as_mut_ptr(), out.len())
+  }
+
+  pub fn get_indent_string(&self, out: &mut [u8]) -> Answer {
+    report!(self, magic_string_get_indent_string, out.as_mut_ptr(), out.len())
+  }
+
+  pub fn len(&self) -> Answer {
+    report!(self, magic_string_len)
+  }
+
+  pub fn len_utf16(&self) -> Answer {
+    report!(self, magic_string_len_utf16)
+  }
+
+  pub fn line_count(&self) -> Answer {
+    report!(self, magic_string_line_count)
+  }
+
+  pub fn is_empty(&self) -> Answer {
+    report!(self, magic_string_is_empty)
+  }
+
+  pub fn has_changed(&self) -> Answer {
+    report!(self, magic_string_has_changed)
+  }
+
+  pub fn is_range_within_edited_chunk(&self, start: u32, end: u32) -> Answer {
+    report!(self, magic_string_is_range_within_edited_chunk, start, end)
+  }
+
+  pub fn last_char(&self) -> Answer {
+    report!(self, magic_string_last_char)
+  }
+
+  pub fn well_formed(&self) -> Answer {
+    report!(self, magic_string_well_formed)
+  }
+}

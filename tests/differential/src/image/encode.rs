@@ -1,0 +1,141 @@
+//! A desk as memory, with every freedom that the layout leaves: rows in any
+//! order, runs and texts anywhere apart, empty texts anywhere, junk in all words
+//! and bytes that are not looked at.
+
+use oracle::{ChunkData, DeskData, random::Random};
+
+use super::{
+  Image,
+  places::{places, shuffle},
+};
+use crate::layout::*;
+
+/// How blocks lie in their room: one behind the other from the front or up to
+/// the back, or anywhere.
+#[derive(Debug, Clone, Copy, PartialEq, Eq)]
+pub enum Fill {
+  Front,
+  Back,
+  Apart,
+}
+
+/// The choices for one image.
+#[derive(Debug, Clone, Copy)]
+pub struct Style {
+  runs: Fill,
+  texts: Fill,
+  rows_in_list_order: bool,
+}
+
+impl Style {
+  pub fn any(random: &mut Random) -> Self {
+    let mut fill =
+      || [Fill::Front, Fill::Back, Fill::Apart, Fill::Apart][(random.number() >> 32) as usize % 4];
+    Self { runs: fill(), texts: fill(), rows_in_list_order: random.one_in(4) }
+  }
+
+  /// No gaps, so that a step of one row or byte meets a neighbour.
+  pub fn tight() -> Self {
+    Self { runs: Fill::Front, texts: Fill::Front, rows_in_list_order: false }
+  }
+}
+
+/// Memory for the desk, of any style. The limits are not asked: a desk past them
+/// is placed too, as long as it has room.
+pub fn encode(desk: &DeskData, random: &mut Random) -> Image {
+  let style = Style::any(random);
+  encode_in(style, desk, random)
+}
+
+/// Memory for the desk in this style.
+pub fn encode_in(style: Style, desk: &DeskData, random: &mut Random) -> Image {
+  let image = Image::junk(desk.source.as_bytes().to_vec(), random);
+  let mut rows: Vec<usize> = (1..=desk.chunks.len()).collect();
+  if !style.rows_in_list_order {
+    shuffle(&mut rows, random);
+  }
+  let mut encoder = Encoder { image, texts: Texts::place(style.texts, desk, random) };
+  encoder.links(&rows);
+  encoder.lists(style.runs, desk, &rows, random);
+  for (chunk, &row) in desk.chunks.iter().zip(&rows) {
+    encoder.chunk(chunk, row);
+  }
+  encoder.image
+}
+
+/// The lists of a desk: those of row 0, then those of each chunk.
+fn lists(desk: &DeskData) -> impl Iterator<Item = &Vec<String>> {
+  let chunks = desk.chunks.iter().flat_map(|chunk| [&chunk.intro, &chunk.outro]);
+  [&desk.head, &desk.tail].into_iter().chain(chunks)
+}
+
+fn replacements(desk: &DeskData) -> impl Iterator<Item = &String> {
+  desk.chunks.iter().filter_map(|chunk| chunk.edited_content.as_ref())
+}
+
+/// Places of the texts, in the order in which the encoder asks for them.
+struct Texts(std::vec::IntoIter<usize>);
+
+impl Texts {
+  fn place(fill: Fill, desk: &DeskData, random: &mut Random) -> Self {
+    let texts = lists(desk).flatten().chain(replacements(desk));
+    let lengths: Vec<usize> = texts.map(String::len).collect();
+    Self(places(&lengths, STORE_BYTES, fill, random).into_iter())
+  }
+}
+
+struct Encoder {
+  image: Image,
+  texts: Texts,
+}
+
+impl Encoder {
+  /// The count, and the ring through the rows.
+  fn links(&mut self, rows: &[usize]) {
+    *self.image.word_mut(0, START) = rows.len() as u32;
+    let ring: Vec<usize> = [0].iter().chain(rows).chain(&[0]).copied().collect();
+    for pair in ring.windows(2) {
+      *self.image.word_mut(pair[0], NEXT) = pair[1] as u32;
+      *self.image.word_mut(pair[1], PREV) = pair[0] as u32;
+    }
+  }
+
+  /// The runs of all lists with their texts. Where an empty list would begin is
+  /// left as junk.
+  fn lists(&mut self, fill: Fill, desk: &DeskData, rows: &[usize], random: &mut Random) {
+    let lengths: Vec<usize> = lists(desk).map(Vec::len).collect();
+    let runs = places(&lengths, PIECE_ROWS, fill, random);
+    let rows = [0].iter().chain(rows);
+    let words = rows.flat_map(|&row| [(row, INTRO_AT, INTRO_N), (row, OUTRO_AT, OUTRO_N)]);
+    for ((list, run), (row, at, n)) in lists(desk).zip(runs).zip(words) {
+      *self.image.word_mut(row, n) = list.len() as u32;
+      if !list.is_empty() {
+        *self.image.word_mut(row, at) = run as u32;
+      }
+      for (offset, text) in list.iter().enumerate() {
+        let place = self.text(text);
+        *self.image.piece_mut(run + offset, AT) = place;
+        *self.image.piece_mut(run + offset, N) = text.len() as u32;
+      }
+    }
+  }
+
+  fn chunk(&mut self, chunk: &ChunkData, row: usize) {
+    *self.image.word_mut(row, START) = chunk.start;
+    *self.image.word_mut(row, END) = chunk.end;
+    match &chunk.edited_content {
+      None => *self.image.word_mut(row, TEXT_AT) = NONE,
+      Some(text) => {
+        *self.image.word_mut(row, TEXT_AT) = self.text(text);
+        *self.image.word_mut(row, TEXT_N) = text.len() as u32;
+      }
+    }
+  }
+
+  /// Writes the text to its place, which it gives.
+  fn text(&mut self, text: &str) -> u32 {
+    let place = self.texts.0.next().expect("every text has a place");
+    self.image.store[place..][..text.len()].copy_from_slice(text.as_bytes());
+    place as u32
+  }
+}

@@ -1,0 +1,31 @@
+//! Compares a core (the exported functions, or a stand-in) with the oracle: call
+//! by call on random scripts, and image by image on damaged memory.
+
+pub mod compare;
+pub mod cores;
+pub mod damage;
+mod every_call;
+#[cfg(feature = "archive")]
+mod ffi;
+pub mod image;
+pub mod keeps;
+pub mod layout;
+mod lent;
+pub mod made;
+#[cfg(feature = "archive")]
+mod missing;
+pub mod out;
+pub mod paper;
+pub mod papers;
+pub mod run;
+pub mod shrink;
+pub mod step;
+pub mod tally;
+mod well_formed;
+
+pub use cores::{Core, Unseen};
+pub use image::Image;
+pub use lent::{Answer, Lent};
+pub use paper::{Made, Paper, Start};
+pub use tally::Tally;
+pub use well_formed::well_formed;

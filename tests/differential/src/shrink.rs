@@ -1,0 +1,113 @@
+//! A smaller paper that still differs: calls are dropped, then pieces and
+//! replacements of a desk made by hand.
+
+use oracle::DeskData;
+
+use crate::{Core, Paper, Start, Tally, run::Difference, run::run};
+
+/// Papers that are tried at most.
+const MOST_TRIES: usize = 5_000;
+
+/// The smallest paper found, with its difference. `paper` must have one.
+pub fn shrink<C: Core + Clone>(core: &C, paper: Paper, found: Difference) -> (Paper, Difference) {
+  let mut shrinker = Shrinker { core, tries: 0, paper, found };
+  shrinker.cut_behind();
+  loop {
+    let before = (shrinker.paper.calls.len(), size(&shrinker.paper.start));
+    shrinker.drop_calls();
+    shrinker.simplify_desk();
+    if before == (shrinker.paper.calls.len(), size(&shrinker.paper.start)) {
+      return (shrinker.paper, shrinker.found);
+    }
+  }
+}
+
+struct Shrinker<'a, C> {
+  core: &'a C,
+  tries: usize,
+  paper: Paper,
+  found: Difference,
+}
+
+impl<C: Core + Clone> Shrinker<'_, C> {
+  /// Takes the paper if it still differs.
+  fn take(&mut self, paper: Paper) -> bool {
+    self.tries += 1;
+    if self.tries > MOST_TRIES {
+      return false;
+    }
+    let Err(found) = run(&mut self.core.clone(), &paper, &mut Tally::default()) else {
+      return false;
+    };
+    (self.paper, self.found) = (paper, found);
+    self.cut_behind();
+    true
+  }
+
+  /// Calls behind the difference say nothing.
+  fn cut_behind(&mut self) {
+    self.paper.calls.truncate(self.found.call.map_or(0, |call| call + 1));
+  }
+
+  /// Drops rows of calls, long ones first.
+  fn drop_calls(&mut self) {
+    let mut row = self.paper.calls.len();
+    while row > 0 {
+      let mut at = 0;
+      while at < self.paper.calls.len() {
+        let mut paper = self.paper.clone();
+        let end = paper.calls.len().min(at + row);
+        paper.calls.drain(at..end);
+        if !self.take(paper) {
+          at += row;
+        }
+      }
+      row /= 2;
+    }
+  }
+
+  fn simplify_desk(&mut self) {
+    let Start::Desk { desk, seed } = self.paper.start.clone() else { return };
+    for part in 0..4 * desk.chunks.len() + 3 {
+      // The desk as it now is: an earlier part may have been dropped.
+      let Start::Desk { mut desk, .. } = self.paper.start.clone() else { return };
+      if drop_part(&mut desk, part) {
+        self.take(Paper { start: Start::Desk { desk, seed }, ..self.paper.clone() });
+      }
+    }
+  }
+}
+
+/// Drops a list, or a replacement, or puts the chunks in source order. False
+/// where that changes nothing.
+fn drop_part(desk: &mut DeskData, part: usize) -> bool {
+  let before = desk.clone();
+  match part {
+    0 => desk.head.clear(),
+    1 => desk.tail.clear(),
+    2 => desk.chunks.sort_by_key(|chunk| chunk.start),
+    _ => {
+      let chunk = &mut desk.chunks[(part - 3) / 4];
+      match (part - 3) % 4 {
+        0 => chunk.intro.clear(),
+        1 => chunk.outro.clear(),
+        2 => chunk.edited_content = None,
+        _ => {
+          chunk.intro.pop();
+          chunk.outro.pop();
+        }
+      }
+    }
+  }
+  *desk != before
+}
+
+/// What simplifying makes smaller.
+fn size(start: &Start) -> usize {
+  let Start::Desk { desk, .. } = start else { return 0 };
+  let chunks = desk.chunks.iter();
+  let chunks = chunks
+    .map(|chunk| chunk.intro.len() + chunk.outro.len() + chunk.edited_content.is_some() as usize);
+  let turns = desk.chunks.windows(2).filter(|pair| pair[0].start > pair[1].start).count();
+  desk.head.len() + desk.tail.len() + chunks.sum::<usize>() + turns
+}

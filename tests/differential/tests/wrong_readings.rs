@@ -1,0 +1,123 @@
+//! Cores that read document 01 otherwise are caught: its traps, options and the
+//! arguments beside them, and freed places that are used again.
+
+use std::time::Duration;
+
+use differential::{
+  Answer, Core, Lent, Unseen, compare::compare, cores::StandIn, layout::*, well_formed,
+};
+use oracle::Call;
+
+/// Makes the call in place of the stand-in.
+type Fault = fn(&mut StandIn, &mut Lent, &Call, &Unseen, &mut [u8]) -> Answer;
+
+#[derive(Clone)]
+struct Wrong {
+  right: StandIn,
+  fault: Fault,
+}
+
+impl Core for Wrong {
+  fn name(&self) -> &'static str {
+    "wrong"
+  }
+
+  fn call(&mut self, lent: &mut Lent, call: &Call, unseen: &Unseen, out: &mut [u8]) -> Answer {
+    if !well_formed(lent.source, lent.chunks, lent.pieces, lent.store) {
+      return self.right.call(lent, call, unseen, out);
+    }
+    (self.fault)(&mut self.right, lent, call, unseen, out)
+  }
+
+  fn well_formed(&mut self, lent: &Lent) -> Answer {
+    self.right.well_formed(lent)
+  }
+}
+
+const FAULTS: [(&str, Fault); 8] = [
+  ("zero width is tested before 8", |right, lent, call, unseen, out| {
+    let answer = right.call(lent, call, unseen, out);
+    let zero_width = matches!(call, Call::Relocate { start, end, .. } if start == end);
+    if answer.number == 8 && zero_width { Answer::ACCEPTED } else { answer }
+  }),
+  ("the last character is the output's", |right, lent, call, unseen, out| {
+    if *call != Call::LastChar {
+      return right.call(lent, call, unseen, out);
+    }
+    let mut whole = vec![0; MOST_SOURCE + MOST_BYTES];
+    let written = right.call(lent, &Call::ToString { room: None }, unseen, &mut whole).value;
+    let text = str::from_utf8(&whole[..written as usize]).unwrap();
+    let value = text.chars().next_back().map_or(u32::MAX, |last| last as u32);
+    Answer { number: 0, value }
+  }),
+  ("only 1 says yes", |right, lent, call, unseen, out| {
+    let absent = match call {
+      Call::Slice { start, end: Some(_), room } if unseen.yes != 1 => {
+        Call::Slice { start: *start, end: None, room: *room }
+      }
+      Call::IndentWith { indentor: Some(_), exclude } if unseen.yes != 1 => {
+        Call::IndentWith { indentor: None, exclude: exclude.clone() }
+      }
+      call => call.clone(),
+    };
+    right.call(lent, &absent, unseen, out)
+  }),
+  ("an absent indentor must be UTF-8", |right, lent, call, unseen, out| {
+    let absent = matches!(call, Call::IndentWith { indentor: None, .. });
+    if absent && str::from_utf8(unseen.text).is_err() {
+      return Answer { number: 1, value: 0 };
+    }
+    right.call(lent, call, unseen, out)
+  }),
+  ("an absent end must not be inside a character", |right, lent, call, unseen, out| {
+    let absent = matches!(call, Call::Slice { end: None, .. });
+    let byte = lent.source.get(unseen.position as usize);
+    if absent && byte.is_some_and(|byte| (0x80..0xc0).contains(byte)) {
+      return Answer { number: 3, value: 0 };
+    }
+    right.call(lent, call, unseen, out)
+  }),
+  ("a text needs one hole in the store", |right, lent, call, unseen, out| {
+    let hole = longest_hole(lent);
+    let answer = right.call(lent, call, unseen, out);
+    let long = call.text().is_some_and(|text| text.len() > hole);
+    if answer == Answer::ACCEPTED && long { Answer { number: 13, value: 0 } } else { answer }
+  }),
+  ("positions past the end are refused", |right, lent, call, unseen, out| {
+    let past = matches!(call, Call::Remove { end, .. } if *end as usize > lent.source.len());
+    let answer = right.call(lent, call, unseen, out);
+    if answer.number == 0 && past { Answer { number: 10, value: 0 } } else { answer }
+  }),
+  ("a reversed range report is refused", |right, lent, call, unseen, out| {
+    let reversed = matches!(call, Call::IsRangeWithinEditedChunk { start, end } if end < start);
+    let answer = right.call(lent, call, unseen, out);
+    if reversed { Answer { number: 4, value: 0 } } else { answer }
+  }),
+];
+
+/// The longest row of bytes that no text has.
+fn longest_hole(lent: &Lent) -> usize {
+  let mut taken = vec![false; STORE_BYTES];
+  let mut take = |at: u32, n: u32| taken[at as usize..][..n as usize].fill(true);
+  let rows = lent.chunks.chunks(ROW).take(1 + lent.chunks[START] as usize);
+  for (number, row) in rows.enumerate() {
+    for (at, n) in [(row[INTRO_AT], row[INTRO_N]), (row[OUTRO_AT], row[OUTRO_N])] {
+      let run = lent.pieces.chunks(PIECE).skip(at as usize).take(n as usize);
+      run.for_each(|piece| take(piece[AT], piece[N]));
+    }
+    if number > 0 && row[TEXT_AT] != NONE {
+      take(row[TEXT_AT], row[TEXT_N]);
+    }
+  }
+  taken.split(|&taken| taken).map(<[bool]>::len).max().unwrap_or(0)
+}
+
+#[test]
+fn wrong_readings_are_caught() {
+  for (name, fault) in FAULTS {
+    let mut core = Wrong { right: StandIn::new(1), fault };
+    let compared = compare(&mut core, 7, 50_000, Duration::MAX);
+    println!("{name}: {} calls", compared.tally.calls);
+    assert!(compared.different.is_some(), "not caught: {name}");
+  }
+}
