@@ -1,6 +1,6 @@
 // The calls that change a desk.
 ghost use mathlib.Core.Path.{_≡_};
-ghost use Rattle.model.specs.Call.{remove, reset};
+ghost use Rattle.model.specs.Call.{remove, reset, append-left, append-right, prepend-left, prepend-right, append, prepend};
 ghost use Rattle.memory.specs.Calls.{Edited};
 use texts::Answer;
 
@@ -40,6 +40,136 @@ pub extern "C" fn magic_string_reset(
 {
     if well_formed::well_formed(source, chunks, pieces, store) {
         let number = reset::reset(source, chunks, pieces, store, start, end);
+        return Answer { number, value: 0 };
+    }
+    Answer {
+        number: 2,
+        value: 0,
+    }
+}
+
+#[no_mangle]
+pub extern "C" fn magic_string_append_left(
+    source: &[u8],
+    chunks: &mut [u32],
+    pieces: &mut [u32],
+    store: &mut [u8],
+    at: u32,
+    text: &[u8],
+) -> Answer
+    ensures { λ r. ⌜ Edited (append-left at (now (text .entry))) (now (source .entry)) (now (chunks .entry)) (now (pieces .entry)) (now (store .entry))
+        (now (chunks .exit)) (now (pieces .exit)) (now (store .exit)) (r .number) × (r .value ≡ 0) ⌝ }
+{
+    if well_formed::well_formed(source, chunks, pieces, store) {
+        let number = append::append_left(source, chunks, pieces, store, at, text);
+        return Answer { number, value: 0 };
+    }
+    Answer {
+        number: 2,
+        value: 0,
+    }
+}
+
+#[no_mangle]
+pub extern "C" fn magic_string_append_right(
+    source: &[u8],
+    chunks: &mut [u32],
+    pieces: &mut [u32],
+    store: &mut [u8],
+    at: u32,
+    text: &[u8],
+) -> Answer
+    ensures { λ r. ⌜ Edited (append-right at (now (text .entry))) (now (source .entry)) (now (chunks .entry)) (now (pieces .entry)) (now (store .entry))
+        (now (chunks .exit)) (now (pieces .exit)) (now (store .exit)) (r .number) × (r .value ≡ 0) ⌝ }
+{
+    if well_formed::well_formed(source, chunks, pieces, store) {
+        let number = append::append_right(source, chunks, pieces, store, at, text);
+        return Answer { number, value: 0 };
+    }
+    Answer {
+        number: 2,
+        value: 0,
+    }
+}
+
+#[no_mangle]
+pub extern "C" fn magic_string_prepend_left(
+    source: &[u8],
+    chunks: &mut [u32],
+    pieces: &mut [u32],
+    store: &mut [u8],
+    at: u32,
+    text: &[u8],
+) -> Answer
+    ensures { λ r. ⌜ Edited (prepend-left at (now (text .entry))) (now (source .entry)) (now (chunks .entry)) (now (pieces .entry)) (now (store .entry))
+        (now (chunks .exit)) (now (pieces .exit)) (now (store .exit)) (r .number) × (r .value ≡ 0) ⌝ }
+{
+    if well_formed::well_formed(source, chunks, pieces, store) {
+        let number = prepend::prepend_left(source, chunks, pieces, store, at, text);
+        return Answer { number, value: 0 };
+    }
+    Answer {
+        number: 2,
+        value: 0,
+    }
+}
+
+#[no_mangle]
+pub extern "C" fn magic_string_prepend_right(
+    source: &[u8],
+    chunks: &mut [u32],
+    pieces: &mut [u32],
+    store: &mut [u8],
+    at: u32,
+    text: &[u8],
+) -> Answer
+    ensures { λ r. ⌜ Edited (prepend-right at (now (text .entry))) (now (source .entry)) (now (chunks .entry)) (now (pieces .entry)) (now (store .entry))
+        (now (chunks .exit)) (now (pieces .exit)) (now (store .exit)) (r .number) × (r .value ≡ 0) ⌝ }
+{
+    if well_formed::well_formed(source, chunks, pieces, store) {
+        let number = prepend::prepend_right(source, chunks, pieces, store, at, text);
+        return Answer { number, value: 0 };
+    }
+    Answer {
+        number: 2,
+        value: 0,
+    }
+}
+
+#[no_mangle]
+pub extern "C" fn magic_string_append(
+    source: &[u8],
+    chunks: &mut [u32],
+    pieces: &mut [u32],
+    store: &mut [u8],
+    text: &[u8],
+) -> Answer
+    ensures { λ r. ⌜ Edited (append (now (text .entry))) (now (source .entry)) (now (chunks .entry)) (now (pieces .entry)) (now (store .entry))
+        (now (chunks .exit)) (now (pieces .exit)) (now (store .exit)) (r .number) × (r .value ≡ 0) ⌝ }
+{
+    if well_formed::well_formed(source, chunks, pieces, store) {
+        let number = append::append(source, chunks, pieces, store, text);
+        return Answer { number, value: 0 };
+    }
+    Answer {
+        number: 2,
+        value: 0,
+    }
+}
+
+#[no_mangle]
+pub extern "C" fn magic_string_prepend(
+    source: &[u8],
+    chunks: &mut [u32],
+    pieces: &mut [u32],
+    store: &mut [u8],
+    text: &[u8],
+) -> Answer
+    ensures { λ r. ⌜ Edited (prepend (now (text .entry))) (now (source .entry)) (now (chunks .entry)) (now (pieces .entry)) (now (store .entry))
+        (now (chunks .exit)) (now (pieces .exit)) (now (store .exit)) (r .number) × (r .value ≡ 0) ⌝ }
+{
+    if well_formed::well_formed(source, chunks, pieces, store) {
+        let number = prepend::prepend(source, chunks, pieces, store, text);
         return Answer { number, value: 0 };
     }
     Answer {

@@ -1,5 +1,4 @@
 // The calls that report on a desk.
-ghost use mathlib.Core.Path.{_≡_};
 ghost use mathlib.Core.List.{[]};
 ghost use lib.ListN.{length};
 ghost use Rattle.model.specs.Call.{to-string as ToString, len as Len, len-utf16 as LenUtf16, line-count as LineCount, is-empty as IsEmpty};

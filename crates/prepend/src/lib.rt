@@ -1,0 +1,66 @@
+// prepend.rs: a piece at the front of a piece list.
+ghost use Rattle.model.specs.Call.{prepend-left, prepend-right, prepend};
+ghost use Rattle.memory.specs.WellFormed.{WellFormed};
+ghost use Rattle.memory.specs.Calls.{Ran};
+
+// `prepend_left`: 1, 3, then the cut and the piece.
+pub fn prepend_left(
+    source: &[u8],
+    chunks: &mut [u32],
+    pieces: &mut [u32],
+    store: &mut [u8],
+    at: u32,
+    text: &[u8],
+) -> u32
+    requires { ⌜ WellFormed (now source) (now chunks) (now pieces) (now store) ⌝ }
+    ensures { λ r. ⌜ Ran (prepend-left at (now (text .entry))) (now (source .entry)) (now (chunks .entry)) (now (pieces .entry)) (now (store .entry))
+        (now (chunks .exit)) (now (pieces .exit)) (now (store .exit)) r ⌝ }
+{
+    if utf8::valid(text) {
+        if utf8::boundary(source, at as usize) {
+            return insert::insert_with(source, chunks, pieces, store, text, at, true, true);
+        }
+        return 3;
+    }
+    1
+}
+
+// `prepend_right`: 1, 3, then the cut and the piece.
+pub fn prepend_right(
+    source: &[u8],
+    chunks: &mut [u32],
+    pieces: &mut [u32],
+    store: &mut [u8],
+    at: u32,
+    text: &[u8],
+) -> u32
+    requires { ⌜ WellFormed (now source) (now chunks) (now pieces) (now store) ⌝ }
+    ensures { λ r. ⌜ Ran (prepend-right at (now (text .entry))) (now (source .entry)) (now (chunks .entry)) (now (pieces .entry)) (now (store .entry))
+        (now (chunks .exit)) (now (pieces .exit)) (now (store .exit)) r ⌝ }
+{
+    if utf8::valid(text) {
+        if utf8::boundary(source, at as usize) {
+            return insert::insert_with(source, chunks, pieces, store, text, at, false, true);
+        }
+        return 3;
+    }
+    1
+}
+
+// `prepend`: 1, then the piece for the head.
+pub fn prepend(
+    source: &[u8],
+    chunks: &mut [u32],
+    pieces: &mut [u32],
+    store: &mut [u8],
+    text: &[u8],
+) -> u32
+    requires { ⌜ WellFormed (now source) (now chunks) (now pieces) (now store) ⌝ }
+    ensures { λ r. ⌜ Ran (prepend (now (text .entry))) (now (source .entry)) (now (chunks .entry)) (now (pieces .entry)) (now (store .entry))
+        (now (chunks .exit)) (now (pieces .exit)) (now (store .exit)) r ⌝ }
+{
+    if utf8::valid(text) {
+        return insert::whole_with(source, chunks, pieces, store, text, false, true);
+    }
+    1
+}
