@@ -206,6 +206,13 @@ pub sections-are : (t : List ℕ) → Linked t → sections t ≡ headOf t ∷ (
 sections-are t l =
     rw (tabulate-cons (section t) (countOf t), section-head t, section-tail t, ← entries-tabulate t l)
 
+-- the list from chunk k on
+pub entries-drop : (t : List ℕ) (k : ℕ) → Linked t → k < countOf t → drop k (entries t) ≡ section t (suc k) ∷ drop (suc k) (entries t)
+entries-drop t k l h = rw (entries-tabulate t l) (tabulate-drop (λ j. section t (suc j)) (countOf t) k h)
+
+pub entries-end : (t : List ℕ) (k : ℕ) → Linked t → countOf t ≤ k → drop k (entries t) ≡ []
+entries-end t k l h = drop-of-length-le (entries t) {i = k} (rw (entries-tabulate t l, length-tabulate (λ j. section t (suc j)) (countOf t)) h)
+
 -- an entry of the list, by its number
 pub each-section : {P : Entry → Type 0} (t : List ℕ) → Linked t → All P (entries t) → P (headOf t) → P (tailOf t) → (g : ℕ) → P (section t g)
 each-section t l a h k zero = rw section-head h
@@ -218,7 +225,6 @@ each-section {P} t l a h k (suc g) =
     last-of : (xs : List Entry) (y : Entry) → All P (xs ++ (y ∷ [])) → All P xs × P y
     last-of [] y (cons b c) = (nil, b)
     last-of (x ∷ xs) y (cons b c) = let r = last-of xs y c in (cons b (r .0), r .1)
-
     at-of : (f : ℕ → Entry) (n : ℕ) → All P (tabulate f n) → (k : ℕ) → k < n → P (f k)
     at-of f zero a k h = absurd (omega arith)
     at-of f (suc n) a k h =

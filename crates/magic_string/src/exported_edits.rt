@@ -1,7 +1,8 @@
 // The calls that change a desk.
 ghost use mathlib.Core.Path.{_≡_};
-ghost use Rattle.model.specs.Call.{remove, reset, append-left, append-right, prepend-left, prepend-right, append, prepend};
+ghost use Rattle.model.specs.Call.{remove, reset, append-left, append-right, prepend-left, prepend-right, append, prepend, relocate};
 ghost use Rattle.memory.specs.Calls.{Edited};
+
 use texts::Answer;
 
 #[no_mangle]
@@ -170,6 +171,29 @@ pub extern "C" fn magic_string_prepend(
 {
     if well_formed::well_formed(source, chunks, pieces, store) {
         let number = prepend::prepend(source, chunks, pieces, store, text);
+        return Answer { number, value: 0 };
+    }
+    Answer {
+        number: 2,
+        value: 0,
+    }
+}
+
+#[no_mangle]
+pub extern "C" fn magic_string_relocate(
+    source: &[u8],
+    chunks: &mut [u32],
+    pieces: &mut [u32],
+    store: &mut [u8],
+    start: u32,
+    end: u32,
+    to: u32,
+) -> Answer
+    ensures { λ r. ⌜ Edited (relocate start end to) (now (source .entry)) (now (chunks .entry)) (now (pieces .entry)) (now (store .entry))
+        (now (chunks .exit)) (now (pieces .exit)) (now (store .exit)) (r .number) × (r .value ≡ 0) ⌝ }
+{
+    if well_formed::well_formed(source, chunks, pieces, store) {
+        let number = relocate::relocate(source, chunks, pieces, store, start, end, to);
         return Answer { number, value: 0 };
     }
     Answer {

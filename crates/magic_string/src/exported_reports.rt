@@ -1,8 +1,9 @@
 // The calls that report on a desk.
 ghost use mathlib.Core.List.{[]};
 ghost use lib.ListN.{length};
-ghost use Rattle.model.specs.Call.{to-string as ToString, len as Len, len-utf16 as LenUtf16, line-count as LineCount, is-empty as IsEmpty};
+ghost use Rattle.model.specs.Call.{to-string as ToString, len as Len, len-utf16 as LenUtf16, line-count as LineCount, is-empty as IsEmpty, has-changed as HasChanged, is-range-within-edited-chunk as IsRangeWithinEditedChunk};
 ghost use Rattle.memory.specs.Calls.{Reported};
+
 use texts::Answer;
 
 #[no_mangle]
@@ -89,6 +90,44 @@ pub extern "C" fn magic_string_is_empty<'a>(
 {
     if well_formed::well_formed(source, chunks, pieces, store) {
         return reports::is_empty(source, chunks, pieces, store);
+    }
+    Answer {
+        number: 2,
+        value: 0,
+    }
+}
+
+#[no_mangle]
+pub extern "C" fn magic_string_has_changed<'a>(
+    source: &'a [u8],
+    chunks: &[u32],
+    pieces: &[u32],
+    store: &'a [u8],
+) -> Answer
+    ensures { λ r. ⌜ Reported (HasChanged) (now (source .entry)) (now (chunks .entry)) (now (pieces .entry)) (now (store .entry)) [] [] (r .number) (r .value) ⌝ }
+{
+    if well_formed::well_formed(source, chunks, pieces, store) {
+        return reports::has_changed(source, chunks, pieces, store);
+    }
+    Answer {
+        number: 2,
+        value: 0,
+    }
+}
+
+#[no_mangle]
+pub extern "C" fn magic_string_is_range_within_edited_chunk<'a>(
+    source: &'a [u8],
+    chunks: &[u32],
+    pieces: &[u32],
+    store: &'a [u8],
+    start: u32,
+    end: u32,
+) -> Answer
+    ensures { λ r. ⌜ Reported (IsRangeWithinEditedChunk start end) (now (source .entry)) (now (chunks .entry)) (now (pieces .entry)) (now (store .entry)) [] [] (r .number) (r .value) ⌝ }
+{
+    if well_formed::well_formed(source, chunks, pieces, store) {
+        return reports::is_range_within_edited_chunk(source, chunks, pieces, store, start, end);
     }
     Answer {
         number: 2,

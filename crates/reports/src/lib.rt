@@ -6,13 +6,15 @@ ghost use lib.ListN.{length, drop};
 ghost use Rattle.table.specs.Order.{countOf};
 ghost use Rattle.model.specs.Text.{sum};
 ghost use Rattle.model.specs.MagicString.{to-string};
-ghost use Rattle.model.specs.Call.{to-string as ToString, len as Len, len-utf16 as LenUtf16, line-count as LineCount, is-empty as IsEmpty};
+ghost use Rattle.model.specs.Call.{to-string as ToString, len as Len, len-utf16 as LenUtf16, line-count as LineCount, is-empty as IsEmpty, has-changed as HasChanged, is-range-within-edited-chunk as IsRange};
 ghost use Rattle.memory.specs.Layout.{magicStringOf};
 ghost use Rattle.memory.specs.WellFormed.{WellFormed};
 ghost use Rattle.memory.specs.Calls.{Told};
 ghost use Rattle.measures.specs.Measures.{measureOf};
 ghost use Rattle.fragments.specs.Sections.{On, rest};
 ghost use Rattle.reports.specs.Totals.{Whole, OfChunks};
+ghost use Rattle.reports.specs.Changed.{prefix, within};
+
 use fragments::Cursor;
 use measures::Measure;
 use texts::Answer;
@@ -176,6 +178,106 @@ pub fn is_empty<'a>(source: &'a [u8], chunks: &[u32], pieces: &[u32], store: &'a
             number: 0,
             value: 1,
         };
+    }
+    Answer {
+        number: 0,
+        value: 0,
+    }
+}
+
+// Whether the source from o on begins with t.
+fn begins(source: &[u8], o: usize, t: &[u8]) -> bool
+    requires { ⌜ o ≤ length (now source) ⌝ }
+    ensures { λ r. ⌜ r ≡ prefix (now (t .entry)) (drop o (now (source .entry))) ⌝ }
+{
+    if source.len() - o < t.len() {
+        return false;
+    }
+    let mut i: usize = 0;
+    while i < t.len() {
+        if source[o + i] != t[i] {
+            return false;
+        }
+        i += 1;
+    }
+    true
+}
+
+// `has_changed`: whether the output is another text than the source.
+pub fn has_changed<'a>(source: &'a [u8], chunks: &[u32], pieces: &[u32], store: &'a [u8]) -> Answer
+    requires { ⌜ WellFormed (now source) (now chunks) (now pieces) (now store) ⌝ }
+    ensures { λ r. ⌜ Told HasChanged (magicStringOf (now (source .entry)) (now (chunks .entry)) (now (pieces .entry)) (now (store .entry))) [] [] (r .number) (r .value) ⌝ }
+{
+    let z = table::get_row(chunks, 0);
+    let stop = z.start + 2;
+    let mut o: usize = 0;
+    let mut c = Cursor {
+        section: 0,
+        row: 0,
+        item: 0,
+    };
+    while c.section < stop {
+        let t = fragments::fragment(source, chunks, pieces, store, c);
+        if !begins(source, o, t) {
+            return Answer {
+                number: 0,
+                value: 1,
+            };
+        }
+        o += t.len();
+        c = fragments::next(chunks, c);
+    }
+    if o == source.len() {
+        return Answer {
+            number: 0,
+            value: 0,
+        };
+    }
+    Answer {
+        number: 0,
+        value: 1,
+    }
+}
+
+// Whether a chunk from a up to b, with the replacement word text_at, is edited and holds the range.
+fn holds_range(a: u32, b: u32, text_at: u32, start: u32, end: u32) -> bool
+    ensures { λ r. ⌜ r ≡ within a b «text_at» start end ⌝ }
+{
+    if start < a {
+        return false;
+    }
+    if b < end {
+        return false;
+    }
+    text_at != texts::NONE
+}
+
+// `is_range_within_edited_chunk`.
+pub fn is_range_within_edited_chunk<'a>(
+    source: &'a [u8],
+    chunks: &[u32],
+    pieces: &[u32],
+    store: &'a [u8],
+    start: u32,
+    end: u32,
+) -> Answer
+    requires { ⌜ WellFormed (now source) (now chunks) (now pieces) (now store) ⌝ }
+    ensures { λ r. ⌜ Told (IsRange start end) (magicStringOf (now (source .entry)) (now (chunks .entry)) (now (pieces .entry)) (now (store .entry))) [] [] (r .number) (r .value) ⌝ }
+{
+    let z = table::get_row(chunks, 0);
+    let n = z.start;
+    let mut k: u32 = 0;
+    let mut row = z.next;
+    while k < n {
+        let r = table::get_row(chunks, row);
+        if holds_range(r.start, r.end, r.text_at, start, end) {
+            return Answer {
+                number: 0,
+                value: 1,
+            };
+        }
+        row = r.next;
+        k += 1;
     }
     Answer {
         number: 0,

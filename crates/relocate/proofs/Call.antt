@@ -1,0 +1,114 @@
+-- `relocate` as a call: what its tests give, and what its steps come to.
+use mathlib.Core.Path.{_≡_, refl, sym, ap, _∙_, subst}
+use mathlib.Core.Bool.{Bool, true, false, _&&_, cond}
+use mathlib.Core.List.{List, [], _∷_}
+use mathlib.Core.Logic.{_⊎_, inl, inr}
+use Prim.Native.Nat.{ℕ, suc, _≤_, _<_}
+use native.Mathlib.Omega.{arith}
+use lib.Dec.{ltb, leb, eqb}
+use lib.ListN.{length}
+use borrow.Author.Tests.{ne-eqb, eq-eqb, le-ltb, lt-ltb}
+use Rattle.utf8.specs.Rfc3629.{utf8, between}
+use Rattle.model.specs.Text.{all}
+use Rattle.model.specs.MagicString.{MagicString, ok, err}
+use Rattle.model.specs.Movement as movement-rs
+use Rattle.model.specs.Call.{relocate, steps, refused-before}
+use Rattle.memory.specs.Layout.{magicStringOf}
+use Rattle.memory.specs.WellFormed.{Readable, WellFormed}
+use Rattle.memory.specs.Calls.{idle, may-write, Ran}
+use Rattle.closed_forms.specs.SplitAt.{cuts-then}
+use Rattle.rebuild.specs.Rebuilt.{Finished}
+use Rattle.frame.specs.Loaded.{Loaded}
+use Rattle.frame.specs.Frame.{Scratch, Did, did-loaded, loaded-readable, ran-before, ran-same, ran-finished, refused-3, not-refused, may-write-0, may-write-6, may-write-9}
+use Rattle.split.specs.Lift.{source-of}
+use Rattle.split.specs.Cuts.{loaded-spans}
+use Rattle.relocate.specs.Relocated.{Spanned, Movable, move-step, RelocateDone, Tested}
+
+-- ── the steps, test by test ──
+module _ (a b to : ℕ) (m : MagicString) where
+  steps-inside : leb a to && leb to b ≡ true → steps (relocate a b to) m ≡ err 8 m
+  unfolding movement-rs.relocate
+  steps-inside h = rw h
+
+  module _ (h : leb a to && leb to b ≡ false) where
+    steps-same : a ≡ b → steps (relocate a b to) m ≡ ok m
+    unfolding movement-rs.relocate
+    steps-same e = rw (h, eq-eqb a b e)
+
+    steps-reversed : b < a → steps (relocate a b to) m ≡ err 4 m
+    unfolding movement-rs.relocate
+    steps-reversed e = rw (h, ne-eqb a b (λ z. omega arith), lt-ltb b a e)
+
+    steps-past : a < b → length (m .source) < b → steps (relocate a b to) m ≡ err 10 m
+    unfolding movement-rs.relocate
+    steps-past e l = rw (h, ne-eqb a b (λ z. omega arith), le-ltb b a (omega arith), lt-ltb (length (m .source)) b l)
+
+    steps-move : a < b → b ≤ length (m .source) → steps (relocate a b to) m ≡ cuts-then (a ∷ b ∷ to ∷ []) (move-step a b to) m
+    unfolding movement-rs.relocate
+    steps-move e l = rw (h, ne-eqb a b (λ z. omega arith), le-ltb b a (omega arith), le-ltb (length (m .source)) b l)
+
+busy : (a b to : ℕ) → a < b → idle (relocate a b to) ≡ false
+unfolding idle
+busy a b to h = ne-eqb a b (λ e. omega arith)
+
+writes : (a b to r : ℕ) → a < b → (r ≡ 0) ⊎ ((r ≡ 6) ⊎ (r ≡ 9)) → may-write (relocate a b to) r ≡ true
+writes a b to r h (inl z) = rw z (may-write-0 (relocate a b to) (busy a b to h))
+writes a b to r h (inr (inl z)) = rw z (may-write-6 (relocate a b to))
+writes a b to r h (inr (inr z)) = rw z (may-write-9 (relocate a b to))
+
+pub valid-source : {source t p s : List ℕ} → WellFormed source t p s → utf8 source ≡ true
+valid-source {source} {t} {p} {s} w = ap utf8 (sym (source-of source t p s)) ∙ w .desk .formed .source
+
+-- ── past the tests ──
+module _ {a b to : ℕ} {source t p s t₀ p₀ s₀ t1 p1 s1 : List ℕ} (w : WellFormed source t p s) (f : Scratch t₀ p₀ s₀) (d : Loaded t p s t₀ p₀ s₀ t1 p1 s1)
+    (k : Tested a b to source t p s) where
+  pub loaded-spanned : Spanned t1
+  loaded-spanned =
+      record {
+        source = source;
+        pieces = p;
+        store = s;
+        readable = loaded-readable w f d;
+        spans = loaded-spans w f d;
+        filled = omega (arith, k .movable .ascends, k .inside);
+      }
+
+  module _ {t2 : List ℕ} {r : ℕ} (x : RelocateDone a b to t1 t2 r) where
+    did : Did (cuts-then (a ∷ b ∷ to ∷ []) (move-step a b to)) source t p s t2 p1 s1 r
+    did = did-loaded w f d (x .leave source p s (loaded-readable w f d) (loaded-spans w f d))
+
+    pub relocated-readable : Readable t2 p1 s1
+    relocated-readable = did .readable
+
+    pub relocated : {t' p' s' : List ℕ} {r' : ℕ} → Finished t2 p1 s1 t p s t' p' s' r r' → Ran (relocate a b to) source t p s t' p' s' r'
+    relocated y =
+        let m = magicStringOf source t p s in
+        let q = steps-move a b to m (k .movable .outside) (k .movable .ascends) (omega (arith, k .inside, ap length (source-of source t p s))) in
+        ran-finished w (k .placed) (record { readable = did .readable; result = q ∙ did .result }) (writes a b to r (k .movable .ascends) (x .number)) y
+
+-- ── the tests ──
+module _ {source t p s : List ℕ} (a b to : ℕ) (w : WellFormed source t p s) where
+  pub relocate-outside : all (between source) (a ∷ b ∷ to ∷ []) ≡ false → Ran (relocate a b to) source t p s t p s 3
+  relocate-outside h = ran-before (relocate a b to) source t p s 2 3 w (refused-3 (relocate a b to) source t p s refl refl h) refl
+
+  module _ (h : all (between source) (a ∷ b ∷ to ∷ []) ≡ true) where
+    placed : refused-before (magicStringOf source t p s) (relocate a b to) ≡ 0
+    placed = not-refused (relocate a b to) source t p s refl refl h
+
+    pub relocate-inside : leb a to && leb to b ≡ true → Ran (relocate a b to) source t p s t p s 8
+    relocate-inside i = ran-same (relocate a b to) source t p s 8 w placed (steps-inside a b to (magicStringOf source t p s) i)
+
+    module _ (o : leb a to && leb to b ≡ false) where
+      pub relocate-nothing : a ≡ b → Ran (relocate a b to) source t p s t p s 0
+      relocate-nothing e = ran-same (relocate a b to) source t p s 0 w placed (steps-same a b to (magicStringOf source t p s) o e)
+
+      pub relocate-reversed : b < a → Ran (relocate a b to) source t p s t p s 4
+      relocate-reversed e = ran-same (relocate a b to) source t p s 4 w placed (steps-reversed a b to (magicStringOf source t p s) o e)
+
+      pub relocate-past : a < b → length source < b → Ran (relocate a b to) source t p s t p s 10
+      relocate-past e l =
+          ran-same (relocate a b to) source t p s 10 w placed
+          (steps-past a b to (magicStringOf source t p s) o e (omega (arith, l, ap length (source-of source t p s))))
+
+      pub relocate-tested : a < b → b ≤ length source → Tested a b to source t p s
+      relocate-tested e l = record { placed = placed; movable = record { ascends = e; outside = o }; inside = l }

@@ -1,0 +1,4 @@
+pub mod Segment
+pub mod Place
+pub mod Moving
+pub mod Call

@@ -1,0 +1,82 @@
+use mathlib.Core.Path.{_≡_, sym, _∙_}
+use native.Mathlib.Omega.{arith}
+use Rattle.relocate.proofs.Call.{valid-source, relocate-outside, relocate-inside, relocate-nothing, relocate-reversed, relocate-past, relocate-tested}
+use borrow.Author.Needs.{needs}
+use Rattle.relocate.proofs.relocate.Statement.{statement}
+use Rattle.relocate.proofs.relocate.Tie as tie
+use Rattle.relocate.proofs.relocate.Reads as reads
+use Rattle.relocate.proofs.relocate.Lts as lts
+use Rattle.relocate.proofs.between_three.Reads as between-three-reads
+use Rattle.relocate.proofs.inside_range.Reads as inside-range-reads
+use Rattle.relocate.proofs.relocate_with.Reads as relocate-with-reads
+
+between-three-requires : tie.Need-between-three-requires
+between-three-requires c κs =
+    valid-source (c .before .before .before .before .pre)
+
+inside-range-requires : tie.Need-inside-range-requires
+inside-range-requires c κs = search needs
+
+returns : tie.Need-returns
+returns c =
+    let start = c .before .before .before .before .before .before .before .before in
+    let placed = sym (c .before .before .before .between-three .ensures) ∙ c .before .before .if1 .taken in
+    relocate-inside _ _ _ (start .pre) placed (sym (c .before .inside-range .ensures) ∙ c .if2 .taken)
+
+returns-2 : tie.Need-returns-2
+returns-2 c =
+    let start = c .before .before .before .before .before .before .before .before .before in
+    let placed = sym (c .before .before .before .before .between-three .ensures) ∙ c .before .before .before .if1 .taken in
+    relocate-nothing _ _ _ (start .pre) placed (sym (c .before .before .inside-range .ensures) ∙ c .before .if2 .left) (c .if3 .taken)
+
+returns-3 : tie.Need-returns-3
+returns-3 c =
+    let start = c .before .before .before .before .before .before .before .before .before .before in
+    let placed = sym (c .before .before .before .before .before .between-three .ensures) ∙ c .before .before .before .before .if1 .taken in
+    relocate-reversed _ _ _ (start .pre) placed (sym (c .before .before .before .inside-range .ensures) ∙ c .before .before .if2 .left) (c .if4 .taken)
+
+returns-4 : tie.Need-returns-4
+returns-4 c =
+    let start = c .before .before .before .before .before .before .before .before .before .before .before in
+    let placed = sym (c .before .before .before .before .before .before .between-three .ensures) ∙ c .before .before .before .before .before .if1 .taken in
+    relocate-past _ _ _ (start .pre) placed (sym (c .before .before .before .before .inside-range .ensures) ∙ c .before .before .before .if2 .left) (omega (arith, c .before .before .if3 .left, c .before .if4 .left)) (c .if5 .taken)
+
+relocate-with-requires : tie.Need-relocate-with-requires
+relocate-with-requires c κs =
+    let start = c .before .before .before .before .before .before .before .before .before .before .before .before .before .before in
+    let placed = sym (c .before .before .before .before .before .before .before .before .before .between-three .ensures) ∙ c .before .before .before .before .before .before .before .before .if1 .taken in
+    (start .pre, relocate-tested _ _ _ (start .pre) placed (sym (c .before .before .before .before .before .before .before .inside-range .ensures) ∙ c .before .before .before .before .before .before .if2 .left) (omega (arith, c .before .before .before .before .before .if3 .left, c .before .before .before .before .if4 .left)) (omega (arith, c .before .before .before .if5 .left)))
+
+same-length : tie.Need-same-length
+same-length c = search needs
+
+same-length-2 : tie.Need-same-length-2
+same-length-2 c = search needs
+
+same-length-3 : tie.Need-same-length-3
+same-length-3 c = search needs
+
+returns-5 : tie.Need-returns-5
+returns-5 c = search needs
+
+returns-6 : tie.Need-returns-6
+returns-6 c =
+    let start = c .before .before .before .before .before .before in
+    relocate-outside _ _ _ (start .pre) (sym (c .before .between-three .ensures) ∙ c .if1 .left)
+
+pub relocate-spec : {M : Type 1} → statement M
+relocate-spec =
+    tie.close
+    (tie.spec
+    between-three-requires
+    inside-range-requires
+    returns
+    returns-2
+    returns-3
+    returns-4
+    relocate-with-requires
+    same-length
+    same-length-2
+    same-length-3
+    returns-5
+    returns-6)

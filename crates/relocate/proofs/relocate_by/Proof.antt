@@ -1,0 +1,67 @@
+use native.Mathlib.Omega.{arith}
+use Rattle.frame.specs.Frame.{loaded-roomy}
+use Rattle.relocate.proofs.Call.{loaded-spanned, relocated-readable, relocated}
+use borrow.Author.Needs.{needs}
+use Rattle.relocate.proofs.relocate_by.Statement.{statement}
+use Rattle.relocate.proofs.relocate_by.Tie as tie
+use Rattle.relocate.proofs.relocate_by.Reads as reads
+use Rattle.relocate.proofs.relocate_by.Lts as lts
+use Rattle.frame.proofs.finish.Reads as finish-reads
+use Rattle.frame.proofs.load.Reads as load-reads
+use Rattle.relocate.proofs.relocate_rows.Reads as relocate-rows-reads
+
+load-requires : tie.Need-load-requires
+load-requires c κs =
+    let start = c .before .before .before .before .before .before .before .before .before .before .before .before .before in
+    (omega (arith, start .pre .0 .sized .chunks, start .pre .1 .0 .chunks), omega (arith, start .pre .0 .sized .pieces, start .pre .1 .0 .pieces), omega (arith, start .pre .0 .sized .store, start .pre .1 .0 .store))
+
+relocate-rows-requires : tie.Need-relocate-rows-requires
+relocate-rows-requires c κs =
+    let start = c .before .before .before .before .before .before .before .before .before .before .before .before .before .before .before .before .before .before .before .before .before in
+    let load = c .before .before .before .before .before .before .before .load in
+    (loaded-roomy (start .pre .0) (start .pre .1 .0) (load .ensures), (loaded-spanned (start .pre .0) (start .pre .1 .0) (load .ensures) (start .pre .1 .1), start .pre .1 .1 .movable))
+
+finish-requires : tie.Need-finish-requires
+finish-requires c κs =
+    let start = c .before .before .before .before .before .before .before .before .before .before .before .before .before .before .before .before .before .before .before .before .before .before .before .before .before .before .before .before .before .before in
+    let load = c .before .before .before .before .before .before .before .before .before .before .before .before .before .before .before .before .load in
+    (relocated-readable (start .pre .0) (start .pre .1 .0) (load .ensures) (start .pre .1 .1) (c .before .before .before .before .before .before .before .before .relocate-rows .ensures), start .pre .0 .sized)
+
+same-length : tie.Need-same-length
+same-length c = search needs
+
+same-length-2 : tie.Need-same-length-2
+same-length-2 c = search needs
+
+same-length-3 : tie.Need-same-length-3
+same-length-3 c = search needs
+
+same-length-4 : tie.Need-same-length-4
+same-length-4 c = search needs
+
+same-length-5 : tie.Need-same-length-5
+same-length-5 c = search needs
+
+same-length-6 : tie.Need-same-length-6
+same-length-6 c = search needs
+
+returns : tie.Need-returns
+returns c =
+    let start = c .before .before .before .before .before .before .before .before .before .before .before .before .before .before .before .before .before .before .before .before .before .before .before .before .before .before .before .before .before .before .before .before .before .before .before .before .before in
+    let load = c .before .before .before .before .before .before .before .before .before .before .before .before .before .before .before .before .before .before .before .before .before .before .before .load in
+    relocated (start .pre .0) (start .pre .1 .0) (load .ensures) (start .pre .1 .1) (c .before .before .before .before .before .before .before .before .before .before .before .before .before .before .before .relocate-rows .ensures) (c .before .before .before .before .before .before .finish .ensures)
+
+pub relocate-by-spec : {M : Type 1} → statement M
+relocate-by-spec =
+    tie.close
+    (tie.spec
+    load-requires
+    relocate-rows-requires
+    finish-requires
+    same-length
+    same-length-2
+    same-length-3
+    same-length-4
+    same-length-5
+    same-length-6
+    returns)

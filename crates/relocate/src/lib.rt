@@ -1,0 +1,185 @@
+// movement.rs: `relocate`.
+ghost use mathlib.Core.Path.{_≡_};
+ghost use mathlib.Core.Bool.{true, _&&_};
+ghost use mathlib.Core.List.{[], _∷_};
+ghost use lib.Dec.{leb};
+ghost use Rattle.utf8.specs.Rfc3629.{utf8, between};
+ghost use Rattle.table.specs.Order.{Linked};
+ghost use Rattle.model.specs.Text.{all};
+ghost use Rattle.model.specs.Call.{relocate};
+ghost use Rattle.memory.specs.WellFormed.{WellFormed};
+ghost use Rattle.memory.specs.Calls.{Ran};
+ghost use Rattle.frame.specs.Frame.{Roomy, Scratch};
+ghost use Rattle.split.specs.Cuts.{CutsDone};
+ghost use Rattle.relocate.specs.Relocated.{PlaceIn, Spanned, Movable, RangeMoved, RelocateDone, Tested};
+
+use rows::Found;
+use rows::Key;
+use segment::Range;
+
+// Three cuts, each where the one before it is not refused.
+fn split_three(t: &mut [u32], a: u32, b: u32, to: u32) -> u32
+    requires { ⌜ Roomy 3 (now t) ⌝ }
+    ensures { λ r. ⌜ CutsDone (a ∷ b ∷ to ∷ []) (now (t .entry)) (now (t .exit)) r ⌝ }
+{
+    let r = split::split_at(t, a);
+    if r != 0 {
+        return r;
+    }
+    split::split_both(t, b, to)
+}
+
+// The row that the range goes before: that of the chunk that starts at `to`, or else row 0, which stands behind the last chunk.
+fn place_of(t: &[u32], to: u32) -> u32
+    requires { ⌜ Linked (now t) ⌝ }
+    ensures { λ r. ⌜ PlaceIn (now (t .entry)) to r ⌝ }
+{
+    let Found::At(i) = rows::find(t, Key::Start, to) else {
+        return 0;
+    };
+    i
+}
+
+// Behind the cuts: 9, nothing where the range stands there already, or the move.
+fn move_range(t: &mut [u32], a: u32, b: u32, to: u32) -> u32
+    requires { ⌜ Spanned (now t) ⌝ }
+    requires { ⌜ Movable a b to ⌝ }
+    ensures { λ r. ⌜ RangeMoved a b to (now (t .entry)) (now (t .exit)) r ⌝ }
+{
+    let Range::Whole(first, last) = segment::find_range(t, a, b) else {
+        return 9;
+    };
+    let n = place_of(t, to);
+    let l = table::get_row(t, last);
+    if l.next == n {
+        return 0;
+    }
+    rows::move_run(t, first, last, n);
+    0
+}
+
+// The cuts and the move, on scratch rows.
+fn relocate_rows(t: &mut [u32], a: u32, b: u32, to: u32) -> u32
+    requires { ⌜ Roomy 3 (now t) ⌝ }
+    requires { ⌜ Spanned (now t) ⌝ }
+    requires { ⌜ Movable a b to ⌝ }
+    ensures { λ r. ⌜ RelocateDone a b to (now (t .entry)) (now (t .exit)) r ⌝ }
+{
+    let r = split_three(t, a, b, to);
+    if r != 0 {
+        return r;
+    }
+    move_range(t, a, b, to)
+}
+
+// The same as a call past its tests, with scratch tables lent.
+fn relocate_by(
+    source: &[u8],
+    chunks: &mut [u32],
+    pieces: &mut [u32],
+    store: &mut [u8],
+    t: &mut [u32],
+    p: &mut [u32],
+    s: &mut [u8],
+    a: u32,
+    b: u32,
+    to: u32,
+) -> u32
+    requires { ⌜ WellFormed (now source) (now chunks) (now pieces) (now store) ⌝ }
+    requires { ⌜ Scratch (now t) (now p) (now s) ⌝ }
+    requires { ⌜ Tested a b to (now source) (now chunks) (now pieces) (now store) ⌝ }
+    ensures { λ r. ⌜ Ran (relocate a b to) (now (source .entry)) (now (chunks .entry)) (now (pieces .entry)) (now (store .entry))
+        (now (chunks .exit)) (now (pieces .exit)) (now (store .exit)) r ⌝ }
+{
+    frame::load(chunks, pieces, store, t, p, s);
+    let r = relocate_rows(t, a, b, to);
+    frame::finish(t, p, s, chunks, pieces, store, r)
+}
+
+// The same with scratch tables of its own.
+fn relocate_with(
+    source: &[u8],
+    chunks: &mut [u32],
+    pieces: &mut [u32],
+    store: &mut [u8],
+    a: u32,
+    b: u32,
+    to: u32,
+) -> u32
+    requires { ⌜ WellFormed (now source) (now chunks) (now pieces) (now store) ⌝ }
+    requires { ⌜ Tested a b to (now source) (now chunks) (now pieces) (now store) ⌝ }
+    ensures { λ r. ⌜ Ran (relocate a b to) (now (source .entry)) (now (chunks .entry)) (now (pieces .entry)) (now (store .entry))
+        (now (chunks .exit)) (now (pieces .exit)) (now (store .exit)) r ⌝ }
+{
+    let rows = 6192usize;
+    let words = 4096usize;
+    let size = 32768usize;
+    let mut t = [0u32; 6192];
+    let mut p = [0u32; 4096];
+    let mut s = [0u8; 32768];
+    relocate_by(
+        source,
+        chunks,
+        pieces,
+        store,
+        &mut t[..rows],
+        &mut p[..words],
+        &mut s[..size],
+        a,
+        b,
+        to,
+    )
+}
+
+// Whether three positions stand between characters.
+fn between_three(source: &[u8], a: u32, b: u32, to: u32) -> bool
+    requires { ⌜ utf8 (now source) ≡ true ⌝ }
+    ensures { λ r. ⌜ r ≡ all (between (now (source .entry))) (a ∷ b ∷ to ∷ []) ⌝ }
+{
+    if utf8::boundary(source, a as usize) {
+        return frame::between_both(source, b, to);
+    }
+    false
+}
+
+// Whether a position lies in a range or at its edge.
+fn inside_range(a: u32, b: u32, to: u32) -> bool
+    ensures { λ r. ⌜ r ≡ (leb a to && leb to b) ⌝ }
+{
+    if a <= to {
+        return to <= b;
+    }
+    false
+}
+
+// `relocate`: 3, 8, zero width is a no-op, 4, 10, then the cuts and the move.
+pub fn relocate(
+    source: &[u8],
+    chunks: &mut [u32],
+    pieces: &mut [u32],
+    store: &mut [u8],
+    start: u32,
+    end: u32,
+    to: u32,
+) -> u32
+    requires { ⌜ WellFormed (now source) (now chunks) (now pieces) (now store) ⌝ }
+    ensures { λ r. ⌜ Ran (relocate start end to) (now (source .entry)) (now (chunks .entry)) (now (pieces .entry)) (now (store .entry))
+        (now (chunks .exit)) (now (pieces .exit)) (now (store .exit)) r ⌝ }
+{
+    if between_three(source, start, end, to) {
+        if inside_range(start, end, to) {
+            return 8;
+        }
+        if start == end {
+            return 0;
+        }
+        if end < start {
+            return 4;
+        }
+        if source.len() < end as usize {
+            return 10;
+        }
+        return relocate_with(source, chunks, pieces, store, start, end, to);
+    }
+    3
+}
