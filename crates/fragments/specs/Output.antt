@@ -18,7 +18,7 @@ use Rattle.model.specs.Chunk.{Chunk, Span, start-of, end-of, content}
 use Rattle.model.specs.Chunk as chunk
 use Rattle.model.specs.MagicString.{MagicString, chunk-fragments, fragments, to-string, output-len, len}
 use Rattle.model.specs.Limits.{full, within, chunk-pieces, chunk-bytes, replacement-bytes, byte-count, piece-count}
-use Rattle.model.specs.WellFormed.{Covered, ProperSpan, Tiled} 
+use Rattle.model.specs.WellFormed.{Covered, ProperSpan, Tiled}
 use Rattle.model.specs.WellFormed as model
 use Rattle.memory.specs.Layout.{runOf, chunkOf, magicStringOf, replacementOf}
 use Rattle.memory.specs.WellFormed.{RunIn, ReplacementIn, EntryIn, RunsIn, Readable, WellFormed}
@@ -172,9 +172,9 @@ ready source t p s w =
       narrow = (
         omega (arith, r .linked .room, w .sized .chunks),
         λ g.
-        let x = run-short p s (section t g .intro .0) (section t g .intro .1) (h g .entry .runs .intro) in
-        let k = run-short p s (section t g .outro .0) (section t g .outro .1) (h g .entry .runs .outro) in
-        omega (arith, w .sized .pieces),
+            let x = run-short p s (section t g .intro .0) (section t g .intro .1) (h g .entry .runs .intro) in
+            let k = run-short p s (section t g .outro .0) (section t g .outro .1) (h g .entry .runs .outro) in
+            omega (arith, w .sized .pieces),
       );
       shown = h;
     }

@@ -225,6 +225,7 @@ each-section {P} t l a h k (suc g) =
     last-of : (xs : List Entry) (y : Entry) → All P (xs ++ (y ∷ [])) → All P xs × P y
     last-of [] y (cons b c) = (nil, b)
     last-of (x ∷ xs) y (cons b c) = let r = last-of xs y c in (cons b (r .0), r .1)
+
     at-of : (f : ℕ → Entry) (n : ℕ) → All P (tabulate f n) → (k : ℕ) → k < n → P (f k)
     at-of f zero a k h = absurd (omega arith)
     at-of f (suc n) a k h =

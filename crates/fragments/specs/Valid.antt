@@ -50,7 +50,7 @@ unfolding magicStringOf
 section-valid source t p s w =
     let f = w .desk .formed in
     let a = all-unmap {P = λ (c : Chunk). ValidTexts (c .texts) × Valid (part source (c .span))} (chunkOf p s) (entries t)
-        (all-both (f .texts) (part-valid source (map (chunkOf p s) (entries t)) (f .source) (f .covered))) in
+    (all-both (f .texts) (part-valid source (map (chunkOf p s) (entries t)) (f .source) (f .covered))) in
     let z : Valid (take 0 source) = utf8-nil in
     each-section {P = λ (e : Entry). All Valid (fragmentsOf source p s e)} t (w .readable .linked)
     (all-map (λ e h. all-append (runOf p s (e .intro)) _ (h .0 .intro)

@@ -7,7 +7,6 @@ ghost use Rattle.table.specs.Order.{entryOf, countOf, Linked};
 ghost use Rattle.memory.specs.WellFormed.{EntryIn};
 ghost use Rattle.texts.specs.Texts.{SpanIn};
 ghost use Rattle.fragments.specs.Sections.{sectionAt, section, SectionRow, size, fragmentsOf, Ready, On, Went, Narrow};
-
 use table::Row;
 
 // A place among the fragments: the section's number (0 for the head), its row (0 for head and tail), and the fragment's number in it.

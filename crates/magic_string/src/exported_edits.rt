@@ -2,7 +2,6 @@
 ghost use mathlib.Core.Path.{_≡_};
 ghost use Rattle.model.specs.Call.{remove, reset, append-left, append-right, prepend-left, prepend-right, append, prepend, relocate};
 ghost use Rattle.memory.specs.Calls.{Edited};
-
 use texts::Answer;
 
 #[no_mangle]

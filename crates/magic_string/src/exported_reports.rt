@@ -3,7 +3,6 @@ ghost use mathlib.Core.List.{[]};
 ghost use lib.ListN.{length};
 ghost use Rattle.model.specs.Call.{to-string as ToString, len as Len, len-utf16 as LenUtf16, line-count as LineCount, is-empty as IsEmpty, has-changed as HasChanged, is-range-within-edited-chunk as IsRangeWithinEditedChunk};
 ghost use Rattle.memory.specs.Calls.{Reported};
-
 use texts::Answer;
 
 #[no_mangle]

@@ -7,7 +7,6 @@ ghost use Rattle.utf8.specs.Rfc3629.{utf8 as isText};
 ghost use Rattle.model.specs.Text.{line-feeds};
 ghost use Rattle.model.specs.MagicString.{utf16-len};
 ghost use Rattle.measures.specs.Measures.{measureOf, filledOf, unitsOf, feedOf};
-
 use utf8::Decoded;
 
 // What is counted: bytes, UTF-16 units, line feeds, or texts that are not white space alone.

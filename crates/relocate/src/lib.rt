@@ -12,7 +12,6 @@ ghost use Rattle.memory.specs.Calls.{Ran};
 ghost use Rattle.frame.specs.Frame.{Roomy, Scratch};
 ghost use Rattle.split.specs.Cuts.{CutsDone};
 ghost use Rattle.relocate.specs.Relocated.{PlaceIn, Spanned, Movable, RangeMoved, RelocateDone, Tested};
-
 use rows::Found;
 use rows::Key;
 use segment::Range;

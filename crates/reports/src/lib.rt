@@ -14,7 +14,6 @@ ghost use Rattle.measures.specs.Measures.{measureOf};
 ghost use Rattle.fragments.specs.Sections.{On, rest};
 ghost use Rattle.reports.specs.Totals.{Whole, OfChunks};
 ghost use Rattle.reports.specs.Changed.{prefix, within};
-
 use fragments::Cursor;
 use measures::Measure;
 use texts::Answer;

@@ -71,5 +71,5 @@ starts-inside t b f (x ∷ xs) p h =
     let L = lastOf x xs in (
       (omega arith, omega (arith, p .0, h .1, r .0 .1)),
       each-map (λ y. (entryAt t x .start ≤ entryAt t y .start) × (entryAt t y .start < entryAt t L .end))
-      (λ y. (entryAt t f .start ≤ entryAt t y .start) × (entryAt t y .start < entryAt t L .end)) (λ y k. (omega (arith, p .0, h .1, k .0), k .1)) (x ∷ xs) r,
+          (λ y. (entryAt t f .start ≤ entryAt t y .start) × (entryAt t y .start < entryAt t L .end)) (λ y k. (omega (arith, p .0, h .1, k .0), k .1)) (x ∷ xs) r,
     )

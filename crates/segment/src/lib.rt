@@ -5,7 +5,6 @@ ghost use Prim.Native.Nat.{_+_, _*_, _≤_};
 ghost use lib.ListN.{length};
 ghost use Rattle.table.specs.Order.{Linked};
 ghost use Rattle.segment.specs.Range.{goes-on, RangeIn};
-
 use rows::Found;
 use rows::Key;
 

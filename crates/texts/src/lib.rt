@@ -10,7 +10,6 @@ ghost use Rattle.memory.specs.WellFormed.{PieceIn, RunIn, EntryIn};
 ghost use Rattle.texts.specs.Over.{Wrote};
 ghost use Rattle.texts.specs.Texts.{ContentIn, contentAt, chunkText, SpanIn};
 ghost use Rattle.texts.specs.Carry.{Pushed, RoomFor, Carried, RoomOf, withText};
-
 use table::Row;
 
 // What an exported call gives back: the number, and the value of a report (0 where nothing is reported).
