@@ -1,6 +1,7 @@
 -- From what the check decides and the inner call promises to what the exported call promises.
 use mathlib.Core.Path.{_≡_, refl, sym, _∙_}
-use mathlib.Core.Bool.{true, false}
+use mathlib.Core.Bool.{Bool, true, false, not}
+use lib.Dec.{eqb}
 use mathlib.Core.List.{List, [], _++_}
 use Prim.Native.Nat.{ℕ}
 use lib.ListN.{length, drop}
@@ -10,6 +11,10 @@ use Rattle.counts.specs.Counts.{Decides}
 use Rattle.memory.specs.Layout.{magicStringOf}
 use Rattle.memory.specs.WellFormed.{WellFormed}
 use Rattle.memory.specs.Calls.{Same, Ran, Edited, Told, Reported}
+
+-- an option: any number but 0 is yes
+abbrev pub flag : ℕ → Bool
+flag n = not (eqb n 0)
 
 -- the check as a call: 0 exactly if the memory holds a well-formed desk, else 2
 pub record Checked (source t p s : List ℕ) (number : ℕ) : Type 0 where

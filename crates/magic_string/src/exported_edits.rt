@@ -1,7 +1,8 @@
 // The calls that change a desk.
 ghost use mathlib.Core.Path.{_≡_};
-ghost use Rattle.model.specs.Call.{remove, reset, append-left, append-right, prepend-left, prepend-right, append, prepend, relocate};
+ghost use Rattle.model.specs.Call.{remove, update-with, reset, append-left, append-right, prepend-left, prepend-right, append, prepend, relocate};
 ghost use Rattle.memory.specs.Calls.{Edited};
+ghost use Rattle.magic_string.specs.Exported.{flag};
 use texts::Answer;
 
 #[no_mangle]
@@ -18,6 +19,39 @@ pub extern "C" fn magic_string_remove(
 {
     if well_formed::well_formed(source, chunks, pieces, store) {
         let number = movement::remove(source, chunks, pieces, store, start, end);
+        return Answer { number, value: 0 };
+    }
+    Answer {
+        number: 2,
+        value: 0,
+    }
+}
+
+#[no_mangle]
+pub extern "C" fn magic_string_update_with(
+    source: &[u8],
+    chunks: &mut [u32],
+    pieces: &mut [u32],
+    store: &mut [u8],
+    start: u32,
+    end: u32,
+    text: &[u8],
+    overwrite: u32,
+) -> Answer
+    ensures { λ r. ⌜ Edited (update-with start end (now (text .entry)) (flag overwrite)) (now (source .entry)) (now (chunks .entry)) (now (pieces .entry)) (now (store .entry))
+        (now (chunks .exit)) (now (pieces .exit)) (now (store .exit)) (r .number) × (r .value ≡ 0) ⌝ }
+{
+    if well_formed::well_formed(source, chunks, pieces, store) {
+        let number = update::update_with(
+            source,
+            chunks,
+            pieces,
+            store,
+            start,
+            end,
+            text,
+            overwrite != 0,
+        );
         return Answer { number, value: 0 };
     }
     Answer {

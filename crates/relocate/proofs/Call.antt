@@ -22,7 +22,8 @@ use Rattle.frame.specs.Loaded.{Loaded}
 use Rattle.frame.specs.Frame.{Scratch, Did, did-loaded, loaded-readable, ran-before, ran-same, ran-finished, refused-3, not-refused, may-write-0, may-write-6, may-write-9}
 use Rattle.split.specs.Lift.{source-of}
 use Rattle.split.specs.Cuts.{loaded-spans}
-use Rattle.relocate.specs.Relocated.{Spanned, Movable, move-step, RelocateDone, Tested}
+use Rattle.relocate_rows.specs.Relocated.{Spanned, Movable, move-step, RelocateDone}
+use Rattle.relocate.specs.Tested.{Tested}
 
 -- ── the steps, test by test ──
 module _ (a b to : ℕ) (m : MagicString) where

@@ -1,4 +1,1 @@
-pub mod Segment
-pub mod Place
-pub mod Moving
 pub mod Call

@@ -1,1 +1,1 @@
-pub mod Relocated
+pub mod Tested

@@ -1,77 +1,17 @@
-// movement.rs: `relocate`.
+// movement.rs: `relocate`, on lent memory.
 ghost use mathlib.Core.Path.{_≡_};
 ghost use mathlib.Core.Bool.{true, _&&_};
 ghost use mathlib.Core.List.{[], _∷_};
 ghost use lib.Dec.{leb};
 ghost use Rattle.utf8.specs.Rfc3629.{utf8, between};
-ghost use Rattle.table.specs.Order.{Linked};
 ghost use Rattle.model.specs.Text.{all};
 ghost use Rattle.model.specs.Call.{relocate};
 ghost use Rattle.memory.specs.WellFormed.{WellFormed};
 ghost use Rattle.memory.specs.Calls.{Ran};
-ghost use Rattle.frame.specs.Frame.{Roomy, Scratch};
-ghost use Rattle.split.specs.Cuts.{CutsDone};
-ghost use Rattle.relocate.specs.Relocated.{PlaceIn, Spanned, Movable, RangeMoved, RelocateDone, Tested};
-use rows::Found;
-use rows::Key;
-use segment::Range;
+ghost use Rattle.frame.specs.Frame.{Scratch};
+ghost use Rattle.relocate.specs.Tested.{Tested};
 
-// Three cuts, each where the one before it is not refused.
-fn split_three(t: &mut [u32], a: u32, b: u32, to: u32) -> u32
-    requires { ⌜ Roomy 3 (now t) ⌝ }
-    ensures { λ r. ⌜ CutsDone (a ∷ b ∷ to ∷ []) (now (t .entry)) (now (t .exit)) r ⌝ }
-{
-    let r = split::split_at(t, a);
-    if r != 0 {
-        return r;
-    }
-    split::split_both(t, b, to)
-}
-
-// The row that the range goes before: that of the chunk that starts at `to`, or else row 0, which stands behind the last chunk.
-fn place_of(t: &[u32], to: u32) -> u32
-    requires { ⌜ Linked (now t) ⌝ }
-    ensures { λ r. ⌜ PlaceIn (now (t .entry)) to r ⌝ }
-{
-    let Found::At(i) = rows::find(t, Key::Start, to) else {
-        return 0;
-    };
-    i
-}
-
-// Behind the cuts: 9, nothing where the range stands there already, or the move.
-fn move_range(t: &mut [u32], a: u32, b: u32, to: u32) -> u32
-    requires { ⌜ Spanned (now t) ⌝ }
-    requires { ⌜ Movable a b to ⌝ }
-    ensures { λ r. ⌜ RangeMoved a b to (now (t .entry)) (now (t .exit)) r ⌝ }
-{
-    let Range::Whole(first, last) = segment::find_range(t, a, b) else {
-        return 9;
-    };
-    let n = place_of(t, to);
-    let l = table::get_row(t, last);
-    if l.next == n {
-        return 0;
-    }
-    rows::move_run(t, first, last, n);
-    0
-}
-
-// The cuts and the move, on scratch rows.
-fn relocate_rows(t: &mut [u32], a: u32, b: u32, to: u32) -> u32
-    requires { ⌜ Roomy 3 (now t) ⌝ }
-    requires { ⌜ Spanned (now t) ⌝ }
-    requires { ⌜ Movable a b to ⌝ }
-    ensures { λ r. ⌜ RelocateDone a b to (now (t .entry)) (now (t .exit)) r ⌝ }
-{
-    let r = split_three(t, a, b, to);
-    if r != 0 {
-        return r;
-    }
-    move_range(t, a, b, to)
-}
-
-// The same as a call past its tests, with scratch tables lent.
+// `relocate` past its tests, with scratch tables lent.
 fn relocate_by(
     source: &[u8],
     chunks: &mut [u32],
@@ -91,7 +31,7 @@ fn relocate_by(
         (now (chunks .exit)) (now (pieces .exit)) (now (store .exit)) r ⌝ }
 {
     frame::load(chunks, pieces, store, t, p, s);
-    let r = relocate_rows(t, a, b, to);
+    let r = relocate_rows::relocate_rows(t, a, b, to);
     frame::finish(t, p, s, chunks, pieces, store, r)
 }
 
@@ -166,10 +106,12 @@ pub fn relocate(
         (now (chunks .exit)) (now (pieces .exit)) (now (store .exit)) r ⌝ }
 {
     if between_three(source, start, end, to) {
-        if inside_range(start, end, to) {
+        let inside = inside_range(start, end, to);
+        let nothing = start == end;
+        if inside {
             return 8;
         }
-        if start == end {
+        if nothing {
             return 0;
         }
         if end < start {

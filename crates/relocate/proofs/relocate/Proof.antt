@@ -1,3 +1,4 @@
+use borrow.Author.Tests.{eqb-true, eqb-false}
 use mathlib.Core.Path.{_≡_, sym, _∙_}
 use native.Mathlib.Omega.{arith}
 use Rattle.relocate.proofs.Call.{valid-source, relocate-outside, relocate-inside, relocate-nothing, relocate-reversed, relocate-past, relocate-tested}
@@ -27,7 +28,7 @@ returns-2 : tie.Need-returns-2
 returns-2 c =
     let start = c .before .before .before .before .before .before .before .before .before in
     let placed = sym (c .before .before .before .before .between-three .ensures) ∙ c .before .before .before .if1 .taken in
-    relocate-nothing _ _ _ (start .pre) placed (sym (c .before .before .inside-range .ensures) ∙ c .before .if2 .left) (c .if3 .taken)
+    relocate-nothing _ _ _ (start .pre) placed (sym (c .before .before .inside-range .ensures) ∙ c .before .if2 .left) (eqb-true _ _ (c .if3 .taken))
 
 returns-3 : tie.Need-returns-3
 returns-3 c =
@@ -39,13 +40,13 @@ returns-4 : tie.Need-returns-4
 returns-4 c =
     let start = c .before .before .before .before .before .before .before .before .before .before .before in
     let placed = sym (c .before .before .before .before .before .before .between-three .ensures) ∙ c .before .before .before .before .before .if1 .taken in
-    relocate-past _ _ _ (start .pre) placed (sym (c .before .before .before .before .inside-range .ensures) ∙ c .before .before .before .if2 .left) (omega (arith, c .before .before .if3 .left, c .before .if4 .left)) (c .if5 .taken)
+    relocate-past _ _ _ (start .pre) placed (sym (c .before .before .before .before .inside-range .ensures) ∙ c .before .before .before .if2 .left) (omega (arith, eqb-false (start .args .start) (start .args .end) (c .before .before .if3 .left), c .before .if4 .left)) (c .if5 .taken)
 
 relocate-with-requires : tie.Need-relocate-with-requires
 relocate-with-requires c κs =
     let start = c .before .before .before .before .before .before .before .before .before .before .before .before .before .before in
     let placed = sym (c .before .before .before .before .before .before .before .before .before .between-three .ensures) ∙ c .before .before .before .before .before .before .before .before .if1 .taken in
-    (start .pre, relocate-tested _ _ _ (start .pre) placed (sym (c .before .before .before .before .before .before .before .inside-range .ensures) ∙ c .before .before .before .before .before .before .if2 .left) (omega (arith, c .before .before .before .before .before .if3 .left, c .before .before .before .before .if4 .left)) (omega (arith, c .before .before .before .if5 .left)))
+    (start .pre, relocate-tested _ _ _ (start .pre) placed (sym (c .before .before .before .before .before .before .before .inside-range .ensures) ∙ c .before .before .before .before .before .before .if2 .left) (omega (arith, eqb-false (start .args .start) (start .args .end) (c .before .before .before .before .before .if3 .left), c .before .before .before .before .if4 .left)) (omega (arith, c .before .before .before .if5 .left)))
 
 same-length : tie.Need-same-length
 same-length c = search needs

@@ -8,7 +8,7 @@ use Rattle.relocate.proofs.relocate_by.Reads as reads
 use Rattle.relocate.proofs.relocate_by.Lts as lts
 use Rattle.frame.proofs.finish.Reads as finish-reads
 use Rattle.frame.proofs.load.Reads as load-reads
-use Rattle.relocate.proofs.relocate_rows.Reads as relocate-rows-reads
+use Rattle.relocate_rows.proofs.relocate_rows.Reads as relocate-rows-reads
 
 load-requires : tie.Need-load-requires
 load-requires c κs =

@@ -1,5 +1,5 @@
 -- the three parts, and that there is room for them
-use Rattle.texts.specs.Over.{put-back}
+use Rattle.texts.specs.Over.{put-back, Wrote, wrote-then, wrote-same}
 use mathlib.Core.Path.{ap}
 use mathlib.Core.List.{List, _++_}
 use Prim.Native.Nat.{ℕ, _+_, _-_, _≤_}
@@ -7,7 +7,6 @@ use native.Mathlib.Omega.{arith}
 use lib.ListN.{length-take, length-drop, length-append, length, take, drop}
 use Rattle.utf8.specs.Chars.{concat}
 use Rattle.memory.specs.Layout.{runOf}
-use Rattle.texts.specs.Over.{Wrote, wrote-then, wrote-same}
 use Rattle.texts.specs.Texts.{contentAt, chunk-text}
 use borrow.Author.Needs.{needs}
 use Rattle.texts.proofs.write_chunk.Statement.{statement}

@@ -1,0 +1,65 @@
+// movement.rs: the cuts and the move of `relocate`, on scratch rows.
+ghost use mathlib.Core.Path.{_≡_};
+ghost use mathlib.Core.List.{[], _∷_};
+ghost use Rattle.table.specs.Order.{Linked};
+ghost use Rattle.frame.specs.Frame.{Roomy};
+ghost use Rattle.split.specs.Cuts.{CutsDone};
+ghost use Rattle.relocate_rows.specs.Relocated.{PlaceIn, Spanned, Movable, RangeMoved, RelocateDone};
+use rows::Found;
+use rows::Key;
+use segment::Range;
+
+// Three cuts, each where the one before it is not refused.
+fn split_three(t: &mut [u32], a: u32, b: u32, to: u32) -> u32
+    requires { ⌜ Roomy 3 (now t) ⌝ }
+    ensures { λ r. ⌜ CutsDone (a ∷ b ∷ to ∷ []) (now (t .entry)) (now (t .exit)) r ⌝ }
+{
+    let r = split::split_at(t, a);
+    if r != 0 {
+        return r;
+    }
+    split::split_both(t, b, to)
+}
+
+// The row that the range goes before: that of the chunk that starts at `to`, or else row 0, which stands behind the last chunk.
+fn place_of(t: &[u32], to: u32) -> u32
+    requires { ⌜ Linked (now t) ⌝ }
+    ensures { λ r. ⌜ PlaceIn (now (t .entry)) to r ⌝ }
+{
+    let Found::At(i) = rows::find(t, Key::Start, to) else {
+        return 0;
+    };
+    i
+}
+
+// Behind the cuts: 9, nothing where the range stands there already, or the move.
+fn move_range(t: &mut [u32], a: u32, b: u32, to: u32) -> u32
+    requires { ⌜ Spanned (now t) ⌝ }
+    requires { ⌜ Movable a b to ⌝ }
+    ensures { λ r. ⌜ RangeMoved a b to (now (t .entry)) (now (t .exit)) r ⌝ }
+{
+    let Range::Whole(first, last) = segment::find_range(t, a, b) else {
+        return 9;
+    };
+    let n = place_of(t, to);
+    let l = table::get_row(t, last);
+    if l.next == n {
+        return 0;
+    }
+    rows::move_run(t, first, last, n);
+    0
+}
+
+// `relocate` past its tests: the cuts and the move.
+pub fn relocate_rows(t: &mut [u32], a: u32, b: u32, to: u32) -> u32
+    requires { ⌜ Roomy 3 (now t) ⌝ }
+    requires { ⌜ Spanned (now t) ⌝ }
+    requires { ⌜ Movable a b to ⌝ }
+    ensures { λ r. ⌜ RelocateDone a b to (now (t .entry)) (now (t .exit)) r ⌝ }
+{
+    let r = split_three(t, a, b, to);
+    if r != 0 {
+        return r;
+    }
+    move_range(t, a, b, to)
+}

@@ -1,0 +1,4 @@
+mod Laws
+mod Seek
+mod Slicing
+mod Giving

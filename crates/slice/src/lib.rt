@@ -1,0 +1,431 @@
+// slice.rs: the text between two places of the source, along the list. It cuts nothing.
+ghost use mathlib.Core.Path.{_≡_};
+ghost use mathlib.Core.Bool.{Bool, true, cond};
+ghost use Prim.Native.Nat.{_+_, _-_, _≤_, _<_};
+ghost use lib.ListN.{length};
+ghost use Rattle.utf8.specs.Chars.{concat};
+ghost use Rattle.table.specs.Order.{entryOf};
+ghost use Rattle.model.specs.Slice.{part as partOf};
+ghost use Rattle.memory.specs.Layout.{runOf};
+ghost use Rattle.memory.specs.WellFormed.{RunIn, EntryIn};
+ghost use Rattle.texts.specs.Texts.{SpanIn};
+ghost use Rattle.slice.specs.Emit.{Emitted, Room};
+ghost use Rattle.table.specs.Order.{countOf, Linked};
+ghost use Rattle.slice.specs.Walk.{holdsEnd, sliceContent, chunkSlice, frontText, misses, FoundStart, endsInside, startsInside, sliceWalk, chunksOf, Fits, Out, Gives, endOf};
+ghost use mathlib.Core.Bool.{false};
+ghost use lib.ListN.{drop};
+ghost use Rattle.table.specs.Order.{entries};
+ghost use Rattle.model.specs.Call.{sliced-into, slice as Slice};
+ghost use Rattle.model.specs.Slice.{slice as sliceOf};
+ghost use Rattle.memory.specs.Layout.{magicStringOf};
+ghost use Rattle.memory.specs.WellFormed.{WellFormed};
+ghost use Rattle.memory.specs.Calls.{Told};
+ghost use Rattle.fragments.specs.Sections.{rowNo};
+ghost use Prim.Native.Nat.{suc};
+use table::Row;
+use texts::Answer;
+
+// Writes a text to `out` at the place o, or only counts it. Returns the place behind it.
+fn emit(out: &mut [u8], o: usize, t: &[u8], write: bool) -> usize
+    requires { ⌜ Room write (now out) o (length (now t)) ⌝ }
+    ensures { λ r. ⌜ Emitted write (now (out .entry)) o (now (t .entry)) (now (out .exit)) r ⌝ }
+{
+    let end = o + t.len();
+    if write {
+        texts::put(&mut out[o..], t);
+        return end;
+    }
+    end
+}
+
+// The same for a piece list.
+fn emit_run(
+    pieces: &[u32],
+    store: &[u8],
+    out: &mut [u8],
+    at: u32,
+    n: u32,
+    place: usize,
+    write: bool,
+) -> usize
+    requires { ⌜ RunIn (now pieces) (now store) (at, n) ⌝ }
+    requires { ⌜ Room write (now out) place (length (concat (runOf (now pieces) (now store) (at, n)))) ⌝ }
+    ensures { λ r. ⌜ Emitted write (now (out .entry)) place (concat (runOf (now (pieces .entry)) (now (store .entry)) (at, n))) (now (out .exit)) r ⌝ }
+{
+    let first = at as usize;
+    let count = n as usize;
+    let mut i = 0;
+    let mut o = place;
+    while i < count {
+        let t = texts::text_of(pieces, store, first + i);
+        o = emit(out, o, t, write);
+        i += 1;
+    }
+    o
+}
+
+// How many pieces of a list are shown: all or none.
+fn shown(n: u32, yes: bool) -> u32
+    ensures { λ r. ⌜ r ≡ cond yes n 0 ⌝ }
+{
+    if yes { n } else { 0 }
+}
+
+// a - b, or 0 where that is negative.
+fn less(a: usize, b: usize) -> usize
+    ensures { λ r. ⌜ r ≡ a - b ⌝ }
+{
+    if b <= a { a - b } else { 0 }
+}
+
+// The bytes of t from a up to b; none where the range is reversed.
+fn part<'a>(t: &'a [u8], a: usize, b: usize) -> &'a [u8]
+    requires { ⌜ b ≤ length (now t) ⌝ }
+    ensures { λ r. ⌜ now r ≡ partOf a b (now (t .entry)) ⌝ }
+{
+    if a < b {
+        return &t[a..b];
+    }
+    &t[0..0]
+}
+
+// Whether a chunk holds the end.
+fn contains_end(start: u32, stop: u32, end: u32) -> bool
+    ensures { λ r. ⌜ r ≡ holdsEnd start stop end ⌝ }
+{
+    if start < end { end <= stop } else { false }
+}
+
+// What a chunk gives of its content, from `from` on.
+fn slice_content<'a>(source: &'a [u8], store: &'a [u8], row: Row, from: u32, end: u32) -> &'a [u8]
+    requires { ⌜ SpanIn (now source) (entryOf row) ⌝ }
+    requires { ⌜ Rattle.memory.specs.WellFormed.ReplacementIn (now store) (entryOf row .text) ⌝ }
+    ensures { λ r. ⌜ now r ≡ sliceContent (now (source .entry)) (now (store .entry)) (entryOf row) from end ⌝ }
+{
+    let t = texts::content(source, store, row.start, row.end, row.text_at, row.text_n);
+    if contains_end(row.start, row.end, end) {
+        let to = less(t.len(), less(row.end as usize, end as usize));
+        return part(t, from as usize, to);
+    }
+    part(t, from as usize, t.len())
+}
+
+// The first parts of a chunk's slice: its intro, and what it gives of its content.
+fn chunk_front<'a>(
+    source: &'a [u8],
+    pieces: &[u32],
+    store: &'a [u8],
+    out: &mut [u8],
+    row: Row,
+    with_intro: bool,
+    from: u32,
+    end: u32,
+    o: usize,
+    write: bool,
+) -> usize
+    requires { ⌜ EntryIn (now pieces) (now store) (entryOf row) ⌝ }
+    requires { ⌜ SpanIn (now source) (entryOf row) ⌝ }
+    requires { ⌜ Room write (now out) o (length (frontText (now source) (now pieces) (now store) «with_intro» from end (entryOf row))) ⌝ }
+    ensures { λ r. ⌜ Emitted write (now (out .entry)) o (frontText (now (source .entry)) (now (pieces .entry)) (now (store .entry)) «with_intro» from end (entryOf row)) (now (out .exit)) r ⌝ }
+{
+    let n = shown(row.intro_n, with_intro);
+    let a = emit_run(pieces, store, out, row.intro_at, n, o, write);
+    let t = slice_content(source, store, row, from, end);
+    emit(out, a, t, write)
+}
+
+// How many pieces of a chunk's outro are shown: none where the end lies before the chunk's end.
+fn shown_outro(n: u32, start: u32, stop: u32, end: u32) -> u32
+    ensures { λ r. ⌜ r ≡ cond (Rattle.slice.specs.Walk.showsOutro start stop end) n 0 ⌝ }
+{
+    if contains_end(start, stop, end) {
+        return shown(n, stop == end);
+    }
+    n
+}
+
+// What a chunk gives.
+fn chunk_slice<'a>(
+    source: &'a [u8],
+    pieces: &[u32],
+    store: &'a [u8],
+    out: &mut [u8],
+    row: Row,
+    with_intro: bool,
+    from: u32,
+    end: u32,
+    o: usize,
+    write: bool,
+) -> usize
+    requires { ⌜ EntryIn (now pieces) (now store) (entryOf row) ⌝ }
+    requires { ⌜ SpanIn (now source) (entryOf row) ⌝ }
+    requires { ⌜ Room write (now out) o (length (chunkSlice (now source) (now pieces) (now store) «with_intro» from end (entryOf row))) ⌝ }
+    ensures { λ r. ⌜ Emitted write (now (out .entry)) o (chunkSlice (now (source .entry)) (now (pieces .entry)) (now (store .entry)) «with_intro» from end (entryOf row)) (now (out .exit)) r ⌝ }
+{
+    let a = chunk_front(
+        source,
+        pieces,
+        store,
+        out,
+        row,
+        with_intro,
+        from,
+        end,
+        o,
+        write,
+    );
+    let n = shown_outro(row.outro_n, row.start, row.end, end);
+    emit_run(pieces, store, out, row.outro_at, n, a, write)
+}
+
+// Where the slice begins: the chunk's number in the list, and its row.
+pub enum Found {
+    At { chunk: u32, row: u32 },
+    Nothing,
+}
+
+// Whether a chunk does not hold the start.
+fn misses_start(at: u32, start: u32, stop: u32) -> bool
+    ensures { λ r. ⌜ r ≡ misses at start stop ⌝ }
+{
+    if at < start { true } else { stop <= at }
+}
+
+// The chunk that holds the start; nothing where one that holds the end is met first, or none holds the start.
+fn find_start(chunks: &[u32], start: u32, end: u32) -> Found
+    requires { ⌜ Linked (now chunks) ⌝ }
+    ensures { λ r. ⌜ FoundStart (now (chunks .entry)) start end r ⌝ }
+{
+    let z = table::get_row(chunks, 0);
+    let n = z.start;
+    let mut k: u32 = 0;
+    let mut row = z.next;
+    while k < n {
+        let r = table::get_row(chunks, row);
+        if !misses_start(start, r.start, r.end) {
+            return Found::At { chunk: k, row };
+        }
+        if contains_end(r.start, r.end, end) {
+            return Found::Nothing;
+        }
+        row = r.next;
+        k += 1;
+    }
+    Found::Nothing
+}
+
+// Whether the end lies inside a replaced chunk.
+fn ends_inside(start: u32, stop: u32, text_at: u32, end: u32) -> bool
+    ensures { λ r. ⌜ r ≡ endsInside start stop «text_at» end ⌝ }
+{
+    if contains_end(start, stop, end) {
+        if text_at != texts::NONE {
+            return stop != end;
+        }
+        return false;
+    }
+    false
+}
+
+// The second loop: what the chunks give from one of them on, written to `out` or only counted. 12 where the end lies inside a replaced chunk.
+fn slice_walk<'a>(
+    source: &'a [u8],
+    chunks: &[u32],
+    pieces: &[u32],
+    store: &'a [u8],
+    out: &mut [u8],
+    chunk: u32,
+    first: u32,
+    with_intro: bool,
+    from: u32,
+    end: u32,
+    write: bool,
+) -> Answer
+    requires { ⌜ WellFormed (now source) (now chunks) (now pieces) (now store) ⌝ }
+    requires { ⌜ (chunk < countOf (now chunks)) × (first ≡ rowNo (now chunks) (suc chunk)) ⌝ }
+    requires { ⌜ (write ≡ true → Fits (sliceWalk (now source) «with_intro» from end (chunksOf (now pieces) (now store) (drop chunk (entries (now chunks))))) (now out)) ⌝ }
+    ensures { λ r. ⌜ Out write (sliceWalk (now (source .entry)) «with_intro» from end (chunksOf (now (pieces .entry)) (now (store .entry)) (drop chunk (entries (now (chunks .entry)))))) (now (out .entry)) (now (out .exit)) (r .number) (r .value) ⌝ }
+{
+    let z = table::get_row(chunks, 0);
+    let n = z.start;
+    let mut k = chunk;
+    let mut row = first;
+    let mut intro = with_intro;
+    let mut begin = from;
+    let mut o: usize = 0;
+    while k < n {
+        let r = table::get_row(chunks, row);
+        if ends_inside(r.start, r.end, r.text_at, end) {
+            return Answer {
+                number: 12,
+                value: 0,
+            };
+        }
+        o = chunk_slice(source, pieces, store, out, r, intro, begin, end, o, write);
+        if contains_end(r.start, r.end, end) {
+            return Answer {
+                number: 0,
+                value: o as u32,
+            };
+        }
+        intro = true;
+        begin = 0;
+        row = r.next;
+        k += 1;
+    }
+    Answer {
+        number: 0,
+        value: o as u32,
+    }
+}
+
+// The walk twice: once to count, and, where it is not refused and the buffer is long enough, once more to write.
+fn slice_into<'a>(
+    source: &'a [u8],
+    chunks: &[u32],
+    pieces: &[u32],
+    store: &'a [u8],
+    out: &mut [u8],
+    chunk: u32,
+    first: u32,
+    with_intro: bool,
+    from: u32,
+    end: u32,
+) -> Answer
+    requires { ⌜ WellFormed (now source) (now chunks) (now pieces) (now store) ⌝ }
+    requires { ⌜ (chunk < countOf (now chunks)) × (first ≡ rowNo (now chunks) (suc chunk)) ⌝ }
+    ensures { λ r. ⌜ Gives (sliced-into (length (now (out .entry))) (sliceWalk (now (source .entry)) «with_intro» from end (chunksOf (now (pieces .entry)) (now (store .entry)) (drop chunk (entries (now (chunks .entry)))))))
+        (now (out .entry)) (now (out .exit)) (r .number) (r .value) ⌝ }
+{
+    let a = slice_walk(
+        source,
+        chunks,
+        pieces,
+        store,
+        out,
+        chunk,
+        first,
+        with_intro,
+        from,
+        end,
+        false,
+    );
+    let n = a.value;
+    if a.number != 0 {
+        return Answer {
+            number: a.number,
+            value: 0,
+        };
+    }
+    if out.len() < n as usize {
+        return Answer {
+            number: 14,
+            value: 0,
+        };
+    }
+    slice_walk(
+        source,
+        chunks,
+        pieces,
+        store,
+        out,
+        chunk,
+        first,
+        with_intro,
+        from,
+        end,
+        true,
+    )
+}
+
+// Whether the start lies inside a replaced chunk.
+fn starts_inside(start: u32, text_at: u32, at: u32) -> bool
+    ensures { λ r. ⌜ r ≡ startsInside start «text_at» at ⌝ }
+{
+    if text_at != texts::NONE {
+        return start != at;
+    }
+    false
+}
+
+// The slice up to a given end: empty where no chunk holds the start, 11 where it lies inside a replaced chunk.
+fn slice_to<'a>(
+    source: &'a [u8],
+    chunks: &[u32],
+    pieces: &[u32],
+    store: &'a [u8],
+    start: u32,
+    end: u32,
+    out: &mut [u8],
+) -> Answer
+    requires { ⌜ WellFormed (now source) (now chunks) (now pieces) (now store) ⌝ }
+    ensures { λ r. ⌜ Gives (sliced-into (length (now (out .entry))) (sliceOf start end (magicStringOf (now (source .entry)) (now (chunks .entry)) (now (pieces .entry)) (now (store .entry)))))
+        (now (out .entry)) (now (out .exit)) (r .number) (r .value) ⌝ }
+{
+    let Found::At { chunk, row } = find_start(chunks, start, end) else {
+        return Answer {
+            number: 0,
+            value: 0,
+        };
+    };
+    let r = table::get_row(chunks, row);
+    if starts_inside(r.start, r.text_at, start) {
+        return Answer {
+            number: 11,
+            value: 0,
+        };
+    }
+    slice_into(
+        source,
+        chunks,
+        pieces,
+        store,
+        out,
+        chunk,
+        row,
+        r.start == start,
+        start - r.start,
+        end,
+    )
+}
+
+// `slice`: 3 for a position inside a character, then 11, 12, and 14 before a byte is written.
+pub fn slice<'a>(
+    source: &'a [u8],
+    chunks: &[u32],
+    pieces: &[u32],
+    store: &'a [u8],
+    start: u32,
+    has_end: bool,
+    end: u32,
+    out: &mut [u8],
+) -> Answer
+    requires { ⌜ WellFormed (now source) (now chunks) (now pieces) (now store) ⌝ }
+    ensures { λ r. ⌜ Told (Slice start (endOf «has_end» end) (length (now (out .entry)))) (magicStringOf (now (source .entry)) (now (chunks .entry)) (now (pieces .entry)) (now (store .entry)))
+        (now (out .entry)) (now (out .exit)) (r .number) (r .value) ⌝ }
+{
+    if !utf8::boundary(source, start as usize) {
+        return Answer {
+            number: 3,
+            value: 0,
+        };
+    }
+    if has_end {
+        if !utf8::boundary(source, end as usize) {
+            return Answer {
+                number: 3,
+                value: 0,
+            };
+        }
+        return slice_to(source, chunks, pieces, store, start, end, out);
+    }
+    slice_to(
+        source,
+        chunks,
+        pieces,
+        store,
+        start,
+        source.len() as u32,
+        out,
+    )
+}

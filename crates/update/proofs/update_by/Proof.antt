@@ -1,0 +1,107 @@
+use mathlib.Core.Path.{refl}
+use native.Mathlib.Omega.{arith}
+use Rattle.frame.specs.Frame.{loaded-roomy}
+use Rattle.update.specs.Calls.{update-readable, update-too-long, update-ran}
+use borrow.Author.Needs.{needs}
+use Rattle.update.proofs.update_by.Statement.{statement}
+use Rattle.update.proofs.update_by.Tie as tie
+use Rattle.update.proofs.update_by.Reads as reads
+use Rattle.update.proofs.update_by.Lts as lts
+use Rattle.frame.proofs.finish.Reads as finish-reads
+use Rattle.frame.proofs.load.Reads as load-reads
+use Rattle.update.proofs.update_steps.Reads as update-steps-reads
+
+load-requires : tie.Need-load-requires
+load-requires c κs =
+    let start = c .before .before .before .before .before .before .before .before .before .before .before .before .before .before in
+    (omega (arith, start .pre .0 .sized .chunks, start .pre .1 .0 .scratch .chunks), omega (arith, start .pre .0 .sized .pieces, start .pre .1 .0 .scratch .pieces), omega (arith, start .pre .0 .sized .store, start .pre .1 .0 .store))
+
+update-steps-requires : tie.Need-update-steps-requires
+update-steps-requires c κs =
+    let start = c .before .before .before .before .before .before .before .before .before .before .before .before .before .before .before .before .before .before .before .before .before .before .before in
+    let load = c .before .before .before .before .before .before .before .before .load in
+    let y = loaded-roomy (start .pre .0) (start .pre .1 .0 .scratch) (load .ensures) in
+    (record { linked = y .linked; room = omega (arith, y .room); narrow = y .narrow }, omega (arith, start .pre .1 .0 .store, load .kept .1 .1 .1 .1 .1 .0))
+
+same-length : tie.Need-same-length
+same-length c = search needs
+
+same-length-2 : tie.Need-same-length-2
+same-length-2 c = search needs
+
+same-length-3 : tie.Need-same-length-3
+same-length-3 c = search needs
+
+same-length-4 : tie.Need-same-length-4
+same-length-4 c = search needs
+
+same-length-5 : tie.Need-same-length-5
+same-length-5 c = search needs
+
+same-length-6 : tie.Need-same-length-6
+same-length-6 c = search needs
+
+returns : tie.Need-returns
+returns c =
+    let start = c .before .before .before .before .before .before .before .before .before .before .before .before .before .before .before .before .before .before .before .before .before .before .before .before .before .before .before .before .before in
+    let load = c .before .before .before .before .before .before .before .before .before .before .before .before .before .before .load in
+    let update-steps = c .before .before .before .before .before .update-steps in
+    let if1 = c .if1 in
+    update-too-long (start .pre .1 .1 .0) (start .pre .0) (start .pre .1 .1 .1) (start .pre .1 .0) (load .ensures) (update-steps .ensures) refl (if1 .taken)
+
+finish-requires : tie.Need-finish-requires
+finish-requires c κs =
+    let start = c .before .before .before .before .before .before .before .before .before .before .before .before .before .before .before .before .before .before .before .before .before .before .before .before .before .before .before .before .before .before .before .before .before .before .before in
+    let load = c .before .before .before .before .before .before .before .before .before .before .before .before .before .before .before .before .before .before .before .before .load in
+    let update-steps = c .before .before .before .before .before .before .before .before .before .before .before .update-steps in
+    let if1 = c .before .before .before .before .before .before .if1 in
+    (update-readable (start .pre .1 .1 .0) (start .pre .0) (start .pre .1 .1 .1) (start .pre .1 .0) (load .ensures) (update-steps .ensures) refl (if1 .left), start .pre .0 .sized)
+
+same-length-7 : tie.Need-same-length-7
+same-length-7 c = search needs
+
+same-length-8 : tie.Need-same-length-8
+same-length-8 c = search needs
+
+same-length-9 : tie.Need-same-length-9
+same-length-9 c = search needs
+
+same-length-10 : tie.Need-same-length-10
+same-length-10 c = search needs
+
+same-length-11 : tie.Need-same-length-11
+same-length-11 c = search needs
+
+same-length-12 : tie.Need-same-length-12
+same-length-12 c = search needs
+
+returns-2 : tie.Need-returns-2
+returns-2 c =
+    let start = c .before .before .before .before .before .before .before .before .before .before .before .before .before .before .before .before .before .before .before .before .before .before .before .before .before .before .before .before .before .before .before .before .before .before .before .before .before .before .before .before .before .before in
+    let load = c .before .before .before .before .before .before .before .before .before .before .before .before .before .before .before .before .before .before .before .before .before .before .before .before .before .before .before .load in
+    let update-steps = c .before .before .before .before .before .before .before .before .before .before .before .before .before .before .before .before .before .before .update-steps in
+    let if1 = c .before .before .before .before .before .before .before .before .before .before .before .before .before .if1 in
+    let finish = c .before .before .before .before .before .before .finish in
+    update-ran (start .pre .1 .1 .0) (start .pre .0) (start .pre .1 .1 .1) (start .pre .1 .0) (load .ensures) (update-steps .ensures) refl (if1 .left) (finish .ensures)
+
+pub update-by-spec : {M : Type 1} → statement M
+update-by-spec =
+    tie.close
+    (tie.spec
+    load-requires
+    update-steps-requires
+    same-length
+    same-length-2
+    same-length-3
+    same-length-4
+    same-length-5
+    same-length-6
+    returns
+    finish-requires
+    same-length-7
+    same-length-8
+    same-length-9
+    same-length-10
+    same-length-11
+    same-length-12
+    returns-2)

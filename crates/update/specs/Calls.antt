@@ -1,0 +1,170 @@
+-- `update_with` as a call.
+use mathlib.Core.Path.{_≡_, refl, sym, ap, ap₂, _∙_, subst}
+use mathlib.Core.Bool.{Bool, true, false, _&&_, cond}
+use mathlib.Core.List.{List, [], _∷_, _++_, map}
+use mathlib.Core.Logic.{_⊎_, inl, inr, ⊎-elim}
+use Prim.Native.Nat.{ℕ, zero, suc, _+_, _*_, _-_, _≤_, _<_}
+use native.Mathlib.Omega.{arith}
+use lib.Dec.{ltb}
+use lib.ListN.{length, drop, take, length-append, length-drop}
+use lib.Seq.{take-at, drop-append-add}
+use borrow.Author.Tests.{le-ltb, lt-ltb}
+use Rattle.table.specs.Order.{entries}
+use Rattle.model.specs.MagicString.{MagicString, Result, ok, err, and-then, with-chunks, at-start}
+use Rattle.model.specs.Chunk.{edit}
+use Rattle.model.specs.Limits.{full, within}
+use Rattle.model.specs.Update.{update-chunks}
+use Rattle.model.specs.Call.{Edit, update-with, steps, refused-before}
+use Rattle.memory.specs.Layout.{magicStringOf}
+use Rattle.memory.specs.WellFormed.{Readable, WellFormed}
+use Rattle.memory.specs.Calls.{may-write, idle, Ran}
+use Rattle.texts.specs.Over.{over}
+use Rattle.closed_forms.specs.SplitAt.{cuts-then}
+use Rattle.rows.specs.declared.Found.the-variants.{At, Nothing}
+use Rattle.rebuild.specs.Rebuilt.{Finished}
+use Rattle.frame.specs.Front.{desk-front}
+use Rattle.frame.specs.Loaded.{Loaded}
+use Rattle.frame.specs.Frame.{Scratch, Did, loaded-readable, loaded-desk, ran-finished, ran-past-limits, may-write-0, may-write-6, may-write-7}
+use Rattle.split.specs.Lift.{source-of}
+use Rattle.split.specs.Cuts.{Spans, CutsDone, CutsLeave, loaded-spans}
+use Rattle.insert.specs.Calls.{past-bytes}
+use Rattle.update.specs.Walk.{walkFrom, Walked}
+use Rattle.update.specs.Steps.{update-step, update-past, update-is, FirstEdited, edit-readable, edit-desk, edited-big, walked-readable, walk-refused, walk-done}
+
+-- the lent store s stands at the front of the scratch store s1; y stands behind the lent pieces
+pub record UpdateSteps (a b : ℕ) (text : List ℕ) (o : Bool) (n : ℕ) (t s1 t' s1' : List ℕ) (r : ℕ) : Type 0 where
+  pub leave : (r ≡ 13 → ⊥) → (source p s y z : List ℕ) → length source ≡ n → Readable t p s → Spans source t p s → s1 ≡ s ++ z → length s ≡ 32768
+      → Did (update-past a b text o) source t p s t' (p ++ y) s1' r
+  pub long : r ≡ 13 → (source p s : List ℕ) → length source ≡ n → Readable t p s → Spans source t p s
+      → within full (update-past a b text o (magicStringOf source t p s) .desk) ≡ false
+  pub writes : (r ≡ 13 → ⊥) → may-write (update-with a b text o) r ≡ true
+
+may-write-10 : (a b : ℕ) (text : List ℕ) (o : Bool) → may-write (update-with a b text o) 10 ≡ true
+unfolding may-write
+may-write-10 a b text o = refl
+
+busy : (a b : ℕ) (text : List ℕ) (o : Bool) → idle (update-with a b text o) ≡ false
+unfolding idle
+busy a b text o = refl
+
+stop : (r : ℕ) (m : MagicString) (g : MagicString → Result) → (r ≡ 0 → ⊥) → and-then (err r m) g ≡ err r m
+stop zero m g n = absurd (n refl)
+stop (suc r) m g n = refl
+
+-- steps that leave the scratch store as it was
+kept : {f : MagicString → Result} {source t p s t' : List ℕ} {r : ℕ} (y z : List ℕ) {s1 : List ℕ} → s1 ≡ s ++ z → Did f source t p s t' p s r → Did f source t p s t' (p ++ y) s1 r
+kept {source = source} {p = p} {s = s} {t' = t'} {r = r} y z e d =
+    let g = desk-front p s y z t' (d .readable) in
+    rw e (record { readable = g .0; result = d .result ∙ ap (err r) (sym (g .1 source)) })
+
+over-behind : (d y xs : List ℕ) (n : ℕ) → n ≡ length d → over (d ++ y) n xs ≡ d ++ (xs ++ drop (length xs) y)
+unfolding over
+over-behind d y xs n e =
+    rw e (ap₂ (λ (a b : List ℕ). a ++ (xs ++ b)) (take-at d y (length d) refl) (drop-append-add d y (length xs)))
+
+module _ (a b : ℕ) (text : List ℕ) (o : Bool) (n : ℕ) (t t1 s1 : List ℕ) (r : ℕ) (c : CutsDone (a ∷ b ∷ []) t t1 r) where
+  pub update-refused : (r ≡ 0 → ⊥) → UpdateSteps a b text o n t s1 t1 s1 r
+  update-refused h =
+      record {
+        leave = λ _ source p s y z ln rd sp e ls.
+            let k = c .leave source p s rd sp in
+            kept y z e (record { readable = k .readable; result = k .result (update-step a b text o) ∙ stop r (magicStringOf source t1 p s) (update-step a b text o) h });
+        long = λ z. absurd (⊎-elim {C = ⊥} (λ (w : r ≡ 0). h w) (λ (w : r ≡ 6). omega arith) (c .number));
+        writes = λ _. ⊎-elim {C = may-write (update-with a b text o) r ≡ true} (λ (w : r ≡ 0). absurd (h w)) (λ (w : r ≡ 6). rw w (may-write-6 (update-with a b text o))) (c .number);
+      }
+
+  module _ (z0 : r ≡ 0) where
+    cut : (source p s : List ℕ) → Readable t p s → Spans source t p s → update-past a b text o (magicStringOf source t p s) ≡ update-step a b text o (magicStringOf source t1 p s)
+    cut source p s rd sp =
+        c .leave source p s rd sp .result (update-step a b text o) ∙ ap (λ (k : ℕ). and-then (err k (magicStringOf source t1 p s)) (update-step a b text o)) z0
+
+    size : (source p s : List ℕ) → length source ≡ n → length (magicStringOf source t1 p s .source) ≡ n
+    size source p s ln = ap length (source-of source t1 p s) ∙ ln
+
+    pub update-past-end : n < b → UpdateSteps a b text o n t s1 t1 s1 10
+    update-past-end h =
+        record {
+          leave = λ _ source p s y z ln rd sp e ls.
+              kept y z e
+              (record {
+                readable = c .readable p s rd;
+                result = cut source p s rd sp ∙ rw (lt-ltb (length (magicStringOf source t1 p s .source)) b (omega (arith, size source p s ln)));
+              });
+          long = λ z. absurd (omega arith);
+          writes = λ _. may-write-10 a b text o;
+        }
+
+    module _ (h : b ≤ n) where
+      inside : (source p s : List ℕ) → length source ≡ n → Readable t p s → Spans source t p s → update-past a b text o (magicStringOf source t p s) ≡ update-chunks a b text o (magicStringOf source t1 p s)
+      inside source p s ln rd sp = cut source p s rd sp ∙ rw (le-ltb (length (magicStringOf source t1 p s .source)) b (omega (arith, size source p s ln)))
+
+      pub update-broken : (t2 : List ℕ) → Walked a b t1 t2 Nothing → UpdateSteps a b text o n t s1 t2 s1 7
+      update-broken t2 d =
+          record {
+            leave = λ _ source p s y z ln rd sp e ls.
+                let rd1 = c .readable p s rd in
+                kept y z e
+                (record {
+                  readable = walked-readable a b text o source p s t1 t2 rd1 d;
+                  result = inside source p s ln rd sp ∙ walk-refused a b text o source p s t1 t2 rd1 d (d .ended);
+                });
+            long = λ z. absurd (omega arith);
+            writes = λ _. may-write-7 (update-with a b text o);
+          }
+
+      module _ (t2 : List ℕ) (i : ℕ) (d : Walked a b t1 t2 (At i)) where
+        came : (source p s : List ℕ) → length source ≡ n → Readable t p s → Spans source t p s
+            → update-past a b text o (magicStringOf source t p s) ≡ ok (with-chunks (magicStringOf source t2 p s) (at-start a (edit text o) (magicStringOf source t2 p s .chunks)))
+        came source p s ln rd sp = inside source p s ln rd sp ∙ walk-done a b text o source p s t1 t2 (c .readable p s rd) d (d .ended .0)
+
+        pub update-long : 32768 < length text → UpdateSteps a b text o n t s1 t2 s1 13
+        update-long l =
+            record {
+              leave = λ k. absurd (k refl);
+              long = λ _ source p s ln rd sp.
+                  ap (λ (x : Result). within full (x .desk)) (came source p s ln rd sp)
+                  ∙ past-bytes (with-chunks (magicStringOf source t2 p s) (at-start a (edit text o) (magicStringOf source t2 p s .chunks))) (omega (arith, edited-big a o text p s t2 i (d .ended .1) source));
+              writes = λ k. absurd (k refl);
+            }
+
+        pub update-done : (t3 s3 : List ℕ) → FirstEdited o text t2 s1 t3 s3 i → length t3 ≡ length t2 → UpdateSteps a b text o n t s1 t3 s3 0
+        update-done t3 s3 f len =
+            record {
+              leave = λ _ source p s y z ln rd sp e ls.
+                  let rd2 = walked-readable a b text o source p s t1 t2 (c .readable p s rd) d in
+                  let q : s3 ≡ s ++ (text ++ drop (length text) z) = f .store ∙ ap (λ (l : List ℕ). over l 32768 text) e ∙ over-behind s z text 32768 (sym ls) in
+                  rw q
+                  (record {
+                    readable = edit-readable a o text p s y (drop (length text) z) t2 t3 i (f .row) (d .ended .1) rd2 ls (f .edited) (f .put) len;
+                    result = came source p s ln rd sp ∙ ap ok (sym (edit-desk a o text p s y (drop (length text) z) t2 t3 i (f .row) (d .ended .1) rd2 ls (f .edited) (f .put) len source));
+                  });
+              long = λ z. absurd (omega arith);
+              writes = λ _. may-write-0 (update-with a b text o) (busy a b text o);
+            }
+
+-- ── the call ──
+pub record UpdateScratch (t p s : List ℕ) : Type 0 where
+  pub scratch : Scratch t p s
+  pub store : length s ≡ 65536
+
+module _ {a b : ℕ} {text : List ℕ} {o : Bool} {n : ℕ} {source t p s t₀ p₀ s₀ t1 p1 s1 t2 s2 : List ℕ} {r : ℕ} (ab : a < b) (w : WellFormed source t p s)
+    (h : refused-before (magicStringOf source t p s) (update-with a b text o) ≡ 0) (f : UpdateScratch t₀ p₀ s₀) (d : Loaded t p s t₀ p₀ s₀ t1 p1 s1) (x : UpdateSteps a b text o n t1 s1 t2 s2 r)
+    (ln : length source ≡ n) where
+  did : (r ≡ 13 → ⊥) → Did (update-past a b text o) source t1 p s t2 p1 s2 r
+  did k =
+      subst (λ (l : List ℕ). Did (update-past a b text o) source t1 p s t2 l s2 r) (sym (d .pieces))
+      (x .leave k source p s (drop (length p) p₀) (drop (length s) s₀) ln (loaded-readable w (f .scratch) d) (loaded-spans w (f .scratch) d) (d .store) (w .sized .store))
+
+  pub update-readable : (r ≡ 13 → ⊥) → Readable t2 p1 s2
+  update-readable k = did k .readable
+
+  pub update-too-long : r ≡ 13 → Ran (update-with a b text o) source t p s t p s 13
+  update-too-long z =
+      ran-past-limits (update-with a b text o) source t p s w h
+      (ap (λ (y : Result). within full (y .desk)) (update-is a b text o (magicStringOf source t p s) ab ∙ ap (update-past a b text o) (sym (loaded-desk w (f .scratch) d)))
+      ∙ x .long z source p s ln (loaded-readable w (f .scratch) d) (loaded-spans w (f .scratch) d))
+
+  pub update-ran : {t' p' s' : List ℕ} {r' : ℕ} → (r ≡ 13 → ⊥) → Finished t2 p1 s2 t p s t' p' s' r r' → Ran (update-with a b text o) source t p s t' p' s' r'
+  update-ran k y =
+      ran-finished w h
+      (record { readable = did k .readable; result = update-is a b text o (magicStringOf source t p s) ab ∙ ap (update-past a b text o) (sym (loaded-desk w (f .scratch) d)) ∙ did k .result }) (x .writes k) y
