@@ -1,12 +1,10 @@
--- `update_with`: what its tests give, and the text put behind the lent store.
+-- `update_with`: what its tests give.
 use mathlib.Core.Path.{_≡_, refl, sym, ap, _∙_}
 use mathlib.Core.Bool.{Bool, true, false, cond}
-use mathlib.Core.List.{List, [], _∷_, _++_, append-nil}
-use Prim.Native.Nat.{ℕ, _+_, _-_, _≤_, _<_}
+use mathlib.Core.List.{List, [], _∷_}
+use Prim.Native.Nat.{ℕ, _<_}
 use native.Mathlib.Omega.{arith}
-use lib.ListN.{length, take, drop, length-drop, drop-of-length-le}
-use lib.Seq.{take-all, drop-drop}
-use borrow.Author.Tests.{ne-eqb, eq-eqb, le-ltb, lt-ltb}
+use borrow.Author.Tests.{ne-eqb, eq-eqb, lt-ltb}
 use Rattle.utf8.specs.Rfc3629.{utf8, between}
 use Rattle.model.specs.Text.{all}
 use Rattle.model.specs.MagicString.{MagicString, err}
@@ -15,16 +13,7 @@ use Rattle.model.specs.Call.{update-with, steps, refused-before}
 use Rattle.memory.specs.Layout.{magicStringOf}
 use Rattle.memory.specs.WellFormed.{WellFormed}
 use Rattle.memory.specs.Calls.{Ran}
-use Rattle.texts.specs.Over.{over}
 use Rattle.frame.specs.Frame.{ran-before, ran-same, refused-1, refused-3, not-refused}
-
--- what a slice is whose tail from k was lent to a callee that put a text to the tail's front
-pub put-back : (d t ys : List ℕ) (k : ℕ) → k + length t ≤ length d → ys ≡ t ++ drop (length t) (take (length d - k) (drop k d))
-    → take k d ++ (ys ++ drop (length d - k) (drop k d)) ≡ over d k t
-unfolding over
-put-back d t ys k h e =
-    let l : length (drop k d) ≤ length d - k = simp length-drop (omega arith) in
-    rw (e, take-all (length d - k) (drop k d), drop-of-length-le (drop k d) l, append-nil, drop-drop)
 
 steps-same : (a b : ℕ) (t : List ℕ) (o : Bool) (m : MagicString) → a ≡ b → steps (update-with a b t o) m ≡ err 5 m
 unfolding update-rs.update-with

@@ -28,8 +28,8 @@ use Rattle.frame.specs.Frame.{Scratch, Did, loaded-readable, loaded-desk, ran-f
 use Rattle.split.specs.Lift.{source-of}
 use Rattle.split.specs.Cuts.{Spans, CutsDone, CutsLeave, loaded-spans}
 use Rattle.insert.specs.Calls.{past-bytes}
-use Rattle.update.specs.Walk.{walkFrom, Walked}
-use Rattle.update.specs.Steps.{update-step, update-past, update-is, FirstEdited, edit-readable, edit-desk, edited-big, walked-readable, walk-refused, walk-done}
+use Rattle.update_rows.specs.Walk.{walkFrom, Walked}
+use Rattle.update_rows.specs.Steps.{update-step, update-past, update-is, FirstEdited, edit-readable, edit-desk, edited-big, walked-readable, walk-refused, walk-done}
 
 -- the lent store s stands at the front of the scratch store s1; y stands behind the lent pieces
 pub record UpdateSteps (a b : ℕ) (text : List ℕ) (o : Bool) (n : ℕ) (t s1 t' s1' : List ℕ) (r : ℕ) : Type 0 where

@@ -47,7 +47,7 @@ returns c =
     let load = c .before .before .before .before .before .before .before .before .before .before .before .before .before .before .load in
     let update-steps = c .before .before .before .before .before .update-steps in
     let if1 = c .if1 in
-    update-too-long (start .pre .1 .1 .0) (start .pre .0) (start .pre .1 .1 .1) (start .pre .1 .0) (load .ensures) (update-steps .ensures) refl (if1 .taken)
+    rw (if1 .taken) (update-too-long (start .pre .1 .1 .0) (start .pre .0) (start .pre .1 .1 .1) (start .pre .1 .0) (load .ensures) (update-steps .ensures) refl (if1 .taken))
 
 finish-requires : tie.Need-finish-requires
 finish-requires c κs =

@@ -1,7 +1,7 @@
 use mathlib.Core.Path.{_≡_, refl, sym, ap, _∙_, subst}
 use native.Mathlib.Omega.{arith}
 use Rattle.table.specs.Order.{inside-at}
-use Rattle.update.specs.Walk.{Walked}
+use Rattle.update_rows.specs.Walk.{Walked}
 use Rattle.update.specs.Calls.{update-refused, update-past-end, update-broken, update-long, update-done}
 use borrow.Author.Needs.{needs}
 use Rattle.update.proofs.update_steps.Statement.{statement}
@@ -9,8 +9,8 @@ use Rattle.update.proofs.update_steps.Tie as tie
 use Rattle.update.proofs.update_steps.Reads as reads
 use Rattle.update.proofs.update_steps.Lts as lts
 use Rattle.split.proofs.split_both.Reads as split-both-reads
-use Rattle.update.proofs.edit_first.Reads as edit-first-reads
-use Rattle.update.proofs.update_walk.Reads as update-walk-reads
+use Rattle.update_rows.proofs.edit_first.Reads as edit-first-reads
+use Rattle.update_rows.proofs.update_walk.Reads as update-walk-reads
 
 split-both-requires : tie.Need-split-both-requires
 split-both-requires c κs = search needs

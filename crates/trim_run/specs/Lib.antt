@@ -1,0 +1,3 @@
+pub mod Deque
+pub mod Low
+pub mod Run

@@ -1,0 +1,74 @@
+use mathlib.Core.Path.{_≡_, refl, sym, ap, _∙_, subst}
+use native.Mathlib.Omega.{arith}
+use Rattle.table.specs.declared.Row.{Row}
+use Rattle.update_rows.specs.Steps.{EditedRow}
+use Rattle.update_rows.proofs.PutBack.{put-back}
+use borrow.Author.Needs.{needs}
+use Rattle.update_rows.proofs.edit_first.Statement.{statement}
+use Rattle.update_rows.proofs.edit_first.Tie as tie
+use Rattle.update_rows.proofs.edit_first.Reads as reads
+use Rattle.update_rows.proofs.edit_first.Lts as lts
+use Rattle.table.proofs.get_row.Reads as get-row-reads
+use Rattle.table.proofs.put_row.Reads as put-row-reads
+use Rattle.texts.proofs.put.Reads as put-reads
+use Rattle.update_rows.proofs.edited.Reads as edited-reads
+
+sub-put : tie.Need-sub-put
+sub-put c = search needs
+
+part-put-start : tie.Need-part-put-start
+part-put-start c = search needs
+
+part-put-end : tie.Need-part-put-end
+part-put-end c = search needs
+
+put-requires : tie.Need-put-requires
+put-requires c κs = search needs
+
+get-row-requires : tie.Need-get-row-requires
+get-row-requires c κs = search needs
+
+cast-edited : tie.Need-cast-edited
+cast-edited c = search needs
+
+edited-requires : tie.Need-edited-requires
+edited-requires c κs = search needs
+
+put-row-requires : tie.Need-put-row-requires
+put-row-requires c κs = search needs
+
+same-length : tie.Need-same-length
+same-length c = search needs
+
+same-length-2 : tie.Need-same-length-2
+same-length-2 c = search needs
+
+returns : tie.Need-returns
+returns c =
+    let edited = c .before .before .before .edited in
+    let get-row = c .before .before .before .before .before .get-row in
+    let put-row = c .before .before .put-row in
+    let start = c .before .before .before .before .before .before .before .before .before .before .before .before .before .before in
+    let put = c .before .before .before .before .before .before .before .before .before .put in
+    record {
+      row = edited .result;
+      edited = rw (get-row .ensures) at (edited .ensures);
+      put = put-row .ensures;
+      store = put-back (start .args .s .now) (start .args .text .now) _ 32768 (omega (arith, start .pre .1 .0, start .pre .1 .1)) (put .ensures);
+    }
+
+pub edit-first-spec : {M : Type 1} → statement M
+edit-first-spec =
+    tie.close
+    (tie.spec
+    sub-put
+    part-put-start
+    part-put-end
+    put-requires
+    get-row-requires
+    cast-edited
+    edited-requires
+    put-row-requires
+    same-length
+    same-length-2
+    returns)
