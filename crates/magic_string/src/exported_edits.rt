@@ -1,6 +1,6 @@
 // The calls that change a desk.
 ghost use mathlib.Core.Path.{_≡_};
-ghost use Rattle.model.specs.Call.{remove, update-with, reset, append-left, append-right, prepend-left, prepend-right, append, prepend, relocate};
+ghost use Rattle.model.specs.Call.{remove, update-with, reset, append-left, append-right, prepend-left, prepend-right, append, prepend, relocate, trim, trim-start, trim-end, trim-lines};
 ghost use Rattle.memory.specs.Calls.{Edited};
 ghost use Rattle.magic_string.specs.Exported.{flag};
 use texts::Answer;
@@ -227,6 +227,89 @@ pub extern "C" fn magic_string_relocate(
 {
     if well_formed::well_formed(source, chunks, pieces, store) {
         let number = relocate::relocate(source, chunks, pieces, store, start, end, to);
+        return Answer { number, value: 0 };
+    }
+    Answer {
+        number: 2,
+        value: 0,
+    }
+}
+
+#[no_mangle]
+pub extern "C" fn magic_string_trim(
+    source: &[u8],
+    chunks: &mut [u32],
+    pieces: &mut [u32],
+    store: &mut [u8],
+    pattern: u32,
+) -> Answer
+    ensures { λ r. ⌜ Edited (trim pattern) (now (source .entry)) (now (chunks .entry)) (now (pieces .entry)) (now (store .entry))
+        (now (chunks .exit)) (now (pieces .exit)) (now (store .exit)) (r .number) × (r .value ≡ 0) ⌝ }
+{
+    if well_formed::well_formed(source, chunks, pieces, store) {
+        let number = trim::trim(source, chunks, pieces, store, pattern);
+        return Answer { number, value: 0 };
+    }
+    Answer {
+        number: 2,
+        value: 0,
+    }
+}
+
+#[no_mangle]
+pub extern "C" fn magic_string_trim_start(
+    source: &[u8],
+    chunks: &mut [u32],
+    pieces: &mut [u32],
+    store: &mut [u8],
+    pattern: u32,
+) -> Answer
+    ensures { λ r. ⌜ Edited (trim-start pattern) (now (source .entry)) (now (chunks .entry)) (now (pieces .entry)) (now (store .entry))
+        (now (chunks .exit)) (now (pieces .exit)) (now (store .exit)) (r .number) × (r .value ≡ 0) ⌝ }
+{
+    if well_formed::well_formed(source, chunks, pieces, store) {
+        let number = trim::trim_start(source, chunks, pieces, store, pattern);
+        return Answer { number, value: 0 };
+    }
+    Answer {
+        number: 2,
+        value: 0,
+    }
+}
+
+#[no_mangle]
+pub extern "C" fn magic_string_trim_end(
+    source: &[u8],
+    chunks: &mut [u32],
+    pieces: &mut [u32],
+    store: &mut [u8],
+    pattern: u32,
+) -> Answer
+    ensures { λ r. ⌜ Edited (trim-end pattern) (now (source .entry)) (now (chunks .entry)) (now (pieces .entry)) (now (store .entry))
+        (now (chunks .exit)) (now (pieces .exit)) (now (store .exit)) (r .number) × (r .value ≡ 0) ⌝ }
+{
+    if well_formed::well_formed(source, chunks, pieces, store) {
+        let number = trim::trim_end(source, chunks, pieces, store, pattern);
+        return Answer { number, value: 0 };
+    }
+    Answer {
+        number: 2,
+        value: 0,
+    }
+}
+
+#[no_mangle]
+pub extern "C" fn magic_string_trim_lines(
+    source: &[u8],
+    chunks: &mut [u32],
+    pieces: &mut [u32],
+    store: &mut [u8],
+) -> Answer
+    ensures { λ r. ⌜ Edited (trim-lines) (now (source .entry)) (now (chunks .entry)) (now (pieces .entry)) (now (store .entry))
+        (now (chunks .exit)) (now (pieces .exit)) (now (store .exit)) (r .number) × (r .value ≡ 0) ⌝ }
+{
+    if well_formed::well_formed(source, chunks, pieces, store) {
+        let number = trim::trim_lines(source, chunks, pieces, store);
         return Answer { number, value: 0 };
     }
     Answer {

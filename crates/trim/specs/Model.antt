@@ -1,0 +1,127 @@
+-- `trim_start` and `trim_end` as one function of the side, and what they leave of the piece count.
+-- Assumes nothing.
+use mathlib.Core.Path.{_≡_, refl, sym, ap, _∙_}
+use mathlib.Core.Bool.{Bool, true, false, cond}
+use mathlib.Core.List.{List, [], _∷_, _++_, reverse, reverse-cons}
+use mathlib.Core.Option.{Option, some}
+use Prim.Native.Nat.{ℕ, _+_, _≤_}
+use native.Mathlib.Omega.{arith}
+use lib.Dec.{eqb}
+use lib.ListN.{length, length-reverse}
+use Rattle.model.specs.Text.{Text, is-nil, sum, all}
+use Rattle.model.specs.Chunk.{Chunk, content}
+use Rattle.model.specs.MagicString.{MagicString, with-chunks, with-intro, with-outro}
+use Rattle.model.specs.Limits.{chunk-pieces, piece-count}
+use Rattle.model.specs.Trim.{trim-start-pattern, trim-end-pattern, trim-deque-start, trim-reversed, trim-deque-end, Trimmed, trim-chunk-start, trim-chunk-end, trim-chunks, trim-start, trim-end}
+use Rattle.preservation.specs.Lists.{of-cond, of-either}
+use Rattle.preservation.specs.Lists as lists
+use Rattle.preservation.specs.Desk.{FormedOf}
+use Rattle.preservation.specs.Trim.{trim-start-keeps, trim-end-keeps}
+use Rattle.trim_text.specs.Sides.{blank}
+use Rattle.trim_run.specs.Deque.{trim-deque, deque-nil, all-nil-deque}
+use Rattle.trim_row.specs.Sides.{trim-chunk}
+use Rattle.trim_chunks.specs.Walk.{way}
+
+-- `trim_start` (from the front) or `trim_end`
+abbrev pub trim-side : Bool → ℕ → MagicString → MagicString
+trim-side true p m = trim-start p m
+trim-side false p m = trim-end p m
+
+-- one side, and after it the end where both are trimmed
+abbrev pub trim-sides : Bool → Bool → ℕ → MagicString → MagicString
+trim-sides both front p m = cond both (trim-end p (trim-side front p m)) (trim-side front p m)
+
+-- the head or the tail
+abbrev pub near-pieces : Bool → MagicString → List Text
+near-pieces true m = m .intro
+near-pieces false m = m .outro
+
+-- the desk with another head or tail, and other chunks
+abbrev pub with-near : Bool → MagicString → List Text → List Chunk → MagicString
+with-near true m l cs = with-chunks (with-intro m l) cs
+with-near false m l cs = with-chunks (with-outro m l) cs
+
+-- something is left of the head or the tail
+pub side-stops : (front : Bool) (p : ℕ) (m : MagicString) → all (blank p) (near-pieces front m) ≡ false
+    → trim-side front p m ≡ with-near front m (trim-deque front p (near-pieces front m)) (m .chunks)
+unfolding trim-start trim-end
+side-stops true p m h = rw (deque-nil true p (m .intro) ∙ h)
+side-stops false p m h = rw (deque-nil false p (m .outro) ∙ h)
+
+-- nothing is left of it
+pub side-goes-on : (front : Bool) (p : ℕ) (m : MagicString) → all (blank p) (near-pieces front m) ≡ true
+    → trim-side front p m ≡ with-near front m [] (way front (trim-chunks (trim-chunk front p (m .source)) (way front (m .chunks))))
+unfolding trim-start trim-end
+side-goes-on true p m h = rw (deque-nil true p (m .intro) ∙ h, all-nil-deque true p (m .intro) h)
+side-goes-on false p m h = rw (deque-nil false p (m .outro) ∙ h, all-nil-deque false p (m .outro) h)
+
+-- ---- a trimmed desk is formed
+pub side-keeps : (front : Bool) (source : Text) (p : ℕ) (m : MagicString) → FormedOf source m → FormedOf source (trim-side front p m)
+side-keeps true source p m h = trim-start-keeps source p m h
+side-keeps false source p m h = trim-end-keeps source p m h
+
+-- ---- it has no more pieces
+module _ (p : ℕ) where
+  start-le : (l : List Text) → length (trim-deque-start p l) ≤ length l
+  start-le [] = omega arith
+  start-le (s ∷ l) = of-cond (λ (x : List Text). length x ≤ length (s ∷ l)) (is-nil (trim-start-pattern p s)) (λ _. omega (arith, start-le l)) (λ _. omega arith)
+
+  reversed-le : (l : List Text) → length (trim-reversed p l) ≤ length l
+  reversed-le [] = omega arith
+  reversed-le (s ∷ l) = of-cond (λ (x : List Text). length x ≤ length (s ∷ l)) (is-nil (trim-end-pattern p s)) (λ _. omega (arith, reversed-le l)) (λ _. omega arith)
+
+  end-le : (l : List Text) → length (trim-deque-end p l) ≤ length l
+  end-le l = omega (arith, length-reverse (trim-reversed p (reverse l)), reversed-le (reverse l), length-reverse l)
+
+  module _ (source : Text) (c : Chunk) where
+    Fewer : Trimmed → Type 0
+    Fewer t = chunk-pieces (t .chunk) ≤ chunk-pieces c
+
+    chunk-start-le : chunk-pieces (trim-chunk-start p source c .chunk) ≤ chunk-pieces c
+    unfolding trim-chunk-start Fewer
+    chunk-start-le =
+        let s : Text = content source c in
+        let t : Text = trim-start-pattern p s in
+        let a = start-le (c .texts .intro) in
+        let b = start-le (c .texts .outro) in
+        of-either Fewer (is-nil (trim-deque-start p (c .texts .intro)))
+        (of-either Fewer (is-nil s) (omega arith) (of-either Fewer (eqb (length t) (length s)) (omega arith) (of-either Fewer (is-nil t) (omega arith) (omega arith))))
+        (omega arith)
+
+    chunk-end-le : chunk-pieces (trim-chunk-end p source c .chunk) ≤ chunk-pieces c
+    unfolding trim-chunk-end Fewer
+    chunk-end-le =
+        let s : Text = content source c in
+        let t : Text = trim-end-pattern p s in
+        let a = end-le (c .texts .intro) in
+        let b = end-le (c .texts .outro) in
+        of-either Fewer (is-nil (trim-deque-end p (c .texts .outro)))
+        (of-either Fewer (is-nil s) (omega arith) (of-either Fewer (eqb (length t) (length s)) (omega arith) (of-either Fewer (is-nil t) (omega arith) (omega arith))))
+        (omega arith)
+
+chunks-le : (f : Chunk → Trimmed) → ((c : Chunk) → chunk-pieces (f c .chunk) ≤ chunk-pieces c) → (cs : List Chunk) → sum chunk-pieces (trim-chunks f cs) ≤ sum chunk-pieces cs
+chunks-le f g [] = omega arith
+chunks-le f g (c ∷ cs) =
+    of-cond (λ (l : List Chunk). sum chunk-pieces (f c .chunk ∷ l) ≤ sum chunk-pieces (c ∷ cs)) (f c .goes-on) (λ _. omega (arith, g c, chunks-le f g cs)) (λ _. omega (arith, g c))
+
+sum-snoc : (f : Chunk → ℕ) (xs : List Chunk) (c : Chunk) → sum f (xs ++ (c ∷ [])) ≡ sum f xs + f c
+sum-snoc f [] c = omega arith
+sum-snoc f (x ∷ xs) c = omega (arith, sum-snoc f xs c)
+
+sum-reverse : (f : Chunk → ℕ) (cs : List Chunk) → sum f (reverse cs) ≡ sum f cs
+sum-reverse f [] = refl
+sum-reverse f (c ∷ cs) = ap (sum f) (reverse-cons c cs) ∙ sum-snoc f (reverse cs) c ∙ omega (arith, sum-reverse f cs)
+
+pub side-pieces : (front : Bool) (p : ℕ) (m : MagicString) → piece-count (trim-side front p m) ≤ piece-count m
+unfolding trim-start trim-end
+side-pieces true p m =
+    let a = start-le p (m .intro) in
+    of-cond (λ (x : MagicString). piece-count x ≤ piece-count m) (is-nil (trim-deque-start p (m .intro)))
+    (λ _. omega (arith, a, chunks-le (trim-chunk-start p (m .source)) (chunk-start-le p (m .source)) (m .chunks)))
+    (λ _. omega (arith, a))
+side-pieces false p m =
+    let a = end-le p (m .outro) in
+    let f = trim-chunk-end p (m .source) in
+    of-cond (λ (x : MagicString). piece-count x ≤ piece-count m) (is-nil (trim-deque-end p (m .outro)))
+    (λ _. omega (arith, a, sum-reverse chunk-pieces (trim-chunks f (reverse (m .chunks))), chunks-le f (chunk-end-le p (m .source)) (reverse (m .chunks)), sum-reverse chunk-pieces (m .chunks)))
+    (λ _. omega (arith, a))

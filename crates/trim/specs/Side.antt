@@ -1,0 +1,323 @@
+-- One side of a desk trimmed on scratch tables: the head or the tail, then the chunks.
+-- Assumes nothing.
+use mathlib.Core.Path.{_≡_, refl, sym, ap, ap₂, _∙_, subst}
+use mathlib.Core.Bool.{Bool, true, false, _&&_, cond}
+use mathlib.Core.List.{List, [], _∷_, map}
+use Prim.Native.Nat.{ℕ, zero, suc, _+_, _*_, _≤_, _<_}
+use native.Mathlib.Omega.{arith}
+use lib.ListN.{length}
+use Rattle.utf8.specs.Chars.{All, nil, cons}
+use Rattle.table.specs.declared.Row.{Row}
+use Rattle.table.specs.Ring.{Each}
+use Rattle.table.specs.Table.{rowAt, Put}
+use Rattle.table.specs.Order.{Entry, entryOf, entryAt, entries, order, countOf, Linked, write-keeps}
+use Rattle.model.specs.Text.{Text, sum, all}
+use Rattle.model.specs.Chunk.{Chunk}
+use Rattle.model.specs.MagicString.{MagicString}
+use Rattle.model.specs.Limits.{chunk-pieces, piece-count}
+use Rattle.model.specs.Trim.{trim-chunks}
+use Rattle.model.specs.WellFormed.{Valid, ValidTexts, Formed}
+use Rattle.memory.specs.Layout.{Place, runOf, chunkOf, magicStringOf}
+use Rattle.memory.specs.WellFormed.{RunIn, Readable}
+use Rattle.texts.specs.Texts.{SpanIn, run-length, run-tabulate}
+use Rattle.texts.specs.Carry.{Below}
+use Rattle.preservation.specs.Spans.{Inside, spans-inside}
+use Rattle.preservation.specs.Trim.{content-valid}
+use Rattle.frame.specs.Front.{bool-elim, desk-same}
+use Rattle.trim_text.specs.Sides.{blank}
+use Rattle.trim_run.specs.Deque.{trim-deque, all-nil-deque}
+use Rattle.trim_run.specs.Low.{RowsKept, BytesKept, rows-same, bytes-same, RunsLow, EntryLow, DeskLow, run-in, entry-in, desk-in, run-same, run-still, entries-same, entries-still}
+use Rattle.trim_run.specs.Run.{RunReady, RowRoom, RunTrimmed}
+use Rattle.trim_row.specs.Sides.{trim-chunk}
+use Rattle.trim_row.specs.Row.{placeOf, nearOf, farOf, withSides, Rewritten, RowReady, RowFits, run-at}
+use Rattle.trim_chunks.specs.Walk.{way, ReadyAt, ChunksReady, ChunksTrimmed}
+use Rattle.trim.specs.Model.{trim-side, near-pieces, with-near, side-stops, side-goes-on}
+
+-- ---- what a trim asks: the desk lies below a row and a byte, with room behind them
+pub record SideReady (source t p s : List ℕ) (top byte : ℕ) : Type 0 where
+  pub low : DeskLow t p top byte
+  pub formed : Formed (magicStringOf source t p s)
+  pub few : piece-count (magicStringOf source t p s) ≤ 1024
+  pub short : length source ≤ 16384
+  pub rows : (top + 1024) * 2 ≤ length p
+  pub narrow : length p ≤ 4294967296
+  pub bytes : byte + 16384 ≤ length s
+  pub small : length s ≤ 65536
+
+pub record SideTrimmed (front : Bool) (pattern : ℕ) (source t p s : List ℕ) (top byte : ℕ) (t' p' s' : List ℕ) : Type 0 where
+  pub low : DeskLow t' p' (top + 1024) (byte + 16384)
+  pub desk : magicStringOf source t' p' s' ≡ trim-side front pattern (magicStringOf source t p s)
+  pub pieces : length p' ≡ length p
+  pub store : length s' ≡ length s
+
+-- the head or the tail alone
+pub record OwnReady (front : Bool) (p s : List ℕ) (top : ℕ) (t : List ℕ) : Type 0 where
+  pub linked : Linked t
+  pub run : RunReady p s (nearOf front (entryAt t 0))
+  pub below : (k : ℕ) → k < nearOf front (entryAt t 0) .1 → nearOf front (entryAt t 0) .0 + k < top
+  pub few : nearOf front (entryAt t 0) .1 ≤ 1024
+  pub rows : (top + 1024) * 2 ≤ length p
+  pub narrow : length p ≤ 4294967296
+  pub small : length s ≤ 65536
+
+-- gone: nothing is left of it
+pub record OwnTrimmed (front : Bool) (pattern : ℕ) (p s : List ℕ) (top : ℕ) (t p' t' : List ℕ) (gone : Bool) : Type 0 where
+  pub linked : Linked t'
+  pub entries-are : entries t' ≡ entries t
+  pub near : Place
+  pub row : entryAt t' 0 ≡ withSides front (entryAt t 0) near (farOf front (entryAt t 0)) (entryAt t 0 .text)
+  pub rows : RowsKept top p p'
+  pub text : runOf p' s near ≡ trim-deque front pattern (runOf p s (nearOf front (entryAt t 0)))
+  pub low : (byte : ℕ) → Below p byte top (nearOf front (entryAt t 0)) → Below p' byte (top + 1024) near
+  pub gone-is : gone ≡ all (blank pattern) (runOf p s (nearOf front (entryAt t 0)))
+  pub same : gone ≡ true → p' ≡ p
+
+run-none : (p s : List ℕ) (at : ℕ) → runOf p s (at, 0) ≡ []
+unfolding runOf
+run-none p s at = refl
+
+-- ---- row 0
+-- a write to row 0 that keeps its links and its count keeps every chunk
+module _ (t t' : List ℕ) (l : Linked t) (r : Row) (u : Put t t' 0 r) (nx : r .next ≡ rowAt t 0 .next) (pv : r .prev ≡ rowAt t 0 .prev) (st : r .start ≡ rowAt t 0 .start)
+    (m : length t' ≡ length t) where
+  map-each : (xs : List ℕ) → Each (λ x. (0 < x) × (x ≤ countOf t)) xs → map (entryAt t') xs ≡ map (entryAt t) xs
+  map-each [] h = refl
+  map-each (x ∷ xs) h = ap₂ (λ (e : Entry) (es : List Entry). e ∷ es) (ap entryOf (u .off x (λ z. omega (arith, h .0 .0)))) (map-each xs (h .1))
+
+  own-kept : Linked t' × (entries t' ≡ entries t)
+  unfolding order
+  own-kept =
+      let o = write-keeps t t' 0 r u nx pv (λ _. st) m l in
+      (o .1, ap (map (entryAt t')) (o .0) ∙ map-each (order t) (l .ring .inside))
+
+sides-start : (front : Bool) (e : Entry) (n f x : Place) → withSides front e n f x .start ≡ e .start
+sides-start true e n f x = refl
+sides-start false e n f x = refl
+
+module _ (front : Bool) (pattern : ℕ) (p s : List ℕ) (top : ℕ) (t : List ℕ) (h : OwnReady front p s top t) (z : Row) (ez : z ≡ rowAt t 0) (q : Place) (eq : q ≡ nearOf front (entryOf z)) where
+  near-is : q ≡ nearOf front (entryAt t 0)
+  near-is = eq ∙ ap (λ (r : Row). nearOf front (entryOf r)) ez
+
+  pub own-run : RunReady p s q
+  own-run = subst (RunReady p s) (sym near-is) (h .run)
+
+  pub own-room : all (blank pattern) (runOf p s q) ≡ false → RowRoom p s (q .0) (q .1) top
+  own-room b = subst (λ (r : Place). RowRoom p s (r .0) (r .1) top) (sym near-is) (go (nearOf front (entryAt t 0) .1) refl)
+    where
+      go : (k : ℕ) → nearOf front (entryAt t 0) .1 ≡ k → RowRoom p s (nearOf front (entryAt t 0) .0) (nearOf front (entryAt t 0) .1) top
+      go zero e =
+          let w : all (blank pattern) (runOf p s (nearOf front (entryAt t 0))) ≡ true =
+          ap (λ (x : ℕ). all (blank pattern) (runOf p s (nearOf front (entryAt t 0) .0, x))) e ∙ ap (all (blank pattern)) (run-none p s (nearOf front (entryAt t 0) .0)) in
+          let v : all (blank pattern) (runOf p s (nearOf front (entryAt t 0))) ≡ false = ap (λ (x : Place). all (blank pattern) (runOf p s x)) (sym near-is) ∙ b in
+          let y : _≡_ {A = ℕ} 0 1 = cc in absurd (omega arith)
+      go (suc k) e = record { below = omega (arith, h .below k (omega arith)); room = omega (arith, h .few, h .rows); narrow = h .narrow; narrow-store = omega (arith, h .small) }
+
+  module _ (r : Row) (n : Place) (w : Rewritten z r (withSides front (entryOf z) n (farOf front (entryOf z)) (entryOf z .text))) (t' : List ℕ) (u : Put t t' 0 r) (m : length t' ≡ length t) where
+    kept : Linked t' × (entries t' ≡ entries t)
+    kept =
+        own-kept t t' (h .linked) r u (w .next ∙ ap (λ (x : Row). x .next) ez) (w .prev ∙ ap (λ (x : Row). x .prev) ez)
+        (ap (λ (e : Entry). e .start) (w .entry-is) ∙ sides-start front (entryOf z) n (farOf front (entryOf z)) (entryOf z .text) ∙ ap (λ (x : Row). x .start) ez) m
+
+    row-is : entryAt t' 0 ≡ withSides front (entryAt t 0) n (farOf front (entryAt t 0)) (entryAt t 0 .text)
+    row-is = ap entryOf (u .at) ∙ w .entry-is ∙ ap (λ (x : Row). withSides front (entryOf x) n (farOf front (entryOf x)) (entryOf x .text)) ez
+
+  -- nothing is left
+  pub own-gone : (r : Row) → Rewritten z r (withSides front (entryOf z) (0, 0) (farOf front (entryOf z)) (entryOf z .text)) → (t' : List ℕ) → Put t t' 0 r → length t' ≡ length t
+      → all (blank pattern) (runOf p s q) ≡ true → OwnTrimmed front pattern p s top t p t' true
+  own-gone r w t' u m b =
+      let k = kept r (0, 0) w t' u m in
+      let e : all (blank pattern) (runOf p s (nearOf front (entryAt t 0))) ≡ true = ap (λ (x : Place). all (blank pattern) (runOf p s x)) (sym near-is) ∙ b in
+      record {
+        linked = k .0;
+        entries-are = k .1;
+        near = (0, 0);
+        row = row-is r (0, 0) w t' u m;
+        rows = rows-same top p;
+        text = run-none p s 0 ∙ sym (all-nil-deque front pattern (runOf p s (nearOf front (entryAt t 0))) e);
+        low = λ byte g j i. absurd (omega arith);
+        gone-is = sym e;
+        same = λ _. refl;
+      }
+
+  -- something is left
+  pub own-left : (p' : List ℕ) (n : Place) → RunTrimmed front pattern p s (q .0) (q .1) top p' n → (r : Row) → Rewritten z r (withSides front (entryOf z) n (farOf front (entryOf z)) (entryOf z .text))
+      → (t' : List ℕ) → Put t t' 0 r → length t' ≡ length t → all (blank pattern) (runOf p s q) ≡ false → OwnTrimmed front pattern p s top t p' t' false
+  own-left p' n d₀ r w t' u m b =
+      let k = kept r n w t' u m in
+      let d = run-at front pattern p s top p' n near-is d₀ in
+      record {
+        linked = k .0;
+        entries-are = k .1;
+        near = n;
+        row = row-is r n w t' u m;
+        rows = d .kept;
+        text = d .text;
+        low = λ byte g j i. (omega (arith, d .low byte g j i .0, h .few), d .low byte g j i .1);
+        gone-is = sym (ap (λ (x : Place). all (blank pattern) (runOf p s x)) (sym near-is) ∙ b);
+        same = λ e. let y : _≡_ {A = ℕ} 0 1 = cc in absurd (omega arith);
+      }
+
+-- ---- the chunk rows are ready
+module _ (source p s : List ℕ) (top byte : ℕ) where
+  Fit : Entry → Type 0
+  Fit e = RowReady source p s e × RowFits source p s top byte e
+
+  module _ (v : Valid source) (short : length source ≤ 16384) (rows : (top + 1024) * 2 ≤ length p) (narrow : length p ≤ 4294967296) (bytes : byte + 16384 ≤ length s) (small : length s ≤ 65536) where
+    fit-one : (e : Entry) → EntryLow p top byte e → Inside source (chunkOf p s e) → ValidTexts (chunkOf p s e .texts) → chunk-pieces (chunkOf p s e) ≤ 1024 → Fit e
+    unfolding Fit
+    fit-one e l i t n = (
+      record {
+        entry = entry-in p s top byte (omega arith) (omega arith) e l;
+        span = record { ordered = i .ordered; inside = i .inside };
+        texts = t;
+        content-valid = content-valid source (chunkOf p s e) v i t;
+      },
+      record {
+        low = l;
+        intro = omega (arith, run-length p s (e .intro .0) (e .intro .1), n);
+        outro = omega (arith, run-length p s (e .outro .0) (e .outro .1), n);
+        rows = rows;
+        narrow = narrow;
+        bytes = omega arith;
+        small = small;
+      },
+    )
+
+    fit-all : (es : List Entry) → All (EntryLow p top byte) es → All (Inside source) (map (chunkOf p s) es) → All (λ c. ValidTexts (c .texts)) (map (chunkOf p s) es)
+        → sum chunk-pieces (map (chunkOf p s) es) ≤ 1024 → All Fit es
+    fit-all [] l i t n = nil
+    fit-all (e ∷ es) (cons l ls) (cons i is) (cons t ts) n = cons (fit-one e l i t (omega arith)) (fit-all es ls is ts (omega arith))
+
+  each-of : (t : List ℕ) (xs : List ℕ) → All Fit (map (entryAt t) xs) → Each (ReadyAt source p s top byte t) xs
+  unfolding Fit
+  each-of t [] h = tt
+  each-of t (x ∷ xs) (cons h k) = (h, each-of t xs k)
+
+  fit-desk : (t : List ℕ) → SideReady source t p s top byte → All Fit (entries t)
+  unfolding magicStringOf
+  fit-desk t h =
+      fit-all (h .formed .source) (h .short) (h .rows) (h .narrow) (h .bytes) (h .small) (entries t) (h .low .chunks)
+      (spans-inside source (map (chunkOf p s) (entries t)) (h .formed .covered)) (h .formed .texts) (omega (arith, h .few))
+
+-- ---- one side
+module _ (front : Bool) (pattern : ℕ) (source t p s : List ℕ) (top byte : ℕ) (h : SideReady source t p s top byte) where
+  abbrev m : MagicString
+  m = magicStringOf source t p s
+
+  near-below : (f : Bool) → Below p byte top (nearOf f (entryAt t 0))
+  near-below true = h .low .desk .intro
+  near-below false = h .low .desk .outro
+
+  far-below : (f : Bool) → Below p byte top (farOf f (entryAt t 0))
+  far-below true = h .low .desk .outro
+  far-below false = h .low .desk .intro
+
+  near-valid : (f : Bool) → All Valid (runOf p s (nearOf f (entryAt t 0)))
+  unfolding magicStringOf
+  near-valid true = h .formed .intro
+  near-valid false = h .formed .outro
+
+  near-few : (f : Bool) → nearOf f (entryAt t 0) .1 ≤ 1024
+  unfolding magicStringOf
+  near-few true = omega (arith, h .few, run-length p s (entryAt t 0 .intro .0) (entryAt t 0 .intro .1))
+  near-few false = omega (arith, h .few, run-length p s (entryAt t 0 .outro .0) (entryAt t 0 .outro .1))
+
+  near-desk : (f : Bool) → near-pieces f m ≡ runOf p s (nearOf f (entryAt t 0))
+  unfolding magicStringOf
+  near-desk true = refl
+  near-desk false = refl
+
+  pub own-ready : OwnReady front p s top t
+  own-ready =
+      record {
+        linked = h .low .linked;
+        run = record { inside = run-in p s top byte (omega (arith, h .rows)) (omega (arith, h .bytes)) (nearOf front (entryAt t 0)) (near-below front); valid = near-valid front };
+        below = λ k g. near-below front k g .0;
+        few = near-few front;
+        rows = h .rows;
+        narrow = h .narrow;
+        small = h .small;
+      }
+
+  -- the desk with another head or tail and other chunks
+  desk-with : (f : Bool) (t' p' s' : List ℕ) (n x : Place) (N : List Text) (C : List Chunk) → entryAt t' 0 ≡ withSides f (entryAt t 0) n (farOf f (entryAt t 0)) x → runOf p' s' n ≡ N
+      → runOf p' s' (farOf f (entryAt t 0)) ≡ runOf p s (farOf f (entryAt t 0)) → map (chunkOf p' s') (entries t') ≡ C → magicStringOf source t' p' s' ≡ with-near f m N C
+  unfolding magicStringOf
+  desk-with true t' p' s' n x N C e a b d = desk-same source (ap (λ (y : Entry). runOf p' s' (y .intro)) e ∙ a) (ap (λ (y : Entry). runOf p' s' (y .outro)) e ∙ b) d
+  desk-with false t' p' s' n x N C e a b d = desk-same source (ap (λ (y : Entry). runOf p' s' (y .intro)) e ∙ b) (ap (λ (y : Entry). runOf p' s' (y .outro)) e ∙ a) d
+
+  desk-low : (f : Bool) (t' p' : List ℕ) (a b : ℕ) (n x : Place) → entryAt t' 0 ≡ withSides f (entryAt t 0) n (farOf f (entryAt t 0)) x → Below p' b a n → Below p' b a (farOf f (entryAt t 0))
+      → RunsLow p' a b (entryAt t' 0)
+  desk-low true t' p' a b n x e i j = subst (RunsLow p' a b) (sym e) (record { intro = i; outro = j })
+  desk-low false t' p' a b n x e i j = subst (RunsLow p' a b) (sym e) (record { intro = j; outro = i })
+
+  chunks-are : m .chunks ≡ map (chunkOf p s) (entries t)
+  unfolding magicStringOf
+  chunks-are = refl
+
+  source-is : m .source ≡ source
+  unfolding magicStringOf
+  source-is = refl
+
+  module _ (t1 p1 : List ℕ) (gone : Bool) (d : OwnTrimmed front pattern p s top t p1 t1 gone) where
+    far-still : Below p1 (byte + 16384) (top + 1024) (farOf front (entryAt t 0))
+    far-still = run-still top byte p p1 (d .rows) (top + 1024) (byte + 16384) (omega arith) (omega arith) (farOf front (entryAt t 0)) (far-below front)
+
+    near-still : Below p1 (byte + 16384) (top + 1024) (d .near)
+    near-still j i = (d .low byte (near-below front) j i .0, omega (arith, d .low byte (near-below front) j i .1))
+
+    -- the trim stops there
+    pub own-stops : gone ≡ false → SideTrimmed front pattern source t p s top byte t1 p1 s
+    own-stops g =
+        let b : all (blank pattern) (near-pieces front m) ≡ false = ap (all (blank pattern)) (near-desk front) ∙ sym (d .gone-is) ∙ g in
+        record {
+          low = record {
+            linked = d .linked;
+            desk = desk-low front t1 p1 (top + 1024) (byte + 16384) (d .near) _ (d .row) near-still far-still;
+            chunks = subst (All (EntryLow p1 (top + 1024) (byte + 16384))) (sym (d .entries-are)) (entries-still top byte p p1 (d .rows) (top + 1024) (byte + 16384) (omega arith) (omega arith) (h .low .chunks));
+          };
+          desk =
+              desk-with front t1 p1 s (d .near) _ (trim-deque front pattern (near-pieces front m)) (m .chunks) (d .row) (d .text ∙ ap (trim-deque front pattern) (sym (near-desk front)))
+              (run-same top byte p s p1 s (d .rows) (bytes-same byte s) (farOf front (entryAt t 0)) (far-below front))
+              (ap (map (chunkOf p1 s)) (d .entries-are) ∙ entries-same top byte p s p1 s (d .rows) (bytes-same byte s) (h .low .chunks) ∙ sym chunks-are)
+              ∙ sym (side-stops front pattern m b);
+          pieces = d .rows .len;
+          store = refl;
+        }
+
+    -- the chunks are next
+    pub chunks-ready : gone ≡ true → ChunksReady source p1 s top byte t1
+    unfolding Fit
+    chunks-ready g =
+        subst (λ (x : List ℕ). ChunksReady source x s top byte t1) (sym (d .same g))
+        (record { linked = d .linked; each = each-of source p s top byte t1 (order t1) (subst (All (Fit source p s top byte)) (sym (d .entries-are)) (fit-desk source p s top byte t h)) })
+
+    pub own-goes-on : gone ≡ true → (t2 p2 s2 : List ℕ) → ChunksTrimmed front pattern source p1 s top byte t1 p2 s2 t2 → SideTrimmed front pattern source t p s top byte t2 p2 s2
+    own-goes-on g t2 p2 s2 c₀ =
+        let c = subst (λ (x : List ℕ). ChunksTrimmed front pattern source x s top byte t1 p2 s2 t2) (d .same g) c₀ in
+        let b : all (blank pattern) (runOf p s (nearOf front (entryAt t 0))) ≡ true = sym (d .gone-is) ∙ g in
+        let e : entryAt t2 0 ≡ withSides front (entryAt t 0) (d .near) (farOf front (entryAt t 0)) (entryAt t 0 .text) = ap entryOf (c .desk) ∙ d .row in
+        let lp : Below p byte (top + 1024) (d .near) = subst (λ (x : List ℕ). Below x byte (top + 1024) (d .near)) (d .same g) (d .low byte (near-below front)) in
+        let nil-text : runOf p s (d .near) ≡ [] = ap (λ (x : List ℕ). runOf x s (d .near)) (sym (d .same g)) ∙ d .text ∙ all-nil-deque front pattern (runOf p s (nearOf front (entryAt t 0))) b in
+        let zero-n : d .near .1 ≡ 0 = sym (run-length p s (d .near .0) (d .near .1)) ∙ ap length nil-text in
+        record {
+          low = record {
+            linked = c .linked;
+            desk = desk-low front t2 p2 (top + 1024) (byte + 16384) (d .near) _ e (λ j i. absurd (omega arith))
+                (run-still top byte p p2 (c .rows) (top + 1024) (byte + 16384) (omega arith) (omega arith) (farOf front (entryAt t 0)) (far-below front));
+            chunks = entries-still (top + 1024) (byte + length source) p2 p2 (rows-same (top + 1024) p2) (top + 1024) (byte + 16384) (omega arith) (omega (arith, h .short)) (c .low);
+          };
+          desk =
+              desk-with front t2 p2 s2 (d .near) _ [] (way front (trim-chunks (trim-chunk front pattern (m .source)) (way front (m .chunks)))) e
+              (none-text p2 s2 (d .near) zero-n)
+              (run-same top byte p s p2 s2 (c .rows) (c .bytes) (farOf front (entryAt t 0)) (far-below front))
+              (c .chunks
+              ∙ ap (λ (es : List Entry). way front (trim-chunks (trim-chunk front pattern source) (way front (map (chunkOf p s) es)))) (d .entries-are)
+              ∙ ap₂ (λ (x : Text) (cs : List Chunk). way front (trim-chunks (trim-chunk front pattern x) (way front cs))) (sym source-is) (sym chunks-are))
+              ∙ sym (side-goes-on front pattern m (ap (all (blank pattern)) (near-desk front) ∙ b));
+          pieces = c .rows .len;
+          store = c .bytes .len;
+        }
+      where
+        none-text : (p' s' : List ℕ) (n : Place) → n .1 ≡ 0 → runOf p' s' n ≡ []
+        none-text p' s' n z = ap (λ (k : ℕ). runOf p' s' (n .0, k)) z ∙ run-none p' s' (n .0)
