@@ -1,7 +1,7 @@
 // The calls that report on a desk.
 ghost use mathlib.Core.List.{[]};
 ghost use lib.ListN.{length};
-ghost use Rattle.model.specs.Call.{to-string as ToString, slice as Slice, get-indent-string as GetIndentString, len as Len, len-utf16 as LenUtf16, line-count as LineCount, is-empty as IsEmpty, has-changed as HasChanged, is-range-within-edited-chunk as IsRangeWithinEditedChunk, last-char as LastChar};
+ghost use Rattle.model.specs.Call.{to-string as ToString, slice as Slice, last-line as LastLine, get-indent-string as GetIndentString, len as Len, len-utf16 as LenUtf16, line-count as LineCount, is-empty as IsEmpty, has-changed as HasChanged, is-range-within-edited-chunk as IsRangeWithinEditedChunk, last-char as LastChar};
 ghost use Rattle.memory.specs.Calls.{Reported};
 ghost use Rattle.slice.specs.Walk.{endOf};
 ghost use Rattle.magic_string.specs.Exported.{flag};
@@ -41,6 +41,25 @@ pub extern "C" fn magic_string_slice<'a>(
 {
     if well_formed::well_formed(source, chunks, pieces, store) {
         return slice::slice(source, chunks, pieces, store, start, has_end != 0, end, out);
+    }
+    Answer {
+        number: 2,
+        value: 0,
+    }
+}
+
+#[no_mangle]
+pub extern "C" fn magic_string_last_line<'a>(
+    source: &'a [u8],
+    chunks: &[u32],
+    pieces: &[u32],
+    store: &'a [u8],
+    out: &mut [u8],
+) -> Answer
+    ensures { λ r. ⌜ Reported (LastLine (length (now (out .entry)))) (now (source .entry)) (now (chunks .entry)) (now (pieces .entry)) (now (store .entry)) (now (out .entry)) (now (out .exit)) (r .number) (r .value) ⌝ }
+{
+    if well_formed::well_formed(source, chunks, pieces, store) {
+        return last::last_line(source, chunks, pieces, store, out);
     }
     Answer {
         number: 2,

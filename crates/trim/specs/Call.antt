@@ -1,30 +1,30 @@
 -- The trims as calls: the desk loaded into scratch tables, one side or both, and the end of every edit.
 -- Assumes nothing.
 use mathlib.Core.Path.{_≡_, refl, sym, ap, ap₂, _∙_, subst}
-use mathlib.Core.Bool.{Bool, true, false, _&&_, cond}
-use mathlib.Core.List.{List, [], _∷_, _++_, map}
-use Prim.Native.Nat.{ℕ, zero, suc, _+_, _*_, _≤_, _<_}
+use mathlib.Core.Bool.{Bool, true, false, _&&_}
+use mathlib.Core.List.{List, _++_}
+use Prim.Native.Nat.{ℕ, _+_, _*_, _≤_, _<_}
 use native.Mathlib.Omega.{arith}
 use lib.Dec.{leb}
 use lib.ListN.{length, getD, drop, length-append, length-drop, List·getD-append}
 use borrow.Author.Tests.{leb-true, le-leb, lt-leb}
 use Rattle.utf8.specs.Chars.{All, nil, cons}
-use Rattle.table.specs.Order.{Entry, entryAt, entries}
-use Rattle.model.specs.MagicString.{MagicString, Result, ok}
+use Rattle.table.specs.Order.{Entry}
+use Rattle.model.specs.MagicString.{MagicString, ok}
 use Rattle.model.specs.Limits.{full, within, piece-count, byte-count}
 use Rattle.model.specs.Call.{Edit, options-valid, trim, trim-start, trim-end, trim-lines, steps, refused-before}
 use Rattle.model.specs.Trim as trim-rs
 use Rattle.model.specs.WellFormed as model
-use Rattle.memory.specs.Layout.{NONE, Place, pieceAt, magicStringOf}
-use Rattle.memory.specs.WellFormed.{PieceIn, RunIn, ReplacementIn, EntryIn, Readable, WellFormed}
+use Rattle.memory.specs.Layout.{Place, pieceAt, magicStringOf}
+use Rattle.memory.specs.WellFormed.{RunIn, ReplacementIn, EntryIn, Readable, WellFormed}
 use Rattle.memory.specs.Calls.{idle, Ran}
 use Rattle.texts.specs.Carry.{Below}
 use Rattle.preservation.specs.Desk.{FormedOf}
 use Rattle.rebuild.specs.Rebuilt.{Finished}
 use Rattle.frame.specs.Loaded.{Loaded}
-use Rattle.frame.specs.Frame.{Scratch, Did, loaded-readable, loaded-desk, with-scratch-desk, small-source, ran-before, ran-finished, not-refused, may-write-0}
+use Rattle.frame.specs.Frame.{Scratch, loaded-readable, loaded-desk, with-scratch-desk, small-source, ran-before, ran-finished, not-refused, may-write-0}
 use Rattle.trim_run.specs.Low.{EntryLow, DeskLow, desk-in}
-use Rattle.trim.specs.Model.{trim-side, trim-sides, side-keeps, side-pieces}
+use Rattle.trim.specs.Model.{trim-sides, side-keeps, side-pieces}
 use Rattle.trim.specs.Side.{SideReady, SideTrimmed}
 
 -- ---- one side or both

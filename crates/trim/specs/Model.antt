@@ -1,9 +1,8 @@
 -- `trim_start` and `trim_end` as one function of the side, and what they leave of the piece count.
 -- Assumes nothing.
-use mathlib.Core.Path.{_≡_, refl, sym, ap, _∙_}
+use mathlib.Core.Path.{_≡_, refl, ap, _∙_}
 use mathlib.Core.Bool.{Bool, true, false, cond}
 use mathlib.Core.List.{List, [], _∷_, _++_, reverse, reverse-cons}
-use mathlib.Core.Option.{Option, some}
 use Prim.Native.Nat.{ℕ, _+_, _≤_}
 use native.Mathlib.Omega.{arith}
 use lib.Dec.{eqb}
@@ -14,7 +13,6 @@ use Rattle.model.specs.MagicString.{MagicString, with-chunks, with-intro, with-
 use Rattle.model.specs.Limits.{chunk-pieces, piece-count}
 use Rattle.model.specs.Trim.{trim-start-pattern, trim-end-pattern, trim-deque-start, trim-reversed, trim-deque-end, Trimmed, trim-chunk-start, trim-chunk-end, trim-chunks, trim-start, trim-end}
 use Rattle.preservation.specs.Lists.{of-cond, of-either}
-use Rattle.preservation.specs.Lists as lists
 use Rattle.preservation.specs.Desk.{FormedOf}
 use Rattle.preservation.specs.Trim.{trim-start-keeps, trim-end-keeps}
 use Rattle.trim_text.specs.Sides.{blank}

@@ -1,7 +1,7 @@
 -- One side of a desk trimmed on scratch tables: the head or the tail, then the chunks.
 -- Assumes nothing.
 use mathlib.Core.Path.{_≡_, refl, sym, ap, ap₂, _∙_, subst}
-use mathlib.Core.Bool.{Bool, true, false, _&&_, cond}
+use mathlib.Core.Bool.{Bool, true, false}
 use mathlib.Core.List.{List, [], _∷_, map}
 use Prim.Native.Nat.{ℕ, zero, suc, _+_, _*_, _≤_, _<_}
 use native.Mathlib.Omega.{arith}
@@ -18,18 +18,17 @@ use Rattle.model.specs.Limits.{chunk-pieces, piece-count}
 use Rattle.model.specs.Trim.{trim-chunks}
 use Rattle.model.specs.WellFormed.{Valid, ValidTexts, Formed}
 use Rattle.memory.specs.Layout.{Place, runOf, chunkOf, magicStringOf}
-use Rattle.memory.specs.WellFormed.{RunIn, Readable}
-use Rattle.texts.specs.Texts.{SpanIn, run-length, run-tabulate}
+use Rattle.texts.specs.Texts.{run-length}
 use Rattle.texts.specs.Carry.{Below}
 use Rattle.preservation.specs.Spans.{Inside, spans-inside}
 use Rattle.preservation.specs.Trim.{content-valid}
-use Rattle.frame.specs.Front.{bool-elim, desk-same}
+use Rattle.frame.specs.Front.{desk-same}
 use Rattle.trim_text.specs.Sides.{blank}
 use Rattle.trim_run.specs.Deque.{trim-deque, all-nil-deque}
-use Rattle.trim_run.specs.Low.{RowsKept, BytesKept, rows-same, bytes-same, RunsLow, EntryLow, DeskLow, run-in, entry-in, desk-in, run-same, run-still, entries-same, entries-still}
+use Rattle.trim_run.specs.Low.{RowsKept, rows-same, bytes-same, RunsLow, EntryLow, DeskLow, run-in, entry-in, run-same, run-still, entries-same, entries-still}
 use Rattle.trim_run.specs.Run.{RunReady, RowRoom, RunTrimmed}
 use Rattle.trim_row.specs.Sides.{trim-chunk}
-use Rattle.trim_row.specs.Row.{placeOf, nearOf, farOf, withSides, Rewritten, RowReady, RowFits, run-at}
+use Rattle.trim_row.specs.Row.{nearOf, farOf, withSides, Rewritten, RowReady, RowFits, run-at}
 use Rattle.trim_chunks.specs.Walk.{way, ReadyAt, ChunksReady, ChunksTrimmed}
 use Rattle.trim.specs.Model.{trim-side, near-pieces, with-near, side-stops, side-goes-on}
 
@@ -297,7 +296,6 @@ module _ (front : Bool) (pattern : ℕ) (source t p s : List ℕ) (top byte : �
         let c = subst (λ (x : List ℕ). ChunksTrimmed front pattern source x s top byte t1 p2 s2 t2) (d .same g) c₀ in
         let b : all (blank pattern) (runOf p s (nearOf front (entryAt t 0))) ≡ true = sym (d .gone-is) ∙ g in
         let e : entryAt t2 0 ≡ withSides front (entryAt t 0) (d .near) (farOf front (entryAt t 0)) (entryAt t 0 .text) = ap entryOf (c .desk) ∙ d .row in
-        let lp : Below p byte (top + 1024) (d .near) = subst (λ (x : List ℕ). Below x byte (top + 1024) (d .near)) (d .same g) (d .low byte (near-below front)) in
         let nil-text : runOf p s (d .near) ≡ [] = ap (λ (x : List ℕ). runOf x s (d .near)) (sym (d .same g)) ∙ d .text ∙ all-nil-deque front pattern (runOf p s (nearOf front (entryAt t 0))) b in
         let zero-n : d .near .1 ≡ 0 = sym (run-length p s (d .near .0) (d .near .1)) ∙ ap length nil-text in
         record {
