@@ -23,7 +23,7 @@ pub fn print(core: &mut impl Core, desk: &DeskData) {
   let theirs = least(|| None, |opened| *opened = Some(MagicString::new(source)));
   let ours = time(core, &image, &Open { source: Vec::new() });
   line("open", theirs, ours);
-  for call in every(desk) {
+  for call in every(desk).into_iter().filter(|call| core.has(call)).collect::<Vec<_>>() {
     let rust_call = RustCall::new(&call);
     let theirs = least(|| rust.clone(), |desk| rust_call.make(desk));
     let ours = time(core, &image, &call);
