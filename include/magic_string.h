@@ -141,13 +141,6 @@ magic_string_answer magic_string_trim_end(MAGIC_STRING_DESK, uint32_t pattern);
 /* trim with pattern 1. */
 magic_string_answer magic_string_trim_lines(MAGIC_STRING_DESK);
 
-/* Puts the indentor, or the guessed one, before each line, except in the
- * excluded ranges: pairs of positions. 15, 1, 3, 13. */
-magic_string_answer
-magic_string_indent_with(MAGIC_STRING_DESK, uint32_t has_indentor,
-                         const uint8_t *indentor, size_t indentor_len,
-                         const uint32_t *exclude, size_t exclude_len);
-
 /* ---- reports: the value is the number of bytes written ---- */
 
 /* The output. 14. */
