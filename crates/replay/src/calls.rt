@@ -84,7 +84,14 @@ fn edit_text(
         8 => exported_edits::magic_string_append(source, chunks, pieces, store, text),
         9 => exported_edits::magic_string_prepend(source, chunks, pieces, store, text),
         10 => exported_edits::magic_string_update_with(
-            source, chunks, pieces, store, k.a, k.b, text, k.c,
+            source,
+            chunks,
+            pieces,
+            store,
+            k.a,
+            k.b,
+            text,
+            k.c,
         ),
         _ => no_call(),
     }
@@ -137,7 +144,14 @@ fn report_text<'a>(
     let kind = k.kind;
     match kind {
         16 => exported_reports::magic_string_slice(
-            source, chunks, pieces, store, k.a, k.b, k.c, out,
+            source,
+            chunks,
+            pieces,
+            store,
+            k.a,
+            k.b,
+            k.c,
+            out,
         ),
         17 => exported_reports::magic_string_to_string(source, chunks, pieces, store, out),
         18 => exported_reports::magic_string_last_line(source, chunks, pieces, store, out),
@@ -161,7 +175,12 @@ fn report_number<'a>(
         23 => exported_reports::magic_string_is_empty(source, chunks, pieces, store),
         24 => exported_reports::magic_string_has_changed(source, chunks, pieces, store),
         25 => exported_reports::magic_string_is_range_within_edited_chunk(
-            source, chunks, pieces, store, k.a, k.b,
+            source,
+            chunks,
+            pieces,
+            store,
+            k.a,
+            k.b,
         ),
         26 => exported_reports::magic_string_last_char(source, chunks, pieces, store),
         27 => exported_desk::magic_string_well_formed(source, chunks, pieces, store),

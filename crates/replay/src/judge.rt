@@ -31,13 +31,7 @@ fn answered(got: Answer, e: Expected) -> bool
     false
 }
 
-fn has_digest<'a>(
-    d: u32,
-    source: &'a [u8],
-    chunks: &[u32],
-    pieces: &[u32],
-    store: &'a [u8],
-) -> bool
+fn has_digest<'a>(d: u32, source: &'a [u8], chunks: &[u32], pieces: &[u32], store: &'a [u8]) -> bool
     ensures { λ r. ⌜ Decides r (HasDigest d (now (source .entry)) (now (chunks .entry)) (now (pieces .entry)) (now (store .entry))) ⌝ }
 {
     if well_formed::well_formed(source, chunks, pieces, store) {
@@ -114,7 +108,14 @@ fn agrees<'a>(
     if answered(got, e) {
         if replay_compare::written(out, bytes) {
             return tables_are(
-                e, source, chunks, pieces, store, was_chunks, was_pieces, was_store,
+                e,
+                source,
+                chunks,
+                pieces,
+                store,
+                was_chunks,
+                was_pieces,
+                was_store,
             );
         }
     }
@@ -140,19 +141,29 @@ fn play_by(
         (now (chunks .entry)) (now (pieces .entry)) (now (store .entry)) (now (chunks .exit)) (now (pieces .exit)) (now (store .exit))
         (now (bytes .entry)) (now (out .exit))) ⌝ }
 {
-    if !copy_tables(chunks, pieces, store, was_chunks, was_pieces, was_store) {
-        return refused();
+    if copy_tables(chunks, pieces, store, was_chunks, was_pieces, was_store) {
+        replay_compare::fill(out);
+        let got = crate::calls::make(k, source, chunks, pieces, store, text, out);
+        let agrees = agrees(
+            got,
+            e,
+            source,
+            chunks,
+            pieces,
+            store,
+            was_chunks,
+            was_pieces,
+            was_store,
+            bytes,
+            out,
+        );
+        return Outcome {
+            agrees,
+            number: got.number,
+            value: got.value,
+        };
     }
-    replay_compare::fill(out);
-    let got = crate::calls::make(k, source, chunks, pieces, store, text, out);
-    let agrees = agrees(
-        got, e, source, chunks, pieces, store, was_chunks, was_pieces, was_store, bytes, out,
-    );
-    Outcome {
-        agrees,
-        number: got.number,
-        value: got.value,
-    }
+    refused()
 }
 
 // The same with room for the copies.

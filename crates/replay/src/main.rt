@@ -55,7 +55,16 @@ fn lines(
     let mut n: usize = 0;
     while at < input.len() {
         let end = replay_read::find(input, at, b'\n');
-        n = line(&input[at..end], place, source, n, chunks, pieces, store, tally);
+        n = line(
+            &input[at..end],
+            place,
+            source,
+            n,
+            chunks,
+            pieces,
+            store,
+            tally,
+        );
         if end == input.len() {
             return;
         }
@@ -84,16 +93,24 @@ fn replay(input: &[u8], tally: &mut [u32]) {
     );
 }
 
-fn replay_and_tell(input: &[u8]) {
-    let mut tally = [0u32; 1024];
+fn replay_and_tell(input: &[u8], tally: &mut [u32]) {
+    replay(input, tally);
+    tell::print_tally(tally);
+}
+
+fn with_tally(input: &[u8]) {
     let cells = 1024usize;
-    replay(input, &mut tally[..cells]);
-    tell::print_tally(&tally[..cells]);
+    let mut tally = [0u32; 1024];
+    replay_and_tell(input, &mut tally[..cells]);
+}
+
+fn with_input(input: &mut [u8]) {
+    let n = io::read_full(STDIN_FILENO, input);
+    with_tally(&input[..n]);
 }
 
 fn main() {
-    let room = 524288usize;
-    let mut input = [0u8; 524288];
-    let n = io::read_full(STDIN_FILENO, &mut input[..room]);
-    replay_and_tell(&input[..n]);
+    let room = 262144usize;
+    let mut input = [0u8; 262144];
+    with_input(&mut input[..room]);
 }

@@ -5,8 +5,8 @@ ghost use lib.ListN.{length};
 ghost use Rattle.replay.specs.Agreed.{Inside};
 use crate::calls::Call;
 use crate::judge::Expected;
-use replay_read::Read;
 use crate::tell::Told;
+use replay_read::Read;
 
 // The columns of a line, if it is a record: the kind, how far the buffers are filled, and numbers.
 pub struct Columns {
@@ -273,7 +273,19 @@ fn record_by(
     let c = read_columns(line, numbers, text, bytes);
     let a = answer_of(line);
     if both(c.good, a.good) {
-        return cut(c, a, source, n, chunks, pieces, store, numbers, text, bytes, out);
+        return cut(
+            c,
+            a,
+            source,
+            n,
+            chunks,
+            pieces,
+            store,
+            numbers,
+            text,
+            bytes,
+            out,
+        );
     }
     no_record(n)
 }

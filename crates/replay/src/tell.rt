@@ -15,6 +15,7 @@ pub struct Told {
 
 // Where the counts begin: calls replayed, calls that differ, each 16 to a kind; lines that are no record.
 const DIFFER: usize = 512;
+
 const MALFORMED: usize = 1000;
 
 fn print(text: &[u8]) {
@@ -149,7 +150,10 @@ fn print_of_number(tally: &[u32], number: u32) {
     print(b"number ");
     print_number(number);
     print(b": ");
-    print_sums(sum_number(tally, 0, number), sum_number(tally, DIFFER, number));
+    print_sums(
+        sum_number(tally, 0, number),
+        sum_number(tally, DIFFER, number),
+    );
     print(b"\n");
 }
 

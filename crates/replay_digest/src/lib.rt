@@ -60,13 +60,7 @@ fn mix_rows(h: u32, source: &[u8], chunks: &[u32], pieces: &[u32], store: &[u8])
     d
 }
 
-fn mix_texts<'a>(
-    h: u32,
-    source: &'a [u8],
-    chunks: &[u32],
-    pieces: &[u32],
-    store: &'a [u8],
-) -> u32
+fn mix_texts<'a>(h: u32, source: &'a [u8], chunks: &[u32], pieces: &[u32], store: &'a [u8]) -> u32
     requires { ⌜ WellFormed (now source) (now chunks) (now pieces) (now store) ⌝ }
     ensures { λ r. ⌜ r ≡ mixed-texts h (fragmentsAll (now (source .entry)) (now (pieces .entry)) (now (store .entry)) (sections (now (chunks .entry)))) ⌝ }
 {

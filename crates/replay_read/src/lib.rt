@@ -137,10 +137,7 @@ pub fn numbers(s: &[u8], out: &mut [u32]) -> Filled
     ensures { λ r. ⌜ r .n ≤ length (now (out .exit)) ⌝ }
 {
     if is_only(s, b'-') {
-        return Filled {
-            good: true,
-            n: 0,
-        };
+        return Filled { good: true, n: 0 };
     }
     let mut at: usize = 0;
     let mut n: usize = 0;
@@ -266,10 +263,7 @@ pub fn text(s: &[u8], out: &mut [u8]) -> Filled
     ensures { λ r. ⌜ r .n ≤ length (now (out .exit)) ⌝ }
 {
     if is_only(s, b'-') {
-        return Filled {
-            good: true,
-            n: 0,
-        };
+        return Filled { good: true, n: 0 };
     }
     let mut at: usize = 0;
     let mut n: usize = 0;

@@ -1,19 +1,15 @@
+use lib.ListN.{length}
+use Prim.Native.Nat.{_≤_, _-_}
+use mathlib.Core.Path.{_≡_}
 use borrow.Author.Needs.{needs}
 use Rattle.replay.proofs.lines.Statement.{statement}
 use Rattle.replay.proofs.lines.Tie as tie
-use Rattle.replay.proofs.lines.Reads as reads
-use Rattle.replay.proofs.lines.Lts as lts
-use Rattle.replay.proofs.line.Reads as line-reads
-use Rattle.replay_read.proofs.find.Reads as find-reads
-use Rattle.std.proofs.num.wrapping_add_u32.Reads as wrapping-add-u32-reads
 
 abbrev Inv-loop : tie.InvT-loop
-Inv-loop input source₀ chunks₀ pieces₀ store₀ tally₀ at₀ place₀ n₀ source chunks pieces store tally at place n =
-    ?
+Inv-loop input source₀ chunks₀ pieces₀ store₀ tally₀ at₀ place₀ n₀ source chunks pieces store tally at place n = (length source ≡ length source₀) × (length chunks ≡ length chunks₀) × (length pieces ≡ length pieces₀) × (length store ≡ length store₀) × (length tally ≡ length tally₀) × (at ≤ length input) × (n ≤ length source)
 
 abbrev μ-loop : tie.MeasureT-loop
-μ-loop input source₀ chunks₀ pieces₀ store₀ tally₀ at₀ place₀ n₀ source chunks pieces store tally at place n =
-    ?
+μ-loop input source₀ chunks₀ pieces₀ store₀ tally₀ at₀ place₀ n₀ source chunks pieces store tally at place n = length input - at
 
 loop-holds : tie.Need-loop-holds Inv-loop μ-loop
 loop-holds c = search needs

@@ -47,7 +47,10 @@ impl Writer {
   }
 
   /// Makes the call, and writes it with its answer and the tables after it.
-  fn call(&mut self, call: &Call) -> Answer {
+  fn call(&mut self, call: &Call) {
+    if !has(call) {
+      return;
+    }
     let answer = self.script.call(call).expect("papers begin with an opening");
     let tables = match self.script.desk() {
       Some(desk) if !keeps::every_byte(call, answer.number) => {
@@ -55,20 +58,14 @@ impl Writer {
       }
       _ => Tables::Kept,
     };
-    self.write(call, &answer, tables);
-    answer
+    self.count(&Record::of(call, &answer, tables));
   }
 
   /// Writes the call as one that finds no desk: 2, and every byte kept.
   fn no_desk(&mut self, call: &Call) {
-    self.write(call, &Answer::number(number::NOT_WELL_FORMED), Tables::Kept);
-  }
-
-  fn write(&mut self, call: &Call, answer: &Answer, tables: Tables) {
-    if !has(call) {
-      return;
+    if has(call) {
+      self.count(&Record::of(call, &Answer::number(number::NOT_WELL_FORMED), Tables::Kept));
     }
-    self.count(&Record::of(call, answer, tables));
   }
 
   /// The exported check by itself.

@@ -1,10 +1,9 @@
+use lib.Seq.{length-take-le}
+use native.Mathlib.Omega.{arith}
+use mathlib.Core.Path.{sym, _∙_}
 use borrow.Author.Needs.{needs}
 use Rattle.replay.proofs.calls.open.Statement.{statement}
 use Rattle.replay.proofs.calls.open.Tie as tie
-use Rattle.replay.proofs.calls.open.Reads as reads
-use Rattle.replay.proofs.calls.open.Lts as lts
-use Rattle.magic_string.proofs.exported_desk.magic_string_open.Reads as magic-string-open-reads
-use Rattle.replay.proofs.calls.no_call.Reads as no-call-reads
 
 no-call-requires : tie.Need-no-call-requires
 no-call-requires c κs = search needs
@@ -19,7 +18,7 @@ slice-relend-prefix-magic-string-open : tie.Need-slice-relend-prefix-magic-strin
 slice-relend-prefix-magic-string-open c = search needs
 
 slice-aggregate-magic-string-open : tie.Need-slice-aggregate-magic-string-open
-slice-aggregate-magic-string-open c = search needs
+slice-aggregate-magic-string-open c = sym (length-take-le _ _ (omega (arith, c .before .if1 .left)))
 
 magic-string-open-requires : tie.Need-magic-string-open-requires
 magic-string-open-requires c κs = search needs

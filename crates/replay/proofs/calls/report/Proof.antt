@@ -1,11 +1,9 @@
+use lib.Seq.{length-take-le}
+use native.Mathlib.Omega.{arith}
+use mathlib.Core.Path.{sym, _∙_}
 use borrow.Author.Needs.{needs}
 use Rattle.replay.proofs.calls.report.Statement.{statement}
 use Rattle.replay.proofs.calls.report.Tie as tie
-use Rattle.replay.proofs.calls.report.Reads as reads
-use Rattle.replay.proofs.calls.report.Lts as lts
-use Rattle.replay.proofs.calls.no_call.Reads as no-call-reads
-use Rattle.replay.proofs.calls.report_number.Reads as report-number-reads
-use Rattle.replay.proofs.calls.report_text.Reads as report-text-reads
 
 cast-room : tie.Need-cast-room
 cast-room c = search needs
@@ -20,7 +18,7 @@ slice-relend-prefix-report-text : tie.Need-slice-relend-prefix-report-text
 slice-relend-prefix-report-text c = search needs
 
 slice-aggregate-report-text : tie.Need-slice-aggregate-report-text
-slice-aggregate-report-text c = search needs
+slice-aggregate-report-text c = sym (length-take-le _ _ (omega (arith, c .before .before .before .if1 .left)))
 
 report-text-requires : tie.Need-report-text-requires
 report-text-requires c κs = search needs

@@ -1,19 +1,21 @@
+use Rattle.replay.proofs.Laws.{agreed-kept}
+use Rattle.counts.specs.Sums.{not-both}
+use mathlib.Core.Path.{sym, _∙_}
 use borrow.Author.Needs.{needs}
 use Rattle.replay.proofs.judge.play_by.Statement.{statement}
 use Rattle.replay.proofs.judge.play_by.Tie as tie
-use Rattle.replay.proofs.judge.play_by.Reads as reads
-use Rattle.replay.proofs.judge.play_by.Lts as lts
-use Rattle.replay.proofs.calls.make.Reads as make-reads
-use Rattle.replay.proofs.judge.agrees.Reads as agrees-reads
-use Rattle.replay.proofs.judge.copy_tables.Reads as copy-tables-reads
-use Rattle.replay.proofs.judge.refused.Reads as refused-reads
-use Rattle.replay_compare.proofs.fill.Reads as fill-reads
 
 copy-tables-requires : tie.Need-copy-tables-requires
 copy-tables-requires c κs = search needs
 
-refused-requires : tie.Need-refused-requires
-refused-requires c κs = search needs
+fill-requires : tie.Need-fill-requires
+fill-requires c κs = search needs
+
+make-requires : tie.Need-make-requires
+make-requires c κs = search needs
+
+agrees-requires : tie.Need-agrees-requires
+agrees-requires c κs = search needs
 
 same-length : tie.Need-same-length
 same-length c = search needs
@@ -33,20 +35,14 @@ same-length-5 c = search needs
 same-length-6 : tie.Need-same-length-6
 same-length-6 c = search needs
 
-returns : tie.Need-returns
-returns c = search needs
-
-fill-requires : tie.Need-fill-requires
-fill-requires c κs = search needs
-
-make-requires : tie.Need-make-requires
-make-requires c κs = search needs
-
-agrees-requires : tie.Need-agrees-requires
-agrees-requires c κs = search needs
-
 same-length-7 : tie.Need-same-length-7
 same-length-7 c = search needs
+
+returns : tie.Need-returns
+returns c = λ e. agreed-kept (c .before .before .before .before .before .before .before .before .before .before .before .before .before .before .before .before .before .before .before .before .before .before .before .before .before .before .before .before .before .before .before .before .copy-tables .ensures (c .before .before .before .before .before .before .before .before .before .before .before .before .before .before .before .before .before .before .before .before .before .before .before .before .before .if1 .taken)) (c .agrees .ensures e)
+
+refused-requires : tie.Need-refused-requires
+refused-requires c κs = search needs
 
 same-length-8 : tie.Need-same-length-8
 same-length-8 c = search needs
@@ -67,25 +63,25 @@ same-length-13 : tie.Need-same-length-13
 same-length-13 c = search needs
 
 returns-2 : tie.Need-returns-2
-returns-2 c = search needs
+returns-2 c = λ e. not-both (sym (c .refused .ensures) ∙ e)
 
 pub play-by-spec : {M : Type 1} → statement M
 play-by-spec =
     tie.close
     (tie.spec
     copy-tables-requires
-    refused-requires
+    fill-requires
+    make-requires
+    agrees-requires
     same-length
     same-length-2
     same-length-3
     same-length-4
     same-length-5
     same-length-6
-    returns
-    fill-requires
-    make-requires
-    agrees-requires
     same-length-7
+    returns
+    refused-requires
     same-length-8
     same-length-9
     same-length-10

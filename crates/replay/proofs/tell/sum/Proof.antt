@@ -1,16 +1,13 @@
+use Prim.Native.Nat.{_≤_, _-_}
 use borrow.Author.Needs.{needs}
 use Rattle.replay.proofs.tell.sum.Statement.{statement}
 use Rattle.replay.proofs.tell.sum.Tie as tie
-use Rattle.replay.proofs.tell.sum.Reads as reads
-use Rattle.replay.proofs.tell.sum.Lts as lts
-use Rattle.replay.proofs.tell.sum_number.Reads as sum-number-reads
-use Rattle.std.proofs.num.wrapping_add_u64.Reads as wrapping-add-u64-reads
 
 abbrev Inv-loop : tie.InvT-loop
-Inv-loop tally from n₀ number₀ n number = ?
+Inv-loop tally from n₀ number₀ n number = number ≤ 16
 
 abbrev μ-loop : tie.MeasureT-loop
-μ-loop tally from n₀ number₀ n number = ?
+μ-loop tally from n₀ number₀ n number = 16 - number
 
 loop-holds : tie.Need-loop-holds Inv-loop μ-loop
 loop-holds c = search needs
