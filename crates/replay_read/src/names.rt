@@ -4,39 +4,11 @@ use libc::STDOUT_FILENO;
 // No kind.
 pub const UNKNOWN: u32 = 29;
 
-pub fn is_named(kind: u32, s: &[u8]) -> bool {
-    match kind {
-        0 => replay_compare::same(s, b"open"),
-        1 => replay_compare::same(s, b"remove"),
-        2 => replay_compare::same(s, b"reset"),
-        3 => replay_compare::same(s, b"relocate"),
-        4 => replay_compare::same(s, b"append_left"),
-        5 => replay_compare::same(s, b"append_right"),
-        6 => replay_compare::same(s, b"prepend_left"),
-        7 => replay_compare::same(s, b"prepend_right"),
-        8 => replay_compare::same(s, b"append"),
-        9 => replay_compare::same(s, b"prepend"),
-        10 => replay_compare::same(s, b"update_with"),
-        11 => replay_compare::same(s, b"trim"),
-        12 => replay_compare::same(s, b"trim_start"),
-        13 => replay_compare::same(s, b"trim_end"),
-        14 => replay_compare::same(s, b"trim_lines"),
-        15 => replay_compare::same(s, b"indent_with"),
-        16 => replay_compare::same(s, b"slice"),
-        17 => replay_compare::same(s, b"to_string"),
-        18 => replay_compare::same(s, b"last_line"),
-        19 => replay_compare::same(s, b"get_indent_string"),
-        20 => replay_compare::same(s, b"len"),
-        21 => replay_compare::same(s, b"len_utf16"),
-        22 => replay_compare::same(s, b"line_count"),
-        23 => replay_compare::same(s, b"is_empty"),
-        24 => replay_compare::same(s, b"has_changed"),
-        25 => replay_compare::same(s, b"is_range_within_edited_chunk"),
-        26 => replay_compare::same(s, b"last_char"),
-        27 => replay_compare::same(s, b"well_formed"),
-        28 => replay_compare::same(s, b"set_word"),
-        _ => false,
-    }
+// The names, in the order of their numbers.
+const NAMES: [u8; 303] = *b"open remove reset relocate append_left append_right prepend_left prepend_right append prepend update_with trim trim_start trim_end trim_lines indent_with slice to_string last_line get_indent_string len len_utf16 line_count is_empty has_changed is_range_within_edited_chunk last_char well_formed set_word";
+
+fn is_named(kind: u32, s: &[u8]) -> bool {
+    replay_compare::same(crate::column(&NAMES, kind as usize), s)
 }
 
 // The kind with this name, or `UNKNOWN`.
@@ -51,43 +23,8 @@ pub fn kind_of(s: &[u8]) -> u32 {
     kind
 }
 
-fn print(text: &[u8]) {
-    io::write_all(STDOUT_FILENO, text);
-}
-
 pub fn print_name(kind: u32) {
-    match kind {
-        0 => print(b"open"),
-        1 => print(b"remove"),
-        2 => print(b"reset"),
-        3 => print(b"relocate"),
-        4 => print(b"append_left"),
-        5 => print(b"append_right"),
-        6 => print(b"prepend_left"),
-        7 => print(b"prepend_right"),
-        8 => print(b"append"),
-        9 => print(b"prepend"),
-        10 => print(b"update_with"),
-        11 => print(b"trim"),
-        12 => print(b"trim_start"),
-        13 => print(b"trim_end"),
-        14 => print(b"trim_lines"),
-        15 => print(b"indent_with"),
-        16 => print(b"slice"),
-        17 => print(b"to_string"),
-        18 => print(b"last_line"),
-        19 => print(b"get_indent_string"),
-        20 => print(b"len"),
-        21 => print(b"len_utf16"),
-        22 => print(b"line_count"),
-        23 => print(b"is_empty"),
-        24 => print(b"has_changed"),
-        25 => print(b"is_range_within_edited_chunk"),
-        26 => print(b"last_char"),
-        27 => print(b"well_formed"),
-        28 => print(b"set_word"),
-        _ => print(b"unknown"),
-    }
+    io::write_all(STDOUT_FILENO, crate::column(&NAMES, kind as usize));
 }
 
 // Whether a record of this kind has so many numbers.
