@@ -1,1 +1,2 @@
 pub mod Indent
+pub mod Walk
