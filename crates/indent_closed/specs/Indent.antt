@@ -1,10 +1,12 @@
 -- What `indent_with` leaves of a desk, chunk by chunk: head, each chunk cut at its line starts, tail. specs/Walk.antt has the law that the model's walk leaves this,
 -- and specs/Growth.antt that it only grows.
-use Prim.Native.Nat.{ℕ}
+use Prim.Native.Nat.{ℕ, _≤_, _<_}
+use mathlib.Core.Path.{_≡_}
 use mathlib.Core.Bool.{Bool, true, false}
 use mathlib.Core.List.{List, [], _∷_, _++_}
 use mathlib.Core.Option.{Option, none, some}
 use lib.Dec.{ltb}
+use borrow.Author.Tests.{lt-ltb, le-ltb}
 use Rattle.utf8.specs.Chars.{chars}
 use Rattle.model.specs.Text.{Text}
 use Rattle.model.specs.Chunk.{Chunk, with-texts, start-of, span-text, first-half, second-half, prepend-intro}
@@ -19,6 +21,15 @@ split-lines indentor c (i ∷ l) =
       | true ↦ first-half i c ∷ split-lines indentor (with-texts (prepend-intro indentor) (second-half i c)) l
       | false ↦ split-lines indentor (with-texts (prepend-intro indentor) c) l
     ]
+
+-- a line start inside the chunk, and one at its start
+pub split-lines-inside : (indentor : Text) (c : Chunk) (i : ℕ) (l : List ℕ) → start-of c < i
+    → split-lines indentor c (i ∷ l) ≡ first-half i c ∷ split-lines indentor (with-texts (prepend-intro indentor) (second-half i c)) l
+split-lines-inside indentor c i l h = rw (lt-ltb (start-of c) i h, split-lines)
+
+pub split-lines-at-start : (indentor : Text) (c : Chunk) (i : ℕ) (l : List ℕ) → i ≤ start-of c
+    → split-lines indentor c (i ∷ l) ≡ split-lines indentor (with-texts (prepend-intro indentor) c) l
+split-lines-at-start indentor c i l h = rw (le-ltb (start-of c) i h, split-lines)
 
 -- what chunks become, and the mark behind them
 pub record IndentedChunks : Type 0 where

@@ -27,7 +27,7 @@ use Rattle.utf8.specs.CharLaws.{all-front, all-back}
 use Rattle.preservation.specs.Lists.{of-either, all-imp, all-key, sum-key, all-append}
 use Rattle.preservation.specs.Spans.{covers-key}
 use Rattle.preservation.specs.Indent.{chars-some}
-use Rattle.indent_closed.specs.Indent.{split-lines, IndentedChunks, indented-chunk, indented-chunks, indented}
+use Rattle.indent_closed.specs.Indent.{split-lines, split-lines-inside, split-lines-at-start, IndentedChunks, indented-chunk, indented-chunks, indented}
 
 -- ── spans ──
 -- the same spans with other texts
@@ -156,3 +156,118 @@ module _ (i : ℕ) (t : Text) (m : MagicString) (xs : List Chunk) (c : Chunk) (y
       let z : split-at i (with-chunks m (xs ++ c ∷ ys)) ≡ ok (with-chunks m (zs ++ second-half i c ∷ ys)) = split-at-cover i (with-chunks m (xs ++ c ∷ ys)) v ∙ rw (can-cut j e, cut-is j) in
       ap (λ r. and-then r (right-step i t)) z
       ∙ step-found t m zs (second-half i c) ys i (none-start i zs (second-half i c) ys (cover-once (cut-cover j)) (cover-proper (cut-cover j) l) (omega arith) (j .1)) (eq-eqb i i refl)
+
+-- ── the line starts of a chunk ──
+-- positions from a on and below e, each greater than the one before
+abbrev pub Ascends : ℕ → ℕ → List ℕ → Type 0
+Ascends a e [] = Unit {0}
+Ascends a e (i ∷ l) = (a ≤ i) × ((i < e) × Ascends (suc i) e l)
+
+pub ascends-from : (a b e : ℕ) (l : List ℕ) → a ≤ b → Ascends b e l → Ascends a e l
+ascends-from a b e [] h k = k
+ascends-from a b e (i ∷ l) h k = (omega arith, k .1)
+
+concat-length : (c : Text) (cs : List Text) → length (concat (c ∷ cs)) ≡ length c + length (concat cs)
+unfolding flatten
+concat-length c cs = length-append c (concat cs)
+
+starts-ascend : (exclude : List ℕ) (e : ℕ) (mark : Bool) (i : ℕ) {cs : List Text} → All (λ c. 0 < length c) cs → i + length (concat cs) ≤ e
+    → Ascends i e (line-starts exclude mark i cs .starts)
+starts-ascend exclude e mark i nil h = tt
+starts-ascend exclude e mark i (cons {x = c} {xs = cs} n ns) h =
+    let q = concat-length c cs in
+    let P : Starts → Type 0 = λ r. Ascends i e (r .starts) in
+    let behind : (mark : Bool) → Ascends (i + length c) e (line-starts exclude mark (i + length c) cs .starts) = λ mark. starts-ascend exclude e mark (i + length c) ns (omega arith) in
+    let rest : (mark : Bool) → Ascends i e (line-starts exclude mark (i + length c) cs .starts) = λ mark. ascends-from i (i + length c) e (line-starts exclude mark (i + length c) cs .starts) (omega arith) (behind mark) in
+    let here : Ascends i e (i ∷ line-starts exclude false (i + length c) cs .starts) = (omega arith, (omega arith, ascends-from (suc i) (i + length c) e (line-starts exclude false (i + length c) cs .starts) (omega arith) (behind false))) in
+    of-either P (excluded exclude i) (rest mark)
+    (of-either P (is-line-feed c) (rest true)
+    (of-either P (takes-mark mark c) here (rest mark)))
+
+-- they lie in the chunk, and ascend
+pub chunk-ascends : (source : Text) (c : Chunk) → Fits source c → (exclude : List ℕ) (mark : Bool)
+    → Ascends (start-of c) (end-of c) (line-starts exclude mark (start-of c) (chars (span-text (c .span) source)) .starts)
+chunk-ascends source c h exclude mark =
+    let n : ℕ = end-of c - start-of c in
+    let l : length (concat (chars (span-text (c .span) source))) ≡ n = ap length (concat-chars (span-text (c .span) source)) ∙ length-take n (drop (start-of c) source) ∙ omega (arith, length-drop (start-of c) source) in
+    starts-ascend exclude (end-of c) mark (start-of c) (chars-some (span-text (c .span) source)) (omega arith)
+
+-- what a step leaves, and that its spans still cover the source
+record Left (m : MagicString) (r : Result) (cs : List Chunk) : Type 0 where
+  result : r ≡ ok (with-chunks m cs)
+  cover : Cover (m .source) cs
+
+-- one line start more, in the middle of the chunk or at its start
+module _ (t : Text) (m : MagicString) (i : ℕ) (l : List ℕ) (xs : List Chunk) (c : Chunk) (ys : List Chunk) (v : Cover (m .source) (xs ++ c ∷ ys)) (e : c .texts .edited-content ≡ none) where
+  abbrev zs : List Chunk
+  zs = xs ++ first-half i c ∷ []
+
+  abbrev part : Chunk
+  part = with-texts (prepend-intro t) (second-half i c)
+
+  part-cover : Contains i c → Cover (m .source) (zs ++ part ∷ ys)
+  part-cover j = cover-texts (prepend-intro t) zs (second-half i c) ys (cut-cover i t m xs c ys v j)
+
+  more-inside : Contains i c → Left m (prepend-at t l (with-chunks m (zs ++ part ∷ ys))) (zs ++ (split-lines t part l ++ ys))
+      → Left m (prepend-at t (i ∷ l) (with-chunks m (xs ++ c ∷ ys))) (xs ++ (split-lines t c (i ∷ l) ++ ys))
+  more-inside j k =
+      let f : Fits (m .source) c = middle xs c ys (cover-fits v) in
+      let q : xs ++ (split-lines t c (i ∷ l) ++ ys) ≡ zs ++ (split-lines t part l ++ ys) =
+      ap (λ (r : List Chunk). xs ++ (r ++ ys)) (split-lines-inside t c i l (j .0)) ∙ sym (append-assoc xs (first-half i c ∷ []) (split-lines t part l ++ ys)) in
+      subst (Left m (prepend-at t (i ∷ l) (with-chunks m (xs ++ c ∷ ys)))) (sym q)
+      (record { result = ap (λ r. and-then r (prepend-at t l)) (inside-it i t m xs c ys v (omega (arith, f .inside)) j e) ∙ k .result; cover = k .cover })
+
+  abbrev whole : Chunk
+  whole = with-texts (prepend-intro t) c
+
+  more-at-start : start-of c ≡ i → i < end-of c → Left m (prepend-at t l (with-chunks m (xs ++ whole ∷ ys))) (xs ++ (split-lines t whole l ++ ys))
+      → Left m (prepend-at t (i ∷ l) (with-chunks m (xs ++ c ∷ ys))) (xs ++ (split-lines t c (i ∷ l) ++ ys))
+  more-at-start q h k =
+      subst (Left m (prepend-at t (i ∷ l) (with-chunks m (xs ++ c ∷ ys)))) (sym (ap (λ (r : List Chunk). xs ++ (r ++ ys)) (split-lines-at-start t c i l (omega arith))))
+      (record { result = ap (λ r. and-then r (prepend-at t l)) (at-its-start i t m xs c ys v q h) ∙ k .result; cover = k .cover })
+
+prepend-at-closed : (t : Text) (m : MagicString) (l : List ℕ) (xs : List Chunk) (c : Chunk) (ys : List Chunk) → Cover (m .source) (xs ++ c ∷ ys) → c .texts .edited-content ≡ none
+    → Ascends (start-of c) (end-of c) l → Left m (prepend-at t l (with-chunks m (xs ++ c ∷ ys))) (xs ++ (split-lines t c l ++ ys))
+prepend-at-closed t m [] xs c ys v e a = record { result = refl; cover = v }
+prepend-at-closed t m (i ∷ l) xs c ys v e a =
+    elim (decLt (start-of c) i) [
+      | yes h ↦ more-inside t m i l xs c ys v e (h, a .1 .0)
+          (prepend-at-closed t m l (zs t m i l xs c ys v e) (part t m i l xs c ys v e) ys (part-cover t m i l xs c ys v e (h, a .1 .0)) e (ascends-from i (suc i) (end-of c) l (omega arith) (a .1 .1)))
+      | no h ↦ more-at-start t m i l xs c ys v e (omega arith) (a .1 .0)
+          (prepend-at-closed t m l xs (whole t m i l xs c ys v e) ys (cover-texts (prepend-intro t) xs c ys v) e (ascends-from (start-of c) (suc i) (end-of c) l (omega arith) (a .1 .1)))
+    ]
+
+-- ── one turn of the loop ──
+-- what a turn leaves, and that its spans still cover the source
+record Turned (m : MagicString) (r : Marked) (mark : Bool) (cs : List Chunk) : Type 0 where
+  result : r ≡ record { mark = mark; result = ok (with-chunks m cs) }
+  cover : Cover (m .source) cs
+
+module _ (indentor : Text) (exclude : List ℕ) (m : MagicString) where
+  abbrev one : Bool → Chunk → IndentedChunks
+  one mark c = indented-chunk indentor exclude (m .source) mark c
+
+  turn : (mark : Bool) (xs : List Chunk) (c : Chunk) (ys : List Chunk) → Cover (m .source) (xs ++ c ∷ ys)
+      → Turned m (indent-chunk indentor exclude mark c (with-chunks m (xs ++ c ∷ ys))) (one mark c .mark) (xs ++ (one mark c .chunks ++ ys))
+  unfolding indent-chunk indented-chunk
+  turn mark xs c ys v = go (c .texts .edited-content) refl
+    where
+      go : (o : Option Text) → c .texts .edited-content ≡ o
+          → Turned m (indent-chunk indentor exclude mark c (with-chunks m (xs ++ c ∷ ys))) (one mark c .mark) (xs ++ (one mark c .chunks ++ ys))
+      go none e =
+          let s : Starts = line-starts exclude mark (start-of c) (chars (span-text (c .span) (m .source))) in
+          let k : Left m (prepend-at indentor (s .starts) (with-chunks m (xs ++ c ∷ ys))) (xs ++ (split-lines indentor c (s .starts) ++ ys)) =
+          prepend-at-closed indentor m (s .starts) xs c ys v e (chunk-ascends (m .source) c (middle xs c ys (cover-fits v)) exclude mark) in
+          rw (e, indent-chunk, indented-chunk) (record { result = ap (λ (r : Result). record { mark = s .mark; result = r }) (k .result); cover = k .cover })
+      go (some t) e = replaced (excluded exclude (start-of c)) refl
+        where
+          replaced : (b : Bool) → excluded exclude (start-of c) ≡ b
+              → Turned m (indent-chunk indentor exclude mark c (with-chunks m (xs ++ c ∷ ys))) (one mark c .mark) (xs ++ (one mark c .chunks ++ ys))
+          replaced true x = rw (e, x, indent-chunk, indented-chunk) (record { result = refl; cover = v })
+          replaced false x =
+              let r : Indented = indent-frag indentor mark t in
+              rw (e, x, indent-chunk, indented-chunk)
+              (record {
+                result = ap (λ (cs : List Chunk). record { mark = r .mark; result = ok (with-chunks m cs) }) (start-set (start-of c) (set-edited (r .text)) c ys (starts-apart xs c ys refl v) (eq-eqb (start-of c) (start-of c) refl));
+                cover = cover-texts (set-edited (r .text)) xs c ys v;
+              })
