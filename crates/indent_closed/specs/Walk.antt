@@ -271,3 +271,33 @@ module _ (indentor : Text) (exclude : List ℕ) (m : MagicString) where
                 result = ap (λ (cs : List Chunk). record { mark = r .mark; result = ok (with-chunks m cs) }) (start-set (start-of c) (set-edited (r .text)) c ys (starts-apart xs c ys refl v) (eq-eqb (start-of c) (start-of c) refl));
                 cover = cover-texts (set-edited (r .text)) xs c ys v;
               })
+
+  -- ── the loop: xs is done, ds is left ──
+  abbrev next : List Chunk → Marked → Marked
+  next ds r = elim (r .result .number) [ zero ↦ indent-chunks indentor exclude (r .mark) ds (r .result .desk) | suc k ↦ r ]
+
+  turns : (mark : Bool) (xs ds : List Chunk) → Cover (m .source) (xs ++ ds)
+      → indent-chunks indentor exclude mark ds (with-chunks m (xs ++ ds))
+      ≡ record { mark = indented-chunks indentor exclude (m .source) mark ds .mark; result = ok (with-chunks m (xs ++ indented-chunks indentor exclude (m .source) mark ds .chunks)) }
+  turns mark xs [] v = refl
+  turns mark xs (c ∷ ds) v =
+      let r : IndentedChunks = one mark c in
+      let w = turn mark xs c ds v in
+      let q : (l : List Chunk) → (xs ++ r .chunks) ++ l ≡ xs ++ (r .chunks ++ l) = append-assoc xs (r .chunks) in
+      let ih = turns (r .mark) (xs ++ r .chunks) ds (subst (Cover (m .source)) (sym (q ds)) (w .cover)) in
+      let b : IndentedChunks = indented-chunks indentor exclude (m .source) (r .mark) ds in
+      ap (next ds) (w .result)
+      ∙ (ap (λ (l : List Chunk). indent-chunks indentor exclude (r .mark) ds (with-chunks m l)) (sym (q ds))
+      ∙ (ih ∙ ap (λ (l : List Chunk). record { mark = b .mark; result = ok (with-chunks m l) }) (q (b .chunks))))
+
+-- ── the call ──
+pub indent-by-cover : (indentor : Text) (exclude : List ℕ) (m : MagicString) → Cover (m .source) (m .chunks) → indent-by indentor exclude m ≡ ok (indented indentor exclude m)
+unfolding indent-by indented
+indent-by-cover indentor exclude m v =
+    let head : Pieces = indent-pieces indentor true (m .intro) in
+    let n : MagicString = with-intro m (head .pieces) in
+    let finish : Marked → Result = λ body. and-then (body .result) (λ m. ok (with-outro m (indent-pieces indentor (body .mark) (m .outro) .pieces))) in
+    ap finish (turns indentor exclude n (head .mark) [] (m .chunks) v)
+
+pub indent-by-closed : (indentor : Text) (exclude : List ℕ) (m : MagicString) → Formed m → indent-by indentor exclude m ≡ ok (indented indentor exclude m)
+indent-by-closed indentor exclude m f = indent-by-cover indentor exclude m (formed-cover f)
