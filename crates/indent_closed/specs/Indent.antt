@@ -1,9 +1,9 @@
 -- What `indent_with` leaves of a desk, chunk by chunk: head, each chunk cut at its line starts, tail. specs/Walk.antt has the law that the model's walk leaves this,
 -- and specs/Growth.antt that it only grows.
 use Prim.Native.Nat.{ℕ, _≤_, _<_}
-use mathlib.Core.Path.{_≡_}
+use mathlib.Core.Path.{_≡_, refl, ap, sym, _∙_}
 use mathlib.Core.Bool.{Bool, true, false}
-use mathlib.Core.List.{List, [], _∷_, _++_}
+use mathlib.Core.List.{List, [], _∷_, _++_, append-assoc}
 use mathlib.Core.Option.{Option, none, some}
 use lib.Dec.{ltb}
 use borrow.Author.Tests.{lt-ltb, le-ltb}
@@ -49,6 +49,27 @@ indented-chunk indentor exclude source mark c =
           record { mark = r .mark; chunks = split-lines indentor c (r .starts) }
     ]
 
+-- its three cases
+module _ (indentor : Text) (exclude : List ℕ) (source : Text) (mark : Bool) (c : Chunk) where
+  pub indented-lines : c .texts .edited-content ≡ none
+      → let r : Starts = line-starts exclude mark (start-of c) (chars (span-text (c .span) source)) in
+      indented-chunk indentor exclude source mark c ≡ record { mark = r .mark; chunks = split-lines indentor c (r .starts) }
+  unfolding indented-chunk
+  indented-lines e = rw e
+
+  pub indented-excluded : {t : Text} → c .texts .edited-content ≡ some t → excluded exclude (start-of c) ≡ true
+      → indented-chunk indentor exclude source mark c ≡ record { mark = mark; chunks = c ∷ [] }
+  unfolding indented-chunk
+  indented-excluded e x =
+      rw (e, x, indented-chunk)
+      (ap (λ (o : Option Text). record { mark = mark; chunks = record { span = c .span; texts = record { intro = c .texts .intro; outro = c .texts .outro; edited-content = o } } ∷ [] }) e)
+
+  pub indented-replaced : {t : Text} → c .texts .edited-content ≡ some t → excluded exclude (start-of c) ≡ false
+      → let r : Indented = indent-frag indentor mark t in
+      indented-chunk indentor exclude source mark c ≡ record { mark = r .mark; chunks = with-texts (set-edited (r .text)) c ∷ [] }
+  unfolding indented-chunk
+  indented-replaced e x = rw (e, x, indented-chunk)
+
 abbrev pub then-chunks : List Chunk → IndentedChunks → IndentedChunks
 then-chunks cs r = record { mark = r .mark; chunks = cs ++ r .chunks }
 
@@ -58,6 +79,18 @@ indented-chunks indentor exclude source mark [] = record { mark = mark; chunks =
 indented-chunks indentor exclude source mark (c ∷ cs) =
     let r : IndentedChunks = indented-chunk indentor exclude source mark c in
     then-chunks (r .chunks) (indented-chunks indentor exclude source (r .mark) cs)
+
+-- chunks one behind the other
+pub indented-append : (indentor : Text) (exclude : List ℕ) (source : Text) (mark : Bool) (xs ys : List Chunk)
+    → let r : IndentedChunks = indented-chunks indentor exclude source mark xs in
+    indented-chunks indentor exclude source mark (xs ++ ys) ≡ then-chunks (r .chunks) (indented-chunks indentor exclude source (r .mark) ys)
+indented-append indentor exclude source mark [] ys = refl
+indented-append indentor exclude source mark (c ∷ xs) ys =
+    let r : IndentedChunks = indented-chunk indentor exclude source mark c in
+    let s : IndentedChunks = indented-chunks indentor exclude source (r .mark) xs in
+    let b : IndentedChunks = indented-chunks indentor exclude source (s .mark) ys in
+    ap (then-chunks (r .chunks)) (indented-append indentor exclude source (r .mark) xs ys)
+    ∙ ap (λ (l : List Chunk). record { mark = b .mark; chunks = l }) (sym (append-assoc (r .chunks) (s .chunks) (b .chunks)))
 
 -- the desk that `indent_with` leaves, past its tests
 unfoldable pub indented : Text → List ℕ → MagicString → MagicString

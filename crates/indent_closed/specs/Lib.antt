@@ -1,2 +1,3 @@
 pub mod Indent
 pub mod Walk
+pub mod Growth
