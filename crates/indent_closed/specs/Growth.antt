@@ -1,23 +1,23 @@
 -- `indent_with` only adds: chunks, pieces and bytes. So a desk past a limit on the way is past it in the end (number 13). Assumes nothing.
-use Prim.Native.Nat.{ℕ, zero, suc, _+_, _*_, _≤_, _<_}
+use Prim.Native.Nat.{ℕ, suc, _+_, _≤_, _<_}
 use native.Mathlib.Omega.{arith}
 use native.Mathlib.Decide.{decLt}
-use mathlib.Core.Path.{_≡_, refl, ap, sym, _∙_}
+use mathlib.Core.Path.{_≡_, refl, ap}
 use mathlib.Core.Bool.{Bool, true, false, _&&_}
 use mathlib.Core.List.{List, [], _∷_, _++_, flatten}
 use mathlib.Core.Option.{Option, none, some}
-use lib.Dec.{ltb, leb}
+use lib.Dec.{leb}
 use lib.ListN.{length, length-append}
 use borrow.Author.Tests.{lt-leb}
 use Rattle.utf8.specs.Chars.{chars, concat}
 use Rattle.utf8.specs.CharLaws.{concat-chars}
 use Rattle.model.specs.Text.{Text, sum}
-use Rattle.model.specs.Chunk.{Chunk, with-texts, start-of, span-text, first-half, second-half, prepend-intro}
+use Rattle.model.specs.Chunk.{Chunk, with-texts, start-of, span-text, second-half, prepend-intro}
 use Rattle.model.specs.MagicString.{MagicString}
 use Rattle.model.specs.Limits.{Limits, chunk-pieces, replacement-bytes, chunk-bytes, piece-count, byte-count, within}
-use Rattle.model.specs.Indent.{Indented, is-line-feed, takes-mark, indent-chars, indent-frag, Pieces, indent-pieces, excluded, Starts, line-starts, set-edited}
+use Rattle.model.specs.Indent.{Indented, is-line-feed, takes-mark, indent-chars, indent-frag, Pieces, indent-pieces, excluded, line-starts}
 use Rattle.closed_forms.specs.Lists.{sum-append}
-use Rattle.preservation.specs.Lists.{of-either, of-option}
+use Rattle.preservation.specs.Lists.{of-either}
 use Rattle.indent_closed.specs.Indent.{split-lines, split-lines-inside, split-lines-at-start, IndentedChunks, indented-chunk, indented-lines, indented-excluded, indented-replaced, indented-chunks, indented}
 
 -- ── one text, and pieces ──

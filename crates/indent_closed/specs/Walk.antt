@@ -3,28 +3,27 @@ use Prim.Native.Nat.{ℕ, zero, suc, _+_, _-_, _≤_, _<_}
 use native.Mathlib.Omega.{arith}
 use native.Mathlib.Decide.{decLt}
 use mathlib.Core.Path.{_≡_, refl, ap, sym, _∙_, subst}
-use mathlib.Core.Bool.{Bool, true, false, not, cond}
+use mathlib.Core.Bool.{Bool, true, false}
 use mathlib.Core.List.{List, [], _∷_, _++_, map, append-assoc, flatten}
 use mathlib.Core.Option.{Option, none, some}
-use lib.Dec.{ltb, eqb}
-use lib.ListN.{length, take, drop, length-append, length-take, length-drop}
-use borrow.Author.Tests.{lt-ltb, le-ltb, eq-eqb, ne-eqb}
+use lib.Dec.{eqb}
+use lib.ListN.{length, drop, length-append, length-take, length-drop}
+use borrow.Author.Tests.{eq-eqb, ne-eqb}
 use Rattle.utf8.specs.Chars.{All, nil, cons, chars, concat}
-use Rattle.utf8.specs.CharLaws.{concat-chars}
-use Rattle.model.specs.Text.{Text, all, sum}
+use Rattle.utf8.specs.CharLaws.{concat-chars, all-front}
+use Rattle.model.specs.Text.{Text, all}
 use Rattle.model.specs.Chunk.{Chunk, Texts, chunk-of, with-texts, start-of, end-of, span-text, is-filled, first-half, second-half, prepend-intro}
 use Rattle.model.specs.MagicString.{MagicString, Result, ok, and-then, with-chunks, with-intro, with-outro, by-start, at-start, split-at, by-start-mut}
 use Rattle.model.specs.Prepend.{push-front, prepend-right}
 use Rattle.model.specs.Indent.{Indented, is-line-feed, takes-mark, indent-frag, Pieces, indent-pieces, excluded, Starts, line-starts, prepend-at, Marked, set-edited, indent-chunk, indent-chunks, indent-by}
 use Rattle.model.specs.WellFormed.{covers, Formed}
 use Rattle.closed_forms.specs.Lists.{sum-append, map-append, all-map, all-map₂, true-all}
-use Rattle.closed_forms.specs.Plan.{split, cut, splittable}
-use Rattle.closed_forms.specs.Cuts.{Contains, contains-true, split-in, cut-append, cut-none, splittable-true}
-use Rattle.closed_forms.specs.Spans.{Proper, covers-in, none-cover, Once, Tiling, Cover, empty, tiled, cover-of, formed-cover}
+use Rattle.closed_forms.specs.Plan.{cut, splittable}
+use Rattle.closed_forms.specs.Cuts.{Contains, split-in, cut-append, cut-none, splittable-true}
+use Rattle.closed_forms.specs.Spans.{Proper, covers-in, none-cover, Once, Cover, empty, tiled, cover-of, formed-cover}
 use Rattle.closed_forms.specs.SplitAt.{cover-once, cover-cut, split-at-cover, aligned-splittable}
 use Rattle.closed_forms.specs.Steps.{cover-proper}
-use Rattle.utf8.specs.CharLaws.{all-front, all-back}
-use Rattle.preservation.specs.Lists.{of-either, all-imp, all-key, sum-key, all-append}
+use Rattle.preservation.specs.Lists.{of-either, all-key, sum-key, all-append}
 use Rattle.preservation.specs.Spans.{covers-key}
 use Rattle.preservation.specs.Indent.{chars-some}
 use Rattle.indent_closed.specs.Indent.{split-lines, split-lines-inside, split-lines-at-start, IndentedChunks, indented-chunk, indented-chunks, indented}
