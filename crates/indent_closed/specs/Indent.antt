@@ -1,5 +1,5 @@
 -- What `indent_with` leaves of a desk, chunk by chunk: head, each chunk cut at its line starts, tail. specs/Walk.antt has the law that the model's walk leaves this,
--- and specs/Growth.antt that it only grows.
+-- specs/Growth.antt that it only grows, and specs/Past.antt when it is past a limit.
 use Prim.Native.Nat.{ℕ, _≤_, _<_}
 use mathlib.Core.Path.{_≡_, refl, ap, sym, _∙_}
 use mathlib.Core.Bool.{Bool, true, false}

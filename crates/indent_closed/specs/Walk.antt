@@ -16,7 +16,7 @@ use Rattle.model.specs.Chunk.{Chunk, Texts, chunk-of, with-texts, start-of, end
 use Rattle.model.specs.MagicString.{MagicString, Result, ok, and-then, with-chunks, with-intro, with-outro, by-start, at-start, split-at, by-start-mut}
 use Rattle.model.specs.Prepend.{push-front, prepend-right}
 use Rattle.model.specs.Indent.{Indented, is-line-feed, takes-mark, indent-frag, Pieces, indent-pieces, excluded, Starts, line-starts, prepend-at, Marked, set-edited, indent-chunk, indent-chunks, indent-by}
-use Rattle.model.specs.WellFormed.{covers, Formed}
+use Rattle.model.specs.WellFormed.{Valid, covers, Formed}
 use Rattle.closed_forms.specs.Lists.{sum-append, map-append, all-map, all-map₂, true-all}
 use Rattle.closed_forms.specs.Plan.{cut, splittable}
 use Rattle.closed_forms.specs.Cuts.{Contains, split-in, cut-append, cut-none, splittable-true}
@@ -25,7 +25,7 @@ use Rattle.closed_forms.specs.SplitAt.{cover-once, cover-cut, split-at-cover, a
 use Rattle.closed_forms.specs.Steps.{cover-proper}
 use Rattle.preservation.specs.Lists.{of-either, all-key, sum-key, all-append}
 use Rattle.preservation.specs.Spans.{covers-key}
-use Rattle.preservation.specs.Indent.{chars-some}
+use Rattle.preservation.specs.Indent.{chars-some, indent-by-keeps}
 use Rattle.indent_closed.specs.Indent.{split-lines, split-lines-inside, split-lines-at-start, IndentedChunks, indented-chunk, indented-chunks, indented}
 
 -- ── spans ──
@@ -300,3 +300,9 @@ indent-by-cover indentor exclude m v =
 
 pub indent-by-closed : (indentor : Text) (exclude : List ℕ) (m : MagicString) → Formed m → indent-by indentor exclude m ≡ ok (indented indentor exclude m)
 indent-by-closed indentor exclude m f = indent-by-cover indentor exclude m (formed-cover f)
+
+-- with a valid indentor it is a well-formed desk again
+pub indented-formed : (indentor : Text) → Valid indentor → (exclude : List ℕ) (m : MagicString) → Formed m → Formed (indented indentor exclude m)
+indented-formed indentor v exclude m f =
+    subst Formed (ap (λ (r : Result). r .desk) (indent-by-closed indentor exclude m f))
+    (indent-by-keeps (m .source) indentor v exclude m (record { formed = f; source-is = refl }) .desk .formed)
