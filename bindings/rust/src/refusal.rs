@@ -36,7 +36,7 @@ pub enum Refusal {
   /// Output buffer too short.
   ShortBuffer = 14,
   /// Pattern above 1, or an exclude list of odd count.
-  Option = 15,
+  BadOption = 15,
 }
 
 impl Refusal {
@@ -56,7 +56,7 @@ impl Refusal {
     Refusal::SliceEnd,
     Refusal::Limit,
     Refusal::ShortBuffer,
-    Refusal::Option,
+    Refusal::BadOption,
   ];
 
   /// Its number, 1 to 15.
@@ -88,7 +88,7 @@ impl fmt::Display for Refusal {
       Refusal::SliceEnd => "slice ends inside a replaced chunk",
       Refusal::Limit => "the desk would break a limit",
       Refusal::ShortBuffer => "output buffer too short",
-      Refusal::Option => "pattern above 1, or an exclude list of odd count",
+      Refusal::BadOption => "pattern above 1, or an exclude list of odd count",
     })
   }
 }

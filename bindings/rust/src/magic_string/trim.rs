@@ -5,7 +5,7 @@ impl MagicString {
   /// patterns are `"\\s"`, which `None` means too, and `"[\\r\\n]"`.
   ///
   /// # Errors
-  /// [`Refusal::Option`] for any other pattern, then [`Refusal::Limit`].
+  /// [`Refusal::BadOption`] for any other pattern, then [`Refusal::Limit`].
   ///
   /// # Example
   /// ```
@@ -15,7 +15,7 @@ impl MagicString {
   /// assert_eq!(s.to_string(), "  abc ");
   /// s.trim(None).unwrap();
   /// assert_eq!(s.to_string(), "abc");
-  /// assert_eq!(s.trim(Some("[a-c]")).err(), Some(Refusal::Option));
+  /// assert_eq!(s.trim(Some("[a-c]")).err(), Some(Refusal::BadOption));
   /// ```
   pub fn trim(&mut self, char_type: Option<&str>) -> Result<&mut Self, Refusal> {
     self.memory.trim(pattern(char_type))?;
