@@ -1,4 +1,4 @@
--- indent.rs byte by byte, on any list of bytes. On valid texts this is the model's way, by characters (Laws).
+-- indent.rs byte by byte, on any list of bytes. On valid texts this is the model's way, by characters (specs/Laws.antt).
 use Prim.Native.Nat.{ℕ, _+_, _-_, _≤_, _<_}
 use mathlib.Core.Path.{_≡_}
 use mathlib.Core.Bool.{Bool, true, false, _&&_, _||_, not, cond}
@@ -39,7 +39,7 @@ pub record Filling (d : List ℕ) (place : ℕ) (xs d' : List ℕ) (fits : Bool)
   pub short : fits ≡ false → length d < place + length xs
 
 -- ---- the line starts of `indent_with`
--- whether a line begins with the byte at i. A following byte (80 to BF) is none of a character's first
+-- whether a line begins with the byte at i. A following byte (80 to BF) begins no character
 abbrev pub begins-line : List ℕ → Bool → ℕ → ℕ → Bool
 begins-line exclude mark i b = takes mark b && (not (follows b) && not (excluded exclude i))
 

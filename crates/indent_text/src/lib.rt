@@ -81,7 +81,7 @@ pub fn is_excluded(exclude: &[u32], i: u32) -> bool
     false
 }
 
-// Whether a byte of a character behind its first one.
+// Whether a byte follows another one in its character.
 fn follows_on(b: u8) -> bool
     ensures { λ r. ⌜ r ≡ follows b ⌝ }
 {
