@@ -1,3 +1,4 @@
 pub mod Piece
 pub mod Insertion
 pub mod Calls
+pub mod OnTop

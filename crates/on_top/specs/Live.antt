@@ -1,12 +1,12 @@
 -- What one pass over a desk finds: its pieces and bytes, and a row and a byte above all that it uses.
-use mathlib.Core.Path.{_≡_, refl}
-use mathlib.Core.List.{List, []}
+use mathlib.Core.Path.{_≡_, refl, sym, ap₂, _∙_}
+use mathlib.Core.List.{List, [], _++_}
 use mathlib.Core.Bool.{Bool, true, false, _&&_}
 use Prim.Native.Nat.{ℕ, _+_, _*_, _≤_, _<_, max, min}
 use native.Mathlib.Omega.{arith}
 use lib.Dec.{leb}
 use borrow.Author.Tests.{leb-true}
-use lib.ListN.{length, take}
+use lib.ListN.{length, take, drop, take-append-drop}
 use Rattle.table.specs.Order.{Entry}
 use Rattle.model.specs.Text.{sum}
 use Rattle.model.specs.Limits.{full, within, chunk-pieces, chunk-bytes, piece-count, byte-count}
@@ -14,6 +14,7 @@ use Rattle.memory.specs.Layout.{Place, runOf, chunkOf, magicStringOf}
 use Rattle.memory.specs.WellFormed.{Readable, WellFormed}
 use Rattle.texts.specs.Carry.{Below}
 use Rattle.rebuild.specs.Lay.{EntryBelow}
+use Rattle.frame.specs.Front.{desk-front}
 use Rattle.on_top.specs.declared.Used.{Used}
 
 -- counts up to one past the limits, and places inside the tables
@@ -92,3 +93,13 @@ live-small {source} {t} {p} {s} {l} w h =
       row = omega (arith, h .row, w .sized .pieces);
       byte = omega (arith, h .byte, w .sized .store);
     }
+
+-- ── the rows and bytes below the two places ──
+module _ (t p s : List ℕ) (row byte : ℕ) (h : Readable t (take (row * 2) p) (take byte s)) where
+  below-desk : Readable t (take (row * 2) p ++ drop (row * 2) p) (take byte s ++ drop byte s)
+      × ((source : List ℕ) → magicStringOf source t (take (row * 2) p ++ drop (row * 2) p) (take byte s ++ drop byte s) ≡ magicStringOf source t (take (row * 2) p) (take byte s))
+  below-desk = desk-front (take (row * 2) p) (take byte s) (drop (row * 2) p) (drop byte s) t h
+
+  -- they hold the desk
+  pub read-below : (source : List ℕ) → magicStringOf source t p s ≡ magicStringOf source t (take (row * 2) p) (take byte s)
+  read-below source = ap₂ (λ (a b : List ℕ). magicStringOf source t a b) (sym (take-append-drop (row * 2) p)) (sym (take-append-drop byte s)) ∙ below-desk .1 source
