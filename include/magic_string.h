@@ -202,10 +202,9 @@ magic_string_answer magic_string_trim_end(MAGIC_STRING_DESK, uint32_t pattern);
  * Numbers: 2; 13 in place of 0. */
 magic_string_answer magic_string_trim_lines(MAGIC_STRING_DESK);
 
-/* ---- reports that fill a buffer: the value is the number of bytes written.
- * No output is longer than the source and the store together. ---- */
+/* ---- reports: the value is the number of bytes written ---- */
 
-/* Writes the output.
+/* Writes the output. It is never longer than the source and the store together.
  * Numbers: 2, 14. */
 magic_string_answer magic_string_to_string(MAGIC_STRING_READ, uint8_t *out,
                                            size_t out_len);
@@ -230,7 +229,7 @@ magic_string_answer magic_string_last_line(MAGIC_STRING_READ, uint8_t *out,
 magic_string_answer
 magic_string_get_indent_string(MAGIC_STRING_READ, uint8_t *out, size_t out_len);
 
-/* ---- reports whose value is what is reported ---- */
+/* ---- reports: the value is what is reported ---- */
 
 /* Value: the bytes of the chunks' output, without head and tail.
  * Numbers: 2. */

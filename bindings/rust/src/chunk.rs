@@ -32,9 +32,9 @@ impl<'a> Chunk<'a> {
   }
 
   /// What it adds to the output, in order: its intro, its content, its outro.
-  pub fn fragments(&self, original_source: &'a str) -> impl Iterator<Item = &'a str> {
+  pub fn fragments(&self, original_source: &'a str) -> impl Iterator<Item = &'a str> + use<'a> {
     let content = self.edited_content.unwrap_or_else(|| self.span.text(original_source));
-    self.intro.iter().copied().chain([content]).chain(self.outro.iter().copied())
+    self.intro.clone().into_iter().chain([content]).chain(self.outro.clone())
   }
 }
 

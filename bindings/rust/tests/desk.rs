@@ -29,8 +29,7 @@ fn chunk_by_chunk() {
 #[test]
 fn fragments_make_the_output() {
   let desk = filed();
-  let chunks: String =
-    desk.chunks().flat_map(|c| c.fragments(desk.source()).collect::<Vec<_>>()).collect();
+  let chunks: String = desk.chunks().flat_map(|chunk| chunk.fragments(desk.source())).collect();
   assert_eq!(chunks.len(), desk.len());
   let output = desk.intro().concat() + &chunks + &desk.outro().concat();
   assert_eq!(output, desk.to_string());
