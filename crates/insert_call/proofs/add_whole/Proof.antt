@@ -1,10 +1,10 @@
 use mathlib.Core.Path.{sym, _∙_}
-use Rattle.append.proofs.AppendTests.{whole-invalid, whole-insert}
+use Rattle.insert_call.proofs.Tests.{addition-invalid, addition-ran}
 use borrow.Author.Needs.{needs}
-use Rattle.append.proofs.append.Statement.{statement}
-use Rattle.append.proofs.append.Tie as tie
-use Rattle.append.proofs.append.Reads as reads
-use Rattle.append.proofs.append.Lts as lts
+use Rattle.insert_call.proofs.add_whole.Statement.{statement}
+use Rattle.insert_call.proofs.add_whole.Tie as tie
+use Rattle.insert_call.proofs.add_whole.Reads as reads
+use Rattle.insert_call.proofs.add_whole.Lts as lts
 use Rattle.insert.proofs.whole_with.Reads as whole-with-reads
 
 valid-requires : tie.Need-valid-requires
@@ -30,17 +30,17 @@ returns c =
     let valid = c .before .before .before .before .before .before .before .before .before .before .before .valid in
     let if1 = c .before .before .before .before .before .before .before .before .before .before .if1 in
     let whole-with = c .before .before .before .before .before .before .whole-with in
-    whole-insert _ (start .pre) (sym (valid .ensures) ∙ if1 .taken) (whole-with .ensures)
+    addition-ran _ (start .pre) (start .args .tail) (sym (valid .ensures) ∙ if1 .taken) (whole-with .ensures)
 
 returns-2 : tie.Need-returns-2
 returns-2 c =
     let start = c .before .before .before .before .before .before .before in
     let valid = c .before .valid in
     let if1 = c .if1 in
-    whole-invalid _ (start .pre) (sym (valid .ensures) ∙ if1 .left)
+    addition-invalid _ (start .pre) (start .args .tail) (sym (valid .ensures) ∙ if1 .left)
 
-pub append-spec : {M : Type 1} → statement M
-append-spec =
+pub add-whole-spec : {M : Type 1} → statement M
+add-whole-spec =
     tie.close
     (tie.spec
     valid-requires

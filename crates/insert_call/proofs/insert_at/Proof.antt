@@ -1,11 +1,11 @@
 use mathlib.Core.Path.{sym, _∙_}
 use Rattle.split.specs.Lift.{valid-source}
-use Rattle.prepend.proofs.PrependTests.{left-invalid, left-outside, left-insert}
+use Rattle.insert_call.proofs.Tests.{insertion-invalid, insertion-outside, insertion-ran}
 use borrow.Author.Needs.{needs}
-use Rattle.prepend.proofs.prepend_left.Statement.{statement}
-use Rattle.prepend.proofs.prepend_left.Tie as tie
-use Rattle.prepend.proofs.prepend_left.Reads as reads
-use Rattle.prepend.proofs.prepend_left.Lts as lts
+use Rattle.insert_call.proofs.insert_at.Statement.{statement}
+use Rattle.insert_call.proofs.insert_at.Tie as tie
+use Rattle.insert_call.proofs.insert_at.Reads as reads
+use Rattle.insert_call.proofs.insert_at.Lts as lts
 use Rattle.insert.proofs.insert_with.Reads as insert-with-reads
 
 valid-requires : tie.Need-valid-requires
@@ -38,7 +38,7 @@ returns c =
     let boundary = c .before .before .before .before .before .before .before .before .before .before .before .boundary in
     let if2 = c .before .before .before .before .before .before .before .before .before .before .if2 in
     let insert-with = c .before .before .before .before .before .before .insert-with in
-    left-insert _ (start .pre) (start .args .at) (sym (valid .ensures) ∙ if1 .taken) (sym (boundary .ensures) ∙ if2 .taken) (insert-with .ensures)
+    insertion-ran _ (start .pre) (start .args .left) (start .args .front) (start .args .at) (sym (valid .ensures) ∙ if1 .taken) (sym (boundary .ensures) ∙ if2 .taken) (insert-with .ensures)
 
 returns-2 : tie.Need-returns-2
 returns-2 c =
@@ -47,17 +47,17 @@ returns-2 c =
     let if1 = c .before .before .if1 in
     let boundary = c .before .boundary in
     let if2 = c .if2 in
-    left-outside _ (start .pre) (start .args .at) (sym (valid .ensures) ∙ if1 .taken) (sym (boundary .ensures) ∙ if2 .left)
+    insertion-outside _ (start .pre) (start .args .left) (start .args .front) (start .args .at) (sym (valid .ensures) ∙ if1 .taken) (sym (boundary .ensures) ∙ if2 .left)
 
 returns-3 : tie.Need-returns-3
 returns-3 c =
     let start = c .before .before .before .before .before .before .before in
     let valid = c .before .valid in
     let if1 = c .if1 in
-    left-invalid _ (start .pre) (start .args .at) (sym (valid .ensures) ∙ if1 .left)
+    insertion-invalid _ (start .pre) (start .args .left) (start .args .front) (start .args .at) (sym (valid .ensures) ∙ if1 .left)
 
-pub prepend-left-spec : {M : Type 1} → statement M
-prepend-left-spec =
+pub insert-at-spec : {M : Type 1} → statement M
+insert-at-spec =
     tie.close
     (tie.spec
     valid-requires
