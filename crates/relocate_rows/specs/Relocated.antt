@@ -1,4 +1,4 @@
--- `relocate` on scratch rows: what its parts ask and leave.
+-- `relocate` on rows: what its parts ask and leave.
 use mathlib.Core.Path.{_≡_}
 use mathlib.Core.Bool.{false, _&&_}
 use mathlib.Core.List.{List, [], _∷_}

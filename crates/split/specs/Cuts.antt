@@ -1,4 +1,4 @@
--- Cuts of a scratch table: what they leave, in the model's words, with any pieces and store.
+-- Cuts of a chunk table: what they leave, in the model's words, with any pieces and store.
 use mathlib.Core.Path.{_≡_, refl, sym, ap, ap₂, _∙_, subst}
 use mathlib.Core.Bool.{Bool, true, false, _&&_, not, cond}
 use mathlib.Core.List.{List, [], _∷_, _++_, map}

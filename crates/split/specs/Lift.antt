@@ -1,4 +1,4 @@
--- From entries to the model: what a change of the rows of a scratch table means for the desk that it holds with given pieces and store.
+-- From entries to the model: what a change of the rows of a chunk table means for the desk that it holds with given pieces and store.
 use mathlib.Core.Path.{_≡_, refl, sym, ap, ap₂, _∙_, subst}
 use mathlib.Core.Bool.{Bool, true, false, _&&_, not, cond}
 use mathlib.Core.List.{List, [], _∷_, _++_, map}

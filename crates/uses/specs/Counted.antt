@@ -1,19 +1,19 @@
 -- Counts of what the rows of a desk name: piece rows, store bytes, pieces and their bytes. An empty piece list and an empty or absent replacement count nothing.
-use mathlib.Core.Path.{_≡_, refl, sym, ap, _∙_}
-use mathlib.Core.Bool.{Bool, true, false, _&&_, cond}
+use mathlib.Core.Path.{_≡_, refl, ap}
+use mathlib.Core.Bool.{Bool, true, false, cond}
 use mathlib.Core.List.{List, [], _∷_, map}
-use mathlib.Core.Option.{Option, none, some}
-use Prim.Native.Nat.{ℕ, zero, suc, _+_, _*_, _≤_, _<_}
+use mathlib.Core.Option.{none, some}
+use Prim.Native.Nat.{ℕ, _+_}
 use native.Mathlib.Omega.{arith}
 use native.Mathlib.Decide.{decLe}
-use lib.Dec.{eqb, leb, ltb}
+use lib.Dec.{eqb}
 use lib.ListN.{length}
 use borrow.Author.Tests.{le-leb, lt-leb, le-ltb}
 use Rattle.table.specs.Order.{Entry}
 use Rattle.model.specs.Text.{sum}
 use Rattle.model.specs.Limits.{chunk-pieces, chunk-bytes, replacement-bytes}
 use Rattle.memory.specs.Layout.{NONE, Place, runOf, replacementOf, chunkOf}
-use Rattle.memory.specs.WellFormed.{among, runUses, replacementUses, pieceUses, byteUses}
+use Rattle.memory.specs.WellFormed.{among, runUses, replacementUses}
 
 -- f for the two piece lists of a row, g for its replacement
 abbrev pub countIn : (Place → ℕ) → (Place → ℕ) → Entry → ℕ

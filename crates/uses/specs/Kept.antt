@@ -1,18 +1,18 @@
 -- What a change of chunk rows alone keeps of a well-formed desk: every row stands in the list once, and no count of pieces or bytes grows.
-use mathlib.Core.Path.{_≡_, refl, sym, ap, _∙_, subst}
-use mathlib.Core.Bool.{Bool, true, false, _&&_, cond}
-use mathlib.Core.List.{List, [], _∷_, map}
+use mathlib.Core.Path.{_≡_, refl, ap, _∙_}
+use mathlib.Core.Bool.{Bool, true, false, _&&_}
+use mathlib.Core.List.{List, []}
 use Prim.Native.Nat.{ℕ, _+_, _≤_}
 use native.Mathlib.Omega.{arith}
 use lib.Dec.{leb}
 use lib.ListN.{length, length-map}
 use borrow.Author.Tests.{leb-true, le-leb}
 use Rattle.table.specs.Table.{rowAt}
-use Rattle.table.specs.Order.{Entry, entryAt, entries, countOf}
+use Rattle.table.specs.Order.{entryAt, entries, countOf}
 use Rattle.model.specs.Text.{sum}
 use Rattle.model.specs.Limits.{full, within, piece-count, byte-count, replacement-bytes}
 use Rattle.memory.specs.Layout.{Place, runOf, replacementOf, chunkOf, magicStringOf}
-use Rattle.memory.specs.WellFormed.{HoldsEach, Disjoint, among, pieceUses, listUses, runUses, replacementUses}
+use Rattle.memory.specs.WellFormed.{HoldsEach, Disjoint, among, runUses, replacementUses}
 use Rattle.rows.specs.Insert.{runsOf}
 use Rattle.rows.specs.Split.{count-entries}
 use Rattle.uses.specs.Counted.{countIn, Counts, nothing, counts-rows, counts-store, counts-pieces, counts-bytes, sum-lists, sum-pieces, sum-bytes}

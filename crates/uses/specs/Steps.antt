@@ -1,9 +1,9 @@
 -- A cut, a clear and a move of rows keep what `Kept` says.
-use mathlib.Core.Path.{_≡_, refl, sym, ap, ap₂, _∙_, subst, fun-ext}
+use mathlib.Core.Path.{_≡_, refl, sym, ap, ap₂, _∙_, fun-ext}
 use mathlib.Core.Bool.{Bool, true, false, _&&_, cond}
 use mathlib.Core.List.{List, [], _∷_, _++_, map}
-use mathlib.Core.Logic.{_⊎_, inl, inr, ⊎-elim}
-use Prim.Native.Nat.{ℕ, zero, suc, _+_, _≤_, _<_}
+use mathlib.Core.Logic.{_⊎_, inl, inr}
+use Prim.Native.Nat.{ℕ, _+_, _≤_, _<_}
 use native.Mathlib.Omega.{arith}
 use native.Mathlib.Decide.{ℕ-discrete}
 use lib.Dec.{leb, ltb, eqb}
@@ -12,9 +12,9 @@ use Rattle.table.specs.Ring.{Each, each-map, Not}
 use Rattle.table.specs.Order.{Entry, entryOf, entryAt, entries, order, countOf, Linked}
 use Rattle.model.specs.Text.{sum}
 use Rattle.memory.specs.Layout.{NONE, Place}
-use Rattle.memory.specs.WellFormed.{times, HoldsEach}
+use Rattle.memory.specs.WellFormed.{times}
 use Rattle.rows.specs.Insert.{Placed, runsOf, startF}
-use Rattle.rows.specs.Split.{first, second, SplitRow, entries-at, map-append}
+use Rattle.rows.specs.Split.{first, second, SplitRow, entries-at}
 use Rattle.rows.specs.Clear.{clearIn, ClearDone}
 use Rattle.rows.specs.Move.{Parts, swapped, MoveAt, MoveDone}
 use Rattle.uses.specs.Counted.{countIn, Counts}
