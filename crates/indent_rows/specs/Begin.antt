@@ -1,10 +1,9 @@
 -- The indentor in front of a chunk's intro: the row of its piece alone, or a copy of it with the intro's rows behind, from row top on. The texts stay where they are.
 -- Assumes nothing.
 use mathlib.Core.Path.{_≡_, refl, sym, ap, ap₂, _∙_, subst}
-use mathlib.Core.List.{List, [], _∷_, _++_, map}
+use mathlib.Core.List.{List, [], _∷_}
 use Prim.Native.Nat.{ℕ, zero, suc, _+_, _*_, _-_, _≤_, _<_}
 use native.Mathlib.Omega.{arith}
-use native.Mathlib.Decide.{ℕ-discrete}
 use lib.ListN.{length}
 use Rattle.table.specs.declared.Piece.{Piece}
 use Rattle.table.specs.declared.Row.{Row}
@@ -12,7 +11,7 @@ use Rattle.table.specs.Table.{rowAt, Put}
 use Rattle.table.specs.Pieces as rows
 use Rattle.table.specs.Order.{Entry, entryOf, entryAt, Linked}
 use Rattle.model.specs.Text.{Text}
-use Rattle.memory.specs.Layout.{Place, bytesAt, pieceAt, tabulate, runOf}
+use Rattle.memory.specs.Layout.{Place, bytesAt, pieceAt, runOf}
 use Rattle.texts.specs.Texts.{tabulate-ext, tabulate-cons, run-tabulate}
 use Rattle.texts.specs.Carry.{Below}
 use Rattle.rows.specs.Insert.{Placed}

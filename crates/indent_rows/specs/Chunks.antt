@@ -4,31 +4,31 @@ use mathlib.Core.Path.{_≡_, refl, sym, ap, ap₂, _∙_, subst}
 use mathlib.Core.Bool.{Bool}
 use mathlib.Core.List.{List, [], _∷_, _++_, map, append-assoc, append-nil}
 use mathlib.Core.Logic.{_⊎_, inl, inr, ⊎-elim}
-use Prim.Native.Nat.{ℕ, zero, suc, _+_, _*_, _≤_, _<_}
+use Prim.Native.Nat.{ℕ, suc, _+_, _*_, _≤_, _<_}
 use native.Mathlib.Omega.{arith}
-use lib.ListN.{length, take, length-append, length-map}
+use lib.ListN.{length, length-append, length-map}
 use Rattle.utf8.specs.Chars.{All, nil, cons}
 use Rattle.table.specs.declared.Row.{Row}
 use Rattle.table.specs.Ring.{Edge, Links, links-right, length-follow}
 use Rattle.table.specs.Table.{rowAt}
-use Rattle.table.specs.Order.{Entry, entryAt, entries, order, nextOf, prevOf, countOf, Linked, inside-at}
-use Rattle.model.specs.Text.{Text, sum}
+use Rattle.table.specs.Order.{Entry, entryAt, order, nextOf, prevOf, countOf, Linked, inside-at}
+use Rattle.model.specs.Text.{sum}
 use Rattle.model.specs.Chunk.{Chunk, content}
 use Rattle.model.specs.Limits.{chunk-pieces, chunk-bytes}
 use Rattle.model.specs.WellFormed.{Valid, ValidTexts}
-use Rattle.memory.specs.Layout.{Place, runOf, chunkOf}
+use Rattle.memory.specs.Layout.{chunkOf}
 use Rattle.texts.specs.Over.{part-kept}
 use Rattle.texts.specs.Texts.{SpanIn, run-length}
-use Rattle.rows.specs.Insert.{Placed, runsOf}
+use Rattle.rows.specs.Insert.{runsOf}
 use Rattle.rows.specs.Split.{map-append}
 use Rattle.preservation.specs.Spans.{Inside, spans-inside}
 use Rattle.preservation.specs.Trim.{content-valid}
 use Rattle.closed_forms.specs.Lists.{sum-append}
 use Rattle.trim_run.specs.Low.{RowsKept, BytesKept, rows-same, bytes-same, TextLow, EntryLow, run-same, run-still, entry-same, entry-still, entries-same, entries-still}
-use Rattle.indent_closed.specs.Indent.{IndentedChunks, then-chunks, indented-chunk, indented-chunks}
+use Rattle.indent_closed.specs.Indent.{IndentedChunks, then-chunks, indented-chunks}
 use Rattle.indent_closed.specs.Growth.{chunks-grow}
-use Rattle.indent_rows.specs.Walk.{chunksOf, IndentorRow, WalkReady, closedOf, ChunksIndented, Past, WalkDone}
-use Rattle.indent_rows.specs.Splice.{Spliced, SplicedAt, spliced-before, spliced-behind}
+use Rattle.indent_rows.specs.Walk.{chunksOf, IndentorRow, WalkReady, closedOf, Past, WalkDone}
+use Rattle.indent_rows.specs.Splice.{SplicedAt, spliced-before, spliced-behind}
 use Rattle.indent_rows.specs.Row.{RowReady, closedRow, RowIndented, RowDone}
 
 -- a row that the walk has not come to

@@ -2,28 +2,28 @@
 -- Assumes nothing.
 use mathlib.Core.Path.{_≡_, refl, sym, ap, ap₂, _∙_, subst}
 use mathlib.Core.Bool.{Bool, true, false}
-use mathlib.Core.List.{List, [], _∷_, _++_, map, append-assoc, append-nil}
+use mathlib.Core.List.{List, [], _∷_, _++_, map, append-assoc}
 use mathlib.Core.Logic.{_⊎_, inl, inr}
-use Prim.Native.Nat.{ℕ, zero, suc, _+_, _*_, _-_, _≤_, _<_}
+use Prim.Native.Nat.{ℕ, suc, _+_, _*_, _-_, _≤_, _<_}
 use native.Mathlib.Omega.{arith}
 use native.Mathlib.Decide.{decLt}
 use lib.Dec.{ltb, leb}
-use lib.ListN.{length, take, drop, length-append}
+use lib.ListN.{length, length-append}
 use borrow.Author.Tests.{lt-ltb, le-ltb, leb-true, le-leb}
 use Rattle.utf8.specs.Chars.{All, nil, cons}
 use Rattle.table.specs.Order.{Entry, entryAt, countOf, Linked}
 use Rattle.model.specs.Text.{Text}
 use Rattle.model.specs.Chunk.{Chunk, with-texts, start-of, first-half, second-half, prepend-intro}
 use Rattle.model.specs.Indent.{Starts, then-start}
-use Rattle.memory.specs.Layout.{Place, runOf, chunkOf}
+use Rattle.memory.specs.Layout.{runOf, chunkOf}
 use Rattle.texts.specs.Carry.{Below}
 use Rattle.rows.specs.Insert.{Placed}
 use Rattle.rows.specs.Split.{first, second}
-use Rattle.trim_run.specs.Low.{RowsKept, rows-same, BytesKept, bytes-same, EntryLow, run-same, run-still, text-same}
+use Rattle.trim_run.specs.Low.{RowsKept, rows-same, bytes-same, EntryLow, run-same, run-still}
 use Rattle.indent_closed.specs.Indent.{split-lines, split-lines-inside, split-lines-at-start}
 use Rattle.indent_text.specs.Bytes.{starts-from, part, NextStart}
 use Rattle.indent_rows.specs.Walk.{IndentorRow}
-use Rattle.indent_rows.specs.Splice.{withIntro, begun, Spliced, spliced-same, spliced-set, set-then, CutPart, cut-then, cut-placed, Cutting, cutting-none, cutting-placed, cutting-more, cutting-end}
+use Rattle.indent_rows.specs.Splice.{begun, Spliced, spliced-same, set-then, CutPart, cut-then, cut-placed, Cutting, cutting-none, cutting-placed, cutting-more, cutting-end}
 use Rattle.indent_rows.specs.Begin.{Begun, run-none}
 
 pub leb-less : (x y : ℕ) → leb x y ≡ false → y < x

@@ -1,37 +1,36 @@
 -- One chunk of the walk: its part of the source, its replacement, or neither.
 -- Assumes nothing.
 use mathlib.Core.Path.{_≡_, refl, sym, ap, ap₂, _∙_, subst}
-use mathlib.Core.Bool.{Bool, true, false, cond}
-use mathlib.Core.List.{List, [], _∷_, _++_, map, append-nil}
+use mathlib.Core.Bool.{Bool, true, false}
+use mathlib.Core.List.{List, [], _∷_, map, append-nil}
 use mathlib.Core.Logic.{_⊎_, inl, inr, ⊎-elim}
 use mathlib.Core.Option.{Option, none, some}
-use Prim.Native.Nat.{ℕ, zero, suc, _+_, _*_, _-_, _≤_, _<_}
+use Prim.Native.Nat.{ℕ, _+_, _*_, _-_, _≤_, _<_}
 use native.Mathlib.Omega.{arith}
-use native.Mathlib.Decide.{decLt, ℕ-discrete}
-use lib.Dec.{eqb, leb}
+use native.Mathlib.Decide.{ℕ-discrete}
+use lib.Dec.{leb}
 use lib.ListN.{length, take, drop}
 use lib.Seq.{take-all}
-use borrow.Author.Tests.{eq-eqb, ne-eqb, le-leb, leb-true}
+use borrow.Author.Tests.{eq-eqb, ne-eqb, leb-true}
 use Rattle.utf8.specs.Rfc3629.{utf8}
-use Rattle.utf8.specs.Chars.{All, nil, cons, chars}
+use Rattle.utf8.specs.Chars.{All, nil, cons}
 use Rattle.table.specs.declared.Row.{Row}
 use Rattle.table.specs.Table.{rowAt, Put}
 use Rattle.table.specs.Order.{Entry, entryOf, entryAt, countOf, Linked}
 use Rattle.model.specs.Text.{Text, sum}
-use Rattle.model.specs.Chunk.{Chunk, with-texts, start-of, span-text, content-or, content}
+use Rattle.model.specs.Chunk.{Chunk, with-texts, span-text, content-or, content}
 use Rattle.model.specs.Limits.{chunk-pieces, chunk-bytes}
-use Rattle.model.specs.Indent.{Indented, indent-frag, excluded, Starts, then-start, line-starts, set-edited}
+use Rattle.model.specs.Indent.{Indented, indent-frag, excluded, Starts, then-start, set-edited}
 use Rattle.model.specs.WellFormed.{Valid}
-use Rattle.memory.specs.Layout.{NONE, Place, bytesAt, runOf, replacementOf, chunkOf}
+use Rattle.memory.specs.Layout.{NONE, Place, bytesAt, replacementOf, chunkOf}
 use Rattle.texts.specs.Over.{over, length-over, take-over, over-part, part-kept}
 use Rattle.texts.specs.Texts.{SpanIn, run-length}
-use Rattle.texts.specs.Carry.{Below}
 use Rattle.rows.specs.Insert.{Placed}
 use Rattle.rows.specs.Split.{RowSet}
 use Rattle.trim_run.specs.Low.{RowsKept, BytesKept, rows-same, bytes-same, TextLow, EntryLow, run-same, run-still}
 use Rattle.indent_closed.specs.Indent.{split-lines, IndentedChunks, indented-chunk, indented-lines, indented-excluded, indented-replaced}
 use Rattle.indent_closed.specs.Growth.{lines-indentor, replaced-bytes}
-use Rattle.indent_text.specs.Bytes.{mark-behind, starts-from, part, NextStart, Filling}
+use Rattle.indent_text.specs.Bytes.{mark-behind, part, NextStart, Filling}
 use Rattle.indent_text.specs.Laws.{indent-frag-is, line-starts-is}
 use Rattle.indent_rows.specs.Walk.{IndentorRow}
 use Rattle.indent_rows.specs.Splice.{withText, Rewritten, rewritten-set, Spliced, spliced-same, spliced-set}

@@ -8,13 +8,13 @@ use Prim.Native.Nat.{ℕ, _+_, _*_, _≤_, _<_}
 use lib.ListN.{length, take}
 use Rattle.utf8.specs.Chars.{All}
 use Rattle.table.specs.Table.{rowAt}
-use Rattle.table.specs.Order.{Entry, entryAt, entries, countOf, Linked}
+use Rattle.table.specs.Order.{entries, countOf, Linked}
 use Rattle.model.specs.Text.{Text, sum}
 use Rattle.model.specs.Chunk.{Chunk}
 use Rattle.model.specs.MagicString.{MagicString}
 use Rattle.model.specs.Limits.{chunk-pieces, chunk-bytes}
 use Rattle.model.specs.WellFormed.{Formed}
-use Rattle.memory.specs.Layout.{Place, runOf, chunkOf}
+use Rattle.memory.specs.Layout.{runOf, chunkOf}
 use Rattle.texts.specs.Carry.{Below}
 use Rattle.rows.specs.Insert.{runsOf}
 use Rattle.trim_run.specs.Low.{RowsKept, BytesKept, TextLow, EntryLow}

@@ -1,8 +1,7 @@
-use mathlib.Core.Path.{_≡_, sym, _∙_}
+use mathlib.Core.Path.{sym, _∙_}
 use native.Mathlib.Omega.{arith}
-use Prim.Native.Nat.{_+_, _-_, _≤_}
+use Prim.Native.Nat.{_-_}
 use Rattle.indent_rows.specs.Lines.{LinesAt, lines-start, lines-placed, lines-room, lines-end, lines-out, lines-full, lines-more}
-use borrow.Author.Needs.{needs}
 use Rattle.indent_rows.proofs.cut_lines.Statement.{statement}
 use Rattle.indent_rows.proofs.cut_lines.Tie as tie
 

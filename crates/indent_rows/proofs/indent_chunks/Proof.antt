@@ -1,6 +1,6 @@
-use mathlib.Core.Path.{_≡_, sym, ap, _∙_}
+use mathlib.Core.Path.{_∙_}
 use native.Mathlib.Omega.{arith}
-use Prim.Native.Nat.{_+_, _-_, _≤_}
+use Prim.Native.Nat.{_-_, _≤_}
 use Rattle.indent_rows.specs.Chunks.{WalkAt, walk-start, walk-row, walk-ready, walk-past, walk-more, walk-end}
 use borrow.Author.Needs.{needs}
 use Rattle.indent_rows.proofs.indent_chunks.Statement.{statement}

@@ -1,4 +1,4 @@
-use mathlib.Core.Path.{_≡_, refl, sym, ap, _∙_}
+use mathlib.Core.Path.{refl, sym, ap, _∙_}
 use Rattle.table.specs.declared.Row.{Row}
 use Rattle.model.specs.Indent.{excluded}
 use Rattle.rows.specs.Insert.{room-i}

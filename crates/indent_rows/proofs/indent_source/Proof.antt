@@ -1,5 +1,3 @@
-use mathlib.Core.Path.{_≡_, sym, _∙_}
-use native.Mathlib.Omega.{arith}
 use borrow.Author.Tests.{not-true, not-false}
 use Rattle.rows.specs.Insert.{room-i}
 use Rattle.indent_rows.specs.Row.{row-span, source-none, source-unusable, source-parts, own-ready, inner-ready}

@@ -1,5 +1,4 @@
-use mathlib.Core.Path.{_≡_, sym, _∙_}
-use native.Mathlib.Omega.{arith}
+use mathlib.Core.Path.{sym, _∙_}
 use Rattle.indent_rows.specs.Lines.{inner-lines-ready, inner-done, inner-full}
 use Rattle.indent_rows.specs.Row.{inner-room}
 use borrow.Author.Needs.{needs}

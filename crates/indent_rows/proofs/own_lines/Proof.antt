@@ -1,4 +1,3 @@
-use native.Mathlib.Omega.{arith}
 use Rattle.indent_rows.specs.Lines.{own-done}
 use Rattle.indent_rows.specs.Row.{own-cuts}
 use borrow.Author.Needs.{needs}

@@ -1,4 +1,3 @@
-use native.Mathlib.Omega.{arith}
 use Rattle.indent_rows.specs.Begin.{prefixed}
 use borrow.Author.Needs.{needs}
 use Rattle.indent_rows.proofs.prefix_run.Statement.{statement}
