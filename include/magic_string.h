@@ -202,6 +202,16 @@ magic_string_answer magic_string_trim_end(MAGIC_STRING_DESK, uint32_t pattern);
  * Numbers: 2; 13 in place of 0. */
 magic_string_answer magic_string_trim_lines(MAGIC_STRING_DESK);
 
+/* Puts the indentor in front of every line of the head, the chunks and the tail
+ * that is not empty; the chunks' own pieces are passed over. Without
+ * has_indentor the indentor is not looked at, and what get_indent_string reports
+ * is taken. exclude: pairs of source positions, start and end: lines that begin
+ * there stay. An empty indentor does nothing. 15, 1, 3, 13. */
+magic_string_answer
+magic_string_indent_with(MAGIC_STRING_DESK, uint32_t has_indentor,
+                         const uint8_t *indentor, size_t indentor_len,
+                         const uint32_t *exclude, size_t exclude_len);
+
 /* ---- reports: the value is the number of bytes written ---- */
 
 /* Writes the output. It is never longer than the source and the store together.

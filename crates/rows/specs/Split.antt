@@ -95,7 +95,6 @@ desk-set t t' r l p en ep es len =
 -- ── the split: row i becomes the first half, then the second half is linked in after it ──
 pub record SplitRow (t t' : List ℕ) (i p : ℕ) : Type 0 where
   pub linked : Linked t'
-  pub order-is : (us bs : List ℕ) → order t ≡ us ++ i ∷ bs → order t' ≡ us ++ i ∷ (countOf t + 1) ∷ bs
   pub place : (us bs : List ℕ) → order t ≡ us ++ i ∷ bs
       → entries t' ≡ map (entryAt t) us ++ first p (entryAt t i) ∷ second p (entryAt t i) ∷ map (entryAt t) bs
   pub order-is : (us bs : List ℕ) → order t ≡ us ++ i ∷ bs → order t' ≡ us ++ i ∷ (countOf t + 1) ∷ bs
@@ -119,7 +118,6 @@ module _ (t ta tb : List ℕ) (p i : ℕ) (s : Row) (l : Linked t) (w : Placed t
       (each-both (Not i) (λ x. (0 < x) × (x ≤ countOf t)) xs n m)) in
       record {
         linked = d .linked;
-        order-is = λ us bs o. d .place us bs (ra .order-is ∙ o) ∙ ap (λ (n : ℕ). us ++ i ∷ (n + 1) ∷ bs) ca;
         place = λ us bs o.
             let v = others t us i bs l o in
             let g = ranges t us i bs l o in
