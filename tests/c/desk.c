@@ -48,6 +48,7 @@ static void reported(const char *call, magic_string_answer answer) {
 }
 
 static void edits(void) {
+  static const uint32_t exclude[2] = {9, 13};
   edit("remove 3,7", magic_string_remove(DESK, 3, 7));
   edit("append_left 5 Z", magic_string_append_left(DESK, 5, TEXT("Z")));
   edit("prepend_left 5 Y", magic_string_prepend_left(DESK, 5, TEXT("Y")));
@@ -62,6 +63,8 @@ static void edits(void) {
   edit("trim_lines", magic_string_trim_lines(DESK));
   edit("trim_end 0", magic_string_trim_end(DESK, 0));
   edit("trim_start 0", magic_string_trim_start(DESK, 0));
+  edit("indent_with",
+       magic_string_indent_with(DESK, 1, TEXT("| "), exclude, 2));
   edit("append", magic_string_append(DESK, TEXT("\t")));
   edit("trim 0", magic_string_trim(DESK, 0));
 }

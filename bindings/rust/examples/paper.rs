@@ -1,7 +1,7 @@
 //! A paper: a script is opened and edits are filed on it, with the running text after
 //! each. Then the desk chunk by chunk, its reports, and the fifteen refusals in words.
 
-use magic_string::{Chunk, MagicString, Refusal, UpdateOptions, layout};
+use magic_string::{Chunk, IndentOptions, MagicString, Refusal, UpdateOptions, layout};
 
 const SCRIPT: &str = "\
 Here is Ålesund Radio.
@@ -56,6 +56,7 @@ fn edits(desk: &mut MagicString) -> Result<(), Refusal> {
   file!(desk.prepend("CQ CQ CQ\n"));
   file!(desk.append("73 \t\n\n"));
   file!(desk.trim_end(Some("\\s")));
+  file!(desk.indent_with(IndentOptions { indentor: Some("> "), exclude: &[(air, start("Good"))] }));
   Ok(())
 }
 

@@ -62,10 +62,6 @@ exported! { mut
   magic_string_trim_start(pattern: u32);
   magic_string_trim_end(pattern: u32);
   magic_string_trim_lines();
-}
-
-#[cfg(feature = "indent_with")]
-exported! { mut
   magic_string_indent_with(
     has_indentor: u32, indentor: *const u8, indentor_len: usize,
     exclude: *const u32, exclude_len: usize
@@ -182,7 +178,6 @@ impl Memory {
     edit!(self, magic_string_trim_lines)
   }
 
-  #[cfg(feature = "indent_with")]
   pub fn indent_with(&mut self, indentor: Option<&str>, exclude: &[u32]) -> Answered {
     let text = indentor.unwrap_or_default();
     edit!(

@@ -43,10 +43,7 @@ mod span;
 
 pub use crate::{
   chunk::{Chunk, Chunks},
-  magic_string::{MagicString, update::UpdateOptions},
+  magic_string::{MagicString, indent::IndentOptions, update::UpdateOptions},
   refusal::Refusal,
   span::Span,
 };
-
-#[cfg(feature = "indent_with")]
-pub use crate::magic_string::indent::IndentOptions;

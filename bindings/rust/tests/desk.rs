@@ -1,6 +1,6 @@
 //! What the wrapper shows of a desk, and its reports.
 
-use magic_string::{Chunk, MagicString, Span, UpdateOptions};
+use magic_string::{Chunk, IndentOptions, MagicString, Span, UpdateOptions};
 
 /// A desk with something of everything.
 fn filed() -> MagicString {
@@ -120,6 +120,12 @@ fn document_01_cases() {
   let mut desk = MagicString::new("abc").unwrap();
   desk.append_right(3, "x").unwrap().append_right(3, "").unwrap();
   assert_eq!(desk.last_char(), Some('c'));
+  // I: each line is indented by the guessed tab; an empty indentor does nothing.
+  let mut desk = MagicString::new("a\nb").unwrap();
+  desk.indent_with(IndentOptions { indentor: Some(""), exclude: &[] }).unwrap();
+  assert_eq!(desk, MagicString::new("a\nb").unwrap());
+  desk.indent().unwrap();
+  assert_eq!(desk.to_string(), "\ta\n\tb");
   // J: past the source, left goes to the head.
   let mut desk = MagicString::new("abc").unwrap();
   desk.append_left(9, "x").unwrap();

@@ -6,7 +6,7 @@
 //! so only `from_tables` has it. 14: the wrapper's own buffers are long enough, so
 //! only `write_to` has it. 15: excluded ranges are pairs, so only trims have it.
 
-use magic_string::{MagicString, Refusal, Span, layout};
+use magic_string::{IndentOptions, MagicString, Refusal, Span, layout};
 
 fn open(source: &str) -> MagicString {
   MagicString::new(source).unwrap()
@@ -95,6 +95,8 @@ fn number_3_position_inside_a_character() {
   assert_eq!(untouched(desk, |s| s.append_right(1, "x")), 3);
   assert_eq!(untouched(desk, |s| s.prepend_left(1, "x")), 3);
   assert_eq!(untouched(desk, |s| s.prepend_right(1, "x")), 3);
+  let exclude = &[(0, 1)];
+  assert_eq!(untouched(desk, |s| s.indent_with(IndentOptions { indentor: None, exclude })), 3);
   assert_eq!(desk.slice(1, None), Err(Refusal::InsideCharacter));
   assert_eq!(desk.slice(0, Some(1)), Err(Refusal::InsideCharacter));
   // The range report takes any two numbers.
@@ -223,6 +225,7 @@ fn number_13_limits() {
   let desk = &mut open(&format!("{} ", "a".repeat(10)));
   desk.append_right(0, "x".repeat(layout::STORE_BYTES)).unwrap();
   assert_eq!(untouched(desk, |s| s.trim_end(None)), 13);
+  assert_eq!(untouched(desk, |s| s.indent()), 13);
 }
 
 #[test]

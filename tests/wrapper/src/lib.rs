@@ -1,7 +1,7 @@
 //! The Rust wrapper (bindings/rust) and string_wizard, unchanged, side by side on
 //! random calls: each answer, and the whole desk after it.
 
-use magic_string::{MagicString, Refusal, UpdateOptions};
+use magic_string::{IndentOptions, MagicString, Refusal, UpdateOptions};
 use oracle::{Answer, Call, ChunkData, DeskData};
 
 /// What the wrapper's call gives, as the oracle has it. `None` where the wrapper's
@@ -36,7 +36,6 @@ pub fn call(desk: &mut MagicString, call: &Call) -> Option<Answer> {
     TrimStart { pattern } => edited(desk.trim_start(char_type(pattern))),
     TrimEnd { pattern } => edited(desk.trim_end(char_type(pattern))),
     TrimLines => edited(desk.trim_lines()),
-    #[cfg(feature = "indent_with")]
     IndentWith { ref indentor, ref exclude } => {
       let indentor = match indentor {
         Some(bytes) => Some(text(bytes)?),
@@ -45,10 +44,8 @@ pub fn call(desk: &mut MagicString, call: &Call) -> Option<Answer> {
       let (pairs, []) = exclude.as_chunks() else { return None };
       let exclude: Vec<_> = pairs.iter().map(|&[start, end]| (start, end)).collect();
       let indentor = indentor.as_deref();
-      edited(desk.indent_with(magic_string::IndentOptions { indentor, exclude: &exclude }))
+      edited(desk.indent_with(IndentOptions { indentor, exclude: &exclude }))
     }
-    #[cfg(not(feature = "indent_with"))]
-    IndentWith { .. } => return None,
     Slice { start, end, room: None } => written(desk.slice(start, end)),
     ToString { room: None } => written(Ok(desk.to_string())),
     ToString { room: Some(room) } => {

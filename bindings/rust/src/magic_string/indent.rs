@@ -1,7 +1,5 @@
 use super::reported;
-#[cfg(feature = "indent_with")]
-use crate::Refusal;
-use crate::{MagicString, memory::Memory};
+use crate::{MagicString, Refusal, memory::Memory};
 
 impl MagicString {
   /// The indent that the source's lines suggest: a tab, or as many spaces as the
@@ -19,7 +17,6 @@ impl MagicString {
 }
 
 /// How [`MagicString::indent_with`] indents.
-#[cfg(feature = "indent_with")]
 #[derive(Debug, Default)]
 pub struct IndentOptions<'a, 'b> {
   /// MagicString will guess the `indentor` from lines of the source if passed `None`.
@@ -30,7 +27,6 @@ pub struct IndentOptions<'a, 'b> {
   pub exclude: &'b [(u32, u32)],
 }
 
-#[cfg(feature = "indent_with")]
 impl MagicString {
   /// Indents every line by [`Self::get_indent_string`].
   ///
