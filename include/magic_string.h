@@ -202,11 +202,15 @@ magic_string_answer magic_string_trim_end(MAGIC_STRING_DESK, uint32_t pattern);
  * Numbers: 2; 13 in place of 0. */
 magic_string_answer magic_string_trim_lines(MAGIC_STRING_DESK);
 
-/* Puts the indentor in front of every line of the head, the chunks and the tail
- * that is not empty; the chunks' own pieces are passed over. Without
- * has_indentor the indentor is not looked at, and what get_indent_string reports
- * is taken. exclude: pairs of source positions, start and end: lines that begin
- * there stay. An empty indentor does nothing. 15, 1, 3, 13. */
+/* Puts the indentor in front of each line of the head's pieces, the chunks'
+ * contents and the tail's pieces, as one text after the other; the chunks' own
+ * pieces are passed over. A line's first character is one that is neither a
+ * carriage return nor a line feed. Without has_indentor the indentor is not
+ * looked at, and what get_indent_string writes is taken. exclude holds pairs of
+ * positions, start and end: source characters from start up to end are passed
+ * over, and so is a replacement whose chunk starts there. An empty indentor does
+ * nothing.
+ * Numbers: 2, 15, 1, 3; 13 in place of 0. */
 magic_string_answer
 magic_string_indent_with(MAGIC_STRING_DESK, uint32_t has_indentor,
                          const uint8_t *indentor, size_t indentor_len,
