@@ -8,7 +8,7 @@ use oracle::{
 };
 use string_wizard::MagicString;
 
-use crate::{rust::RustCall, timing::least};
+use crate::{check, desks, rust::RustCall, timing::least};
 
 /// Long enough for every output.
 pub const ROOM: usize = 50_000;
@@ -24,15 +24,17 @@ pub fn print(core: &mut impl Core, desk: &DeskData) {
   let theirs = least(|| None, |opened| *opened = Some(MagicString::new(source)));
   let ours = time(core, &image, &Open { source: Vec::new() });
   line("open", theirs, ours, ours);
-  let check = checking(core, &image);
+  let checked = checking(core, &image);
   for call in every(desk).into_iter().filter(|call| core.has(call)).collect::<Vec<_>>() {
     let rust_call = RustCall::new(&call);
     let theirs = least(|| rust.clone(), |desk| rust_call.make(desk));
     let ours = time(core, &image, &call);
     let name = call.to_string();
-    line(name.split(' ').next().unwrap_or_default(), theirs, ours, ours - check);
+    line(name.split(' ').next().unwrap_or_default(), theirs, ours, ours - checked);
   }
-  println!("{:<30} {:>10} {check:>10.0}", "well_formed", "");
+  println!("{:<30} {:>10} {checked:>10.0}", "well_formed", "");
+  let (utf8, copied) = check::floor(check::bytes(desk), desks::ASCII);
+  println!("{:<30} {:>10} {:>10.0}", "floor: from_utf8 and a copy", "", utf8 + copied);
 }
 
 fn line(name: &str, theirs: f64, ours: f64, inner: f64) {
