@@ -1,6 +1,9 @@
 //! Each call on one desk, beside the Rust.
 
-use differential::{Answer, Core, Image, Unseen, image};
+use differential::{
+  Answer, Core, Image, Unseen,
+  image::{self, Style},
+};
 use oracle::{
   Call::{self, *},
   Desk, DeskData, Limits,
@@ -19,7 +22,7 @@ pub fn print(core: &mut impl Core, desk: &DeskData) {
   print!("{:<30} {:>10} {:>10} {:>8}", "", "Rust ns", "ns", "ratio");
   println!(" {:>10} {:>8}", "inner ns", "ratio");
   let rust = Desk::build(Limits::FULL, desk).magic_string().clone();
-  let image = image::encode(desk, &mut Random::new(1));
+  let image = image::encode_in(Style::tight(), desk, &mut Random::new(1));
   let source: &'static str = desk.source.clone().leak();
   let theirs = least(|| None, |opened| *opened = Some(MagicString::new(source)));
   let ours = time(core, &image, &Open { source: Vec::new() });
