@@ -2,9 +2,13 @@
  *
  * A desk is four slices that the caller lends: the source, and three tables
  * whose words docs/LAYOUT.md describes. Every function takes them first, each
- * as a pointer and a length in elements, works on any content and any length,
- * always returns, and keeps nothing. Options are numbers; any value but 0 is
- * yes. Texts are UTF-8. Positions are byte offsets into the source.
+ * as a pointer and a length in elements. It works on any content and any
+ * length, always returns, and keeps nothing. Pointers are not null and are
+ * valid for their lengths; a slice that is written lies apart from the others,
+ * and nothing else writes any of them during the call.
+ *
+ * Options are numbers; any value but 0 is yes. Texts are UTF-8. Positions are
+ * byte offsets into the source, "from start up to end" is without end.
  *
  * Every call gives a number and a value. The number is 0 if the call was
  * accepted, or a refusal:
@@ -18,10 +22,21 @@
  *    7 replace across a moved edge      15 pattern above 1, odd exclude list
  *    8 move into itself
  *
- * They are tested in the order 2, 15, 1, 3, then the call's own, with 13 in
- * place of any later answer, and 14 last. After 6, 7, 9 and update_with's 10
- * the cuts that were made stay, and so do chunks cleared before 7. Every other
- * refusal leaves every byte of the tables, and no refusal writes a buffer.
+ * "Numbers" below are those that the call may give, in the order in which they
+ * are tested. 13 is given if the desk that the call would leave breaks a limit,
+ * and then in place of the answers that it is named for.
+ *
+ * What lent memory holds afterwards:
+ *
+ *  - The source and texts are never written.
+ *  - After 0 the tables hold the desk that the call leaves. Which rows and
+ *    which bytes of the store it lies in is the library's choice. Where a call
+ *    is said to do nothing, and after every report, each byte of the tables is
+ *    as it was.
+ *  - After a refusal each byte of the tables is as it was, but where "After"
+ *    says that something stays; the tables then hold that desk, well formed.
+ *  - A report that fills a buffer writes its text to the front of it and leaves
+ *    the bytes behind. No refusal writes a buffer.
  */
 #ifndef MAGIC_STRING_H
 #define MAGIC_STRING_H
@@ -44,13 +59,28 @@ extern "C" {
 #define MAGIC_STRING_PIECES_LEN (2048 * 2)
 #define MAGIC_STRING_STORE_LEN 32768
 
+/* The words of a row of chunks (docs/LAYOUT.md). Row 0 is the desk's own. */
+enum {
+  MAGIC_STRING_START,
+  MAGIC_STRING_END,
+  MAGIC_STRING_NEXT,
+  MAGIC_STRING_PREV,
+  MAGIC_STRING_INTRO_AT,
+  MAGIC_STRING_INTRO_N,
+  MAGIC_STRING_OUTRO_AT,
+  MAGIC_STRING_OUTRO_N,
+  MAGIC_STRING_TEXT_AT,
+  MAGIC_STRING_TEXT_N,
+  MAGIC_STRING_ROW = 12 /* words in a row */
+};
+
 /* In a chunk row's text_at: the chunk has no replacement. */
 #define MAGIC_STRING_NONE UINT32_C(0xFFFFFFFF)
 
 /* last_char's value where the output has no last character. */
 #define MAGIC_STRING_NO_CHAR UINT32_C(0xFFFFFFFF)
 
-/* The value is 0 where nothing is reported. */
+/* The value is 0 after a refusal and where nothing is reported. */
 typedef struct magic_string_answer {
   uint32_t number;
   uint32_t value;
@@ -66,124 +96,185 @@ typedef struct magic_string_answer {
       size_t chunks_len, const uint32_t *pieces, size_t pieces_len,            \
       const uint8_t *store, size_t store_len
 
-/* A fresh desk over the source, whatever the tables held. 2 for tables of other
- * lengths, then 13 for a source over 16,384 bytes, then 1. */
+/* ---- opening ---- */
+
+/* Makes a fresh desk over the source, whatever the tables held: one chunk, no
+ * pieces.
+ * Numbers: 2 for tables of other lengths, 13 for a source of over 16,384 bytes,
+ * 1 for the source. Value: 0. */
 magic_string_answer magic_string_open(MAGIC_STRING_DESK);
 
-/* 0 if the memory holds a well-formed desk, else 2. Every call makes this check
- * first. */
+/* Tells whether the memory holds a well-formed desk. Every call but open makes
+ * this check first.
+ * Numbers: 2. Value: 0. */
 magic_string_answer magic_string_well_formed(MAGIC_STRING_READ);
 
-/* ---- edits ---- */
+/* ---- edits: the value is 0 ---- */
 
-/* Removes the bytes from start up to end; an end past the source is accepted.
- * Zero width does nothing. 3, 4, 6, 13. */
+/* Removes the bytes from start up to end, and the pieces of their chunks. An
+ * end past the source is accepted. Zero width does nothing.
+ * Numbers: 2, 3, 4, 6; 13 in place of 0 and 6.
+ * After 6: the cut at start stays, if that was made. */
 magic_string_answer magic_string_remove(MAGIC_STRING_DESK, uint32_t start,
                                         uint32_t end);
 
-/* Replaces them by the text. overwrite: the first chunk loses its pieces too.
- * 1, 3, 5, 4, 6, 10, 7, 13. */
+/* Replaces the bytes from start up to end by the text, which goes to the first
+ * chunk of the range. The later ones become empty and lose their pieces; the
+ * first one loses its own if overwrite says so.
+ * Numbers: 2, 1, 3, 5, 4, 6, 10, 7; 13 in place of 0, 6, 10 and 7.
+ * After 6: the cut at start stays, if that was made. After 10: the same. After
+ * 7: both cuts stay, and so do the later chunks that were emptied before the
+ * moved edge was met; the first chunk is as it was. */
 magic_string_answer magic_string_update_with(MAGIC_STRING_DESK, uint32_t start,
                                              uint32_t end, const uint8_t *text,
                                              size_t text_len,
                                              uint32_t overwrite);
 
-/* Undoes all edits of the range. Zero width does nothing. 3, 4, 10, 6, 13. */
+/* Undoes the edits of the bytes from start up to end: their chunks lose pieces
+ * and replacements. Moves stay. Zero width does nothing.
+ * Numbers: 2, 3, 4, 10, 6; 13 in place of 0 and 6.
+ * After 6: the cut at start stays, if that was made. */
 magic_string_answer magic_string_reset(MAGIC_STRING_DESK, uint32_t start,
                                        uint32_t end);
 
-/* Adds a piece behind the outro of the chunk that ends at the position, or to
- * the head. 1, 3, 6, 13. */
+/* Adds a piece at the back of the outro of the chunk that ends at the position,
+ * after a cut there; where no chunk does (at 0, past the source), at the back
+ * of the head.
+ * Numbers: 2, 1, 3, 6; 13 in place of 0. */
 magic_string_answer magic_string_append_left(MAGIC_STRING_DESK, uint32_t at,
                                              const uint8_t *text,
                                              size_t text_len);
 
-/* Adds a piece behind the intro of the chunk that starts there, or to the tail.
- * 1, 3, 6, 13. */
+/* Adds a piece at the back of the intro of the chunk that starts at the
+ * position, after a cut there; where no chunk does (at the source's end and
+ * past it), at the back of the tail.
+ * Numbers: 2, 1, 3, 6; 13 in place of 0. */
 magic_string_answer magic_string_append_right(MAGIC_STRING_DESK, uint32_t at,
                                               const uint8_t *text,
                                               size_t text_len);
 
-/* As append_left, at the front of the list. */
+/* As append_left, at the front of the same list.
+ * Numbers: 2, 1, 3, 6; 13 in place of 0. */
 magic_string_answer magic_string_prepend_left(MAGIC_STRING_DESK, uint32_t at,
                                               const uint8_t *text,
                                               size_t text_len);
 
-/* As append_right, at the front of the list. */
+/* As append_right, at the front of the same list.
+ * Numbers: 2, 1, 3, 6; 13 in place of 0. */
 magic_string_answer magic_string_prepend_right(MAGIC_STRING_DESK, uint32_t at,
                                                const uint8_t *text,
                                                size_t text_len);
 
-/* Adds a piece behind the tail. 1, 13. */
+/* Adds a piece at the back of the tail, the end of the output.
+ * Numbers: 2, 1; 13 in place of 0. */
 magic_string_answer magic_string_append(MAGIC_STRING_DESK, const uint8_t *text,
                                         size_t text_len);
 
-/* Adds a piece before the head. 1, 13. */
+/* Adds a piece at the front of the head, the start of the output.
+ * Numbers: 2, 1; 13 in place of 0. */
 magic_string_answer magic_string_prepend(MAGIC_STRING_DESK, const uint8_t *text,
                                          size_t text_len);
 
-/* Moves the range before the chunk that starts at `to`, or last.
- * 3, 8, 4, 10, 6, 9, 13. */
+/* Moves the bytes from start up to end before the chunk that starts at `to`, or
+ * to the end of the list where none does. Zero width does nothing.
+ * Numbers: 2, 3, 8, 4, 10, 6, 9; 13 in place of 0, 6 and 9.
+ * After 6: the cuts made before it stay, of start, end and to in this order.
+ * After 9: all three stay. */
 magic_string_answer magic_string_relocate(MAGIC_STRING_DESK, uint32_t start,
                                           uint32_t end, uint32_t to);
 
-/* Takes white space (pattern 0) or line ends (pattern 1) off both ends, piece
- * by piece. 15, 13. */
+/* Takes white space (pattern 0) or line ends (pattern 1) off both ends of the
+ * output, piece by piece: a piece of which nothing is left goes, and what is
+ * left of a chunk's trimmed content is its replacement.
+ * Numbers: 2, 15; 13 in place of 0. */
 magic_string_answer magic_string_trim(MAGIC_STRING_DESK, uint32_t pattern);
 
-/* Off the start alone; the tail is never touched. */
+/* The same off the start alone. The tail is never touched.
+ * Numbers: 2, 15; 13 in place of 0. */
 magic_string_answer magic_string_trim_start(MAGIC_STRING_DESK,
                                             uint32_t pattern);
 
-/* Off the end alone; the head is never touched. */
+/* The same off the end alone. The head is never touched.
+ * Numbers: 2, 15; 13 in place of 0. */
 magic_string_answer magic_string_trim_end(MAGIC_STRING_DESK, uint32_t pattern);
 
-/* trim with pattern 1. */
+/* trim with pattern 1.
+ * Numbers: 2; 13 in place of 0. */
 magic_string_answer magic_string_trim_lines(MAGIC_STRING_DESK);
+
+/* Puts the indentor in front of each line of the head's pieces, the chunks'
+ * contents and the tail's pieces, as one text after the other; the chunks' own
+ * pieces are passed over. A line's first character is one that is neither a
+ * carriage return nor a line feed. Without has_indentor the indentor is not
+ * looked at, and what get_indent_string writes is taken. exclude holds pairs of
+ * positions, start and end: source characters from start up to end are passed
+ * over, and so is a replacement whose chunk starts there. An empty indentor does
+ * nothing.
+ * Numbers: 2, 15, 1, 3; 13 in place of 0. */
+magic_string_answer
+magic_string_indent_with(MAGIC_STRING_DESK, uint32_t has_indentor,
+                         const uint8_t *indentor, size_t indentor_len,
+                         const uint32_t *exclude, size_t exclude_len);
 
 /* ---- reports: the value is the number of bytes written ---- */
 
-/* The output. 14. */
+/* Writes the output. It is never longer than the source and the store together.
+ * Numbers: 2, 14. */
 magic_string_answer magic_string_to_string(MAGIC_STRING_READ, uint8_t *out,
                                            size_t out_len);
 
-/* The output of the source range, along the list. 3, 11, 12, 14. */
+/* Writes the output of the bytes from start up to end, along the list; the
+ * first chunk's intro only if it starts at start, the last one's outro only if
+ * it ends at end. Without has_end it goes to the source's end, and end is not
+ * looked at.
+ * Numbers: 2, 3, 11, 12, 14. */
 magic_string_answer magic_string_slice(MAGIC_STRING_READ, uint32_t start,
                                        uint32_t has_end, uint32_t end,
                                        uint8_t *out, size_t out_len);
 
-/* The output behind its last line feed. 14. */
+/* Writes the output behind its last line feed, all of it if it has none.
+ * Numbers: 2, 14. */
 magic_string_answer magic_string_last_line(MAGIC_STRING_READ, uint8_t *out,
                                            size_t out_len);
 
-/* The indent that the source's lines suggest. 14. */
+/* Writes the indent that the source's lines suggest: a tab, or as many spaces
+ * as the least indented of the lines that begin with two.
+ * Numbers: 2, 14. */
 magic_string_answer
 magic_string_get_indent_string(MAGIC_STRING_READ, uint8_t *out, size_t out_len);
 
 /* ---- reports: the value is what is reported ---- */
 
-/* Bytes of the chunks' output, without head and tail. */
+/* Value: the bytes of the chunks' output, without head and tail.
+ * Numbers: 2. */
 magic_string_answer magic_string_len(MAGIC_STRING_READ);
 
-/* The same in UTF-16 units. */
+/* Value: the same in UTF-16 units.
+ * Numbers: 2. */
 magic_string_answer magic_string_len_utf16(MAGIC_STRING_READ);
 
-/* One more than the line feeds of the output. */
+/* Value: one more than the line feeds of the output.
+ * Numbers: 2. */
 magic_string_answer magic_string_line_count(MAGIC_STRING_READ);
 
-/* 1 if the chunks' output is white space or empty. */
+/* Value: 1 if the chunks' output is white space or empty, else 0.
+ * Numbers: 2. */
 magic_string_answer magic_string_is_empty(MAGIC_STRING_READ);
 
-/* 1 if the output differs from the source. */
+/* Value: 1 if the output differs from the source, else 0.
+ * Numbers: 2. */
 magic_string_answer magic_string_has_changed(MAGIC_STRING_READ);
 
-/* 1 if a replaced chunk has the whole range; any two numbers. */
+/* Value: 1 if the span of one replaced chunk has the range from start up to
+ * end, else 0. It takes any two numbers.
+ * Numbers: 2. */
 magic_string_answer magic_string_is_range_within_edited_chunk(MAGIC_STRING_READ,
                                                               uint32_t start,
                                                               uint32_t end);
 
-/* The code of the last character, looking at the last piece of each list
- * alone; MAGIC_STRING_NO_CHAR if there is none. */
+/* Value: the code of the output's last character, looking at the last piece of
+ * each list alone, or MAGIC_STRING_NO_CHAR if there is none.
+ * Numbers: 2. */
 magic_string_answer magic_string_last_char(MAGIC_STRING_READ);
 
 #undef MAGIC_STRING_DESK

@@ -1,44 +1,122 @@
-/* Opens a script, files a few edits and prints the running text, through the
- * header and the archive alone. */
+/* Makes every call of the header once or more, on memory of exactly the lengths
+ * that it asks for, so that valgrind sees a read or a write beside it. */
 #include "magic_string.h"
 
 #include <stdio.h>
+#include <stdlib.h>
 #include <string.h>
 
-static uint32_t chunks[MAGIC_STRING_CHUNKS_LEN];
-static uint32_t pieces[MAGIC_STRING_PIECES_LEN];
-static uint8_t store[MAGIC_STRING_STORE_LEN];
-static uint8_t out[MAGIC_STRING_SOURCE_BYTES + MAGIC_STRING_STORE_BYTES];
+static const char script[] = "  abcdef\n  é\n";
 
-static const char script[] = "abcdef";
+static uint8_t *source;
+static uint32_t *chunks, *pieces;
+static uint8_t *store, *out;
+static size_t source_len, out_len;
 
-#define SOURCE (const uint8_t *)script, strlen(script)
 #define DESK                                                                   \
-  SOURCE, chunks, MAGIC_STRING_CHUNKS_LEN, pieces, MAGIC_STRING_PIECES_LEN,    \
-      store, MAGIC_STRING_STORE_LEN
+  source, source_len, chunks, MAGIC_STRING_CHUNKS_LEN, pieces,                 \
+      MAGIC_STRING_PIECES_LEN, store, MAGIC_STRING_STORE_LEN
+#define OUT out, out_len
 #define TEXT(t) (const uint8_t *)(t), strlen(t)
 
-static void say(const char *call, magic_string_answer answer) {
-  magic_string_answer text = magic_string_to_string(DESK, out, sizeof out);
-  printf("%-28s %2u  \"%.*s\"\n", call, (unsigned)answer.number,
-         (int)text.value, (const char *)out);
+/* Prints bytes with line feeds as \n. */
+static void text(const uint8_t *bytes, uint32_t n) {
+  putchar('"');
+  for (uint32_t i = 0; i < n; i++)
+    bytes[i] == '\n' ? (void)fputs("\\n", stdout) : (void)putchar(bytes[i]);
+  puts("\"");
+}
+
+/* An edit's answer, and the output after it. */
+static void edit(const char *call, magic_string_answer answer) {
+  magic_string_answer shown = magic_string_to_string(DESK, OUT);
+  printf("%-28s %2u %u  ", call, (unsigned)answer.number,
+         (unsigned)answer.value);
+  text(out, shown.value);
+}
+
+/* A report's answer, and what it wrote. */
+static void filled(const char *call, magic_string_answer answer) {
+  printf("%-28s %2u %u  ", call, (unsigned)answer.number,
+         (unsigned)answer.value);
+  text(out, answer.value);
+}
+
+static void reported(const char *call, magic_string_answer answer) {
+  printf("%-28s %2u %u\n", call, (unsigned)answer.number,
+         (unsigned)answer.value);
+}
+
+static void edits(void) {
+  static const uint32_t exclude[2] = {9, 13};
+  edit("remove 3,7", magic_string_remove(DESK, 3, 7));
+  edit("append_left 5 Z", magic_string_append_left(DESK, 5, TEXT("Z")));
+  edit("prepend_left 5 Y", magic_string_prepend_left(DESK, 5, TEXT("Y")));
+  edit("append_right 5 z", magic_string_append_right(DESK, 5, TEXT("z")));
+  edit("prepend_right 5 y", magic_string_prepend_right(DESK, 5, TEXT("y")));
+  edit("prepend", magic_string_prepend(DESK, TEXT(" >")));
+  edit("append", magic_string_append(DESK, TEXT("< \n")));
+  edit("relocate 2,3,8", magic_string_relocate(DESK, 2, 3, 8));
+  edit("update_with 7,8 FF",
+       magic_string_update_with(DESK, 7, 8, TEXT("FF"), 1));
+  edit("reset 4,6", magic_string_reset(DESK, 4, 6));
+  edit("trim_lines", magic_string_trim_lines(DESK));
+  edit("trim_end 0", magic_string_trim_end(DESK, 0));
+  edit("trim_start 0", magic_string_trim_start(DESK, 0));
+  edit("indent_with",
+       magic_string_indent_with(DESK, 1, TEXT("| "), exclude, 2));
+  edit("append", magic_string_append(DESK, TEXT("\t")));
+  edit("trim 0", magic_string_trim(DESK, 0));
+}
+
+static void reports(void) {
+  filled("to_string", magic_string_to_string(DESK, OUT));
+  filled("slice 2,3", magic_string_slice(DESK, 2, 1, 3, OUT));
+  filled("slice 8", magic_string_slice(DESK, 8, 0, 0, OUT));
+  filled("last_line", magic_string_last_line(DESK, OUT));
+  filled("get_indent_string", magic_string_get_indent_string(DESK, OUT));
+  reported("len", magic_string_len(DESK));
+  reported("len_utf16", magic_string_len_utf16(DESK));
+  reported("line_count", magic_string_line_count(DESK));
+  reported("is_empty", magic_string_is_empty(DESK));
+  reported("has_changed", magic_string_has_changed(DESK));
+  reported("last_char", magic_string_last_char(DESK));
+  reported("is_range_within.. 7,8",
+           magic_string_is_range_within_edited_chunk(DESK, 7, 8));
+  reported("well_formed", magic_string_well_formed(DESK));
+}
+
+static void refusals(void) {
+  edit("append with byte FF", magic_string_append(DESK, TEXT("\xFF")));
+  edit("remove 11,12", magic_string_remove(DESK, 11, 12));
+  edit("remove 2,1", magic_string_remove(DESK, 2, 1));
+  edit("trim 2", magic_string_trim(DESK, 2));
+  out_len = 1;
+  filled("to_string into 1 byte", magic_string_to_string(DESK, OUT));
+  memset(chunks, 0, MAGIC_STRING_CHUNKS_LEN * sizeof *chunks);
+  reported("well_formed of zeros", magic_string_well_formed(DESK));
+  edit("remove on zeros", magic_string_remove(DESK, 0, 1));
 }
 
 int main(void) {
-  say("before open", magic_string_well_formed(DESK));
-  say("open", magic_string_open(DESK));
-  say("remove 1,5", magic_string_remove(DESK, 1, 5));
-  say("append_left 3 \"Z\"", magic_string_append_left(DESK, 3, TEXT("Z")));
-  say("prepend \">\"", magic_string_prepend(DESK, TEXT(">")));
-  say("relocate 0,1,6", magic_string_relocate(DESK, 0, 1, 6));
-  say("update_with 5,6 \"F\"",
-      magic_string_update_with(DESK, 5, 6, TEXT("F"), 1));
-  say("remove 2,1", magic_string_remove(DESK, 2, 1));
-  say("append with byte FF", magic_string_append(DESK, TEXT("\xFF")));
-  say("reset 0,6", magic_string_reset(DESK, 0, 6));
-  printf("len %u, lines %u, changed %u\n",
-         (unsigned)magic_string_len(DESK).value,
-         (unsigned)magic_string_line_count(DESK).value,
-         (unsigned)magic_string_has_changed(DESK).value);
+  source_len = strlen(script);
+  out_len = source_len + 16;
+  source = malloc(source_len);
+  chunks = malloc(MAGIC_STRING_CHUNKS_LEN * sizeof *chunks);
+  pieces = malloc(MAGIC_STRING_PIECES_LEN * sizeof *pieces);
+  store = malloc(MAGIC_STRING_STORE_LEN);
+  out = malloc(out_len);
+  if (!source || !chunks || !pieces || !store || !out)
+    return 1;
+  memcpy(source, script, source_len);
+  edit("open", magic_string_open(DESK));
+  edits();
+  reports();
+  refusals();
+  free(source);
+  free(chunks);
+  free(pieces);
+  free(store);
+  free(out);
   return 0;
 }

@@ -16,13 +16,7 @@ pub fn append_left(
     ensures { λ r. ⌜ Ran (append-left at (now (text .entry))) (now (source .entry)) (now (chunks .entry)) (now (pieces .entry)) (now (store .entry))
         (now (chunks .exit)) (now (pieces .exit)) (now (store .exit)) r ⌝ }
 {
-    if utf8::valid(text) {
-        if utf8::boundary(source, at as usize) {
-            return insert::insert_with(source, chunks, pieces, store, text, at, true, false);
-        }
-        return 3;
-    }
-    1
+    insert_call::insert_at(source, chunks, pieces, store, at, text, true, false)
 }
 
 // `append_right`: 1, 3, then the cut and the piece.
@@ -38,13 +32,7 @@ pub fn append_right(
     ensures { λ r. ⌜ Ran (append-right at (now (text .entry))) (now (source .entry)) (now (chunks .entry)) (now (pieces .entry)) (now (store .entry))
         (now (chunks .exit)) (now (pieces .exit)) (now (store .exit)) r ⌝ }
 {
-    if utf8::valid(text) {
-        if utf8::boundary(source, at as usize) {
-            return insert::insert_with(source, chunks, pieces, store, text, at, false, false);
-        }
-        return 3;
-    }
-    1
+    insert_call::insert_at(source, chunks, pieces, store, at, text, false, false)
 }
 
 // `append`: 1, then the piece for the tail.
@@ -59,8 +47,5 @@ pub fn append(
     ensures { λ r. ⌜ Ran (append (now (text .entry))) (now (source .entry)) (now (chunks .entry)) (now (pieces .entry)) (now (store .entry))
         (now (chunks .exit)) (now (pieces .exit)) (now (store .exit)) r ⌝ }
 {
-    if utf8::valid(text) {
-        return insert::whole_with(source, chunks, pieces, store, text, true, false);
-    }
-    1
+    insert_call::add_whole(source, chunks, pieces, store, text, true)
 }

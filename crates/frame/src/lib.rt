@@ -43,7 +43,7 @@ pub fn load(
 }
 
 // total + n, or cap where that is more.
-fn add_capped(total: usize, n: usize, cap: usize) -> usize
+pub fn add_capped(total: usize, n: usize, cap: usize) -> usize
     requires { ⌜ total ≤ cap ⌝ }
     ensures { λ r. ⌜ r ≡ min (total + n) cap ⌝ }
 {

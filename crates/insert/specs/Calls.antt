@@ -40,7 +40,7 @@ pub record InsertSteps (left front : Bool) (q : ℕ) (text p s t t' p' s' : List
   pub number : (r ≡ 0) ⊎ ((r ≡ 6) ⊎ (r ≡ 13))
 
 -- ── a text longer than the store ──
-with-sum : (front : Bool) (t : Text) (ts : List Text) → sum length (withText front t ts) ≡ length t + sum length ts
+pub with-sum : (front : Bool) (t : Text) (ts : List Text) → sum length (withText front t ts) ≡ length t + sum length ts
 with-sum true t ts = refl
 with-sum false t ts = sum-append length ts (t ∷ []) ∙ omega arith
 
@@ -93,11 +93,11 @@ step-big false front q t m = go (by-start q (m .chunks)) refl
     go (some d) e = omega (arith, start-big q (length t) (add-to false front t) (add-big false front t) (m .chunks) d e)
 
 -- ── the three ends of the steps ──
-stop : (r : ℕ) (m : MagicString) (g : MagicString → Result) → (r ≡ 0 → ⊥) → and-then (err r m) g ≡ err r m
+pub stop : (r : ℕ) (m : MagicString) (g : MagicString → Result) → (r ≡ 0 → ⊥) → and-then (err r m) g ≡ err r m
 stop zero m g n = absurd (n refl)
 stop (suc r) m g n = refl
 
-six : {r : ℕ} → (r ≡ 0) ⊎ (r ≡ 6) → (r ≡ 0 → ⊥) → r ≡ 6
+pub six : {r : ℕ} → (r ≡ 0) ⊎ (r ≡ 6) → (r ≡ 0 → ⊥) → r ≡ 6
 six (inl h) n = absurd (n h)
 six (inr h) n = h
 

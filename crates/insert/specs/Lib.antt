@@ -1,3 +1,5 @@
 pub mod Piece
 pub mod Insertion
 pub mod Calls
+pub mod OnTop
+pub mod TopCalls

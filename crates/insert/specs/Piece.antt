@@ -72,7 +72,7 @@ pub record PieceAdded (outro front : Bool) (text p s t t' p' s' : List ℕ) (i :
   pub put : Put t t' i (with-side outro run (rowAt t i))
 
 -- ── the copy ──
-with-length : (front : Bool) (text : Text) (ts : List Text) → length (withText front text ts) ≡ suc (length ts)
+pub with-length : (front : Bool) (text : Text) (ts : List Text) → length (withText front text ts) ≡ suc (length ts)
 with-length true text ts = refl
 with-length false text ts = length-append ts (text ∷ []) ∙ omega arith
 

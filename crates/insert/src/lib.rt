@@ -1,8 +1,8 @@
 // What append.rs and prepend.rs share: a piece more at the front or the back of a chunk's intro or outro, or of the head or the tail.
 ghost use mathlib.Core.Path.{_≡_};
 ghost use Prim.Native.Nat.{_+_, _*_, _≤_};
-ghost use lib.ListN.{length};
-ghost use Rattle.table.specs.Order.{entryOf, entryAt};
+ghost use lib.ListN.{length, take};
+ghost use Rattle.table.specs.Order.{entryOf, entryAt, countOf};
 ghost use Rattle.memory.specs.WellFormed.{RunIn};
 ghost use Rattle.split.specs.Lift.{RunSmall};
 ghost use Rattle.memory.specs.WellFormed.{Readable, WellFormed};
@@ -11,6 +11,11 @@ ghost use Rattle.split.specs.Lift.{DeskSmall};
 ghost use Rattle.insert.specs.Piece.{side, with-side, Spare, PieceAdded, LongScratch};
 ghost use Rattle.insert.specs.Insertion.{key-of};
 ghost use Rattle.insert.specs.Calls.{Inserted, InsertSteps, InsertRan, WholeRan};
+ghost use Rattle.on_top.specs.Live.{LiveOf, Room};
+ghost use Rattle.on_top.specs.Run.{TopRoom};
+ghost use Rattle.insert.specs.OnTop.{AddedOnTop, TopReady};
+ghost use Rattle.insert.specs.TopCalls.{InsertedTop};
+use on_top::Used;
 use rows::Found;
 use rows::Key;
 
@@ -175,8 +180,8 @@ fn insert_by(
     frame::finish(t, p, s, chunks, pieces, store, r)
 }
 
-// An insertion past its tests: `append_left`, `append_right`, `prepend_left`, `prepend_right`.
-pub fn insert_with(
+// The same with scratch tables of its own.
+fn insert_scratch(
     source: &[u8],
     chunks: &mut [u32],
     pieces: &mut [u32],
@@ -235,8 +240,8 @@ fn whole_by(
     frame::finish(t, p, s, chunks, pieces, store, 0)
 }
 
-// `append` and `prepend` past the test of the text.
-pub fn whole_with(
+// The same with scratch tables of its own. 13 where the text alone is longer than the store.
+fn whole_scratch(
     source: &[u8],
     chunks: &mut [u32],
     pieces: &mut [u32],
@@ -270,4 +275,125 @@ pub fn whole_with(
         outro,
         front,
     )
+}
+
+// A text more in front of row i's outro or intro, or behind it, on top of the lent tables: the run's rows are copied to `row`, the text goes to `byte`.
+fn add_on_top(
+    chunks: &mut [u32],
+    pieces: &mut [u32],
+    store: &mut [u8],
+    text: &[u8],
+    i: u32,
+    outro: bool,
+    front: bool,
+    row: usize,
+    byte: usize,
+)
+    requires { ⌜ i * 12 + 12 ≤ length (now chunks) ⌝ }
+    requires { ⌜ length (now pieces) ≡ 4096 ⌝ }
+    requires { ⌜ TopRoom (side outro (entryAt (now chunks) i)) (now text) (now pieces) (now store) row byte ⌝ }
+    requires { ⌜ RunIn (take (row * 2) (now pieces)) (take byte (now store)) (side outro (entryAt (now chunks) i)) ⌝ }
+    ensures { λ _. ⌜ AddedOnTop outro front (now (text .entry)) row byte (now (pieces .entry)) (now (store .entry)) (now (chunks .entry))
+        (now (chunks .exit)) (now (pieces .exit)) (now (store .exit)) i ⌝ }
+{
+    let r = table::get_row(chunks, i);
+    let run = run_of(r, outro);
+    on_top::lengthen(pieces, store, text, front, run.at, run.n, row, byte);
+    table::put_row(chunks, i, with_run(r, outro, row as u32, run.n + 1));
+}
+
+// As `insert_rows`, on top of the lent tables.
+fn insert_rows_on_top(
+    chunks: &mut [u32],
+    pieces: &mut [u32],
+    store: &mut [u8],
+    text: &[u8],
+    q: u32,
+    left: bool,
+    front: bool,
+    l: Used,
+)
+    requires { ⌜ TopReady (now chunks) (now pieces) (now store) (now text) l ⌝ }
+    ensures { λ _. ⌜ InsertedTop left front q (now (text .entry)) (l .row) (l .byte) (now (chunks .entry)) (now (pieces .entry)) (now (store .entry))
+        (now (chunks .exit)) (now (pieces .exit)) (now (store .exit)) ⌝ }
+{
+    let row = l.row;
+    let byte = l.byte;
+    let Found::At(i) = rows::find(chunks, key_for(left), q) else {
+        add_on_top(chunks, pieces, store, text, 0, !left, front, row, byte);
+        return;
+    };
+    add_on_top(chunks, pieces, store, text, i, left, front, row, byte);
+}
+
+// The cut and the piece on the lent tables themselves, where no limit can be passed and there is room.
+fn insert_on_top(
+    source: &[u8],
+    chunks: &mut [u32],
+    pieces: &mut [u32],
+    store: &mut [u8],
+    text: &[u8],
+    q: u32,
+    left: bool,
+    front: bool,
+    l: Used,
+) -> u32
+    requires { ⌜ WellFormed (now source) (now chunks) (now pieces) (now store) ⌝ }
+    requires { ⌜ LiveOf (now chunks) (now pieces) (now store) l ⌝ }
+    requires { ⌜ Room l (countOf (now chunks) + 1) (length (now text)) ⌝ }
+    ensures { λ r. ⌜ InsertRan left front q (now (text .entry)) (now (source .entry)) (now (chunks .entry)) (now (pieces .entry)) (now (store .entry))
+        (now (chunks .exit)) (now (pieces .exit)) (now (store .exit)) r ⌝ }
+{
+    let r = split::split_at(chunks, q);
+    if r != 0 {
+        return r;
+    }
+    insert_rows_on_top(chunks, pieces, store, text, q, left, front, l);
+    0
+}
+
+// An insertion past its tests: `append_left`, `append_right`, `prepend_left`, `prepend_right`. On the lent tables themselves where 13 cannot arise and there is room
+// above all that the desk uses; else on scratch tables.
+pub fn insert_with(
+    source: &[u8],
+    chunks: &mut [u32],
+    pieces: &mut [u32],
+    store: &mut [u8],
+    text: &[u8],
+    q: u32,
+    left: bool,
+    front: bool,
+) -> u32
+    requires { ⌜ WellFormed (now source) (now chunks) (now pieces) (now store) ⌝ }
+    ensures { λ r. ⌜ InsertRan left front q (now (text .entry)) (now (source .entry)) (now (chunks .entry)) (now (pieces .entry)) (now (store .entry))
+        (now (chunks .exit)) (now (pieces .exit)) (now (store .exit)) r ⌝ }
+{
+    let l = on_top::live(chunks, pieces, store);
+    let z = table::get_row(chunks, 0);
+    if on_top::has_room(l, z.start + 1, text.len()) {
+        return insert_on_top(source, chunks, pieces, store, text, q, left, front, l);
+    }
+    insert_scratch(source, chunks, pieces, store, text, q, left, front)
+}
+
+// `append` and `prepend` past the test of the text: as `insert_with`, without a cut.
+pub fn whole_with(
+    source: &[u8],
+    chunks: &mut [u32],
+    pieces: &mut [u32],
+    store: &mut [u8],
+    text: &[u8],
+    outro: bool,
+    front: bool,
+) -> u32
+    requires { ⌜ WellFormed (now source) (now chunks) (now pieces) (now store) ⌝ }
+    ensures { λ r. ⌜ WholeRan outro front (now (text .entry)) (now (source .entry)) (now (chunks .entry)) (now (pieces .entry)) (now (store .entry))
+        (now (chunks .exit)) (now (pieces .exit)) (now (store .exit)) r ⌝ }
+{
+    let l = on_top::live(chunks, pieces, store);
+    if on_top::has_room(l, 0, text.len()) {
+        add_on_top(chunks, pieces, store, text, 0, outro, front, l.row, l.byte);
+        return 0;
+    }
+    whole_scratch(source, chunks, pieces, store, text, outro, front)
 }

@@ -1,7 +1,8 @@
 // The calls that change a desk.
 ghost use mathlib.Core.Path.{_≡_};
-ghost use Rattle.model.specs.Call.{remove, update-with, reset, append-left, append-right, prepend-left, prepend-right, append, prepend, relocate, trim, trim-start, trim-end, trim-lines};
+ghost use Rattle.model.specs.Call.{remove, update-with, reset, append-left, append-right, prepend-left, prepend-right, append, prepend, relocate, trim, trim-start, trim-end, trim-lines, indent-with};
 ghost use Rattle.memory.specs.Calls.{Edited};
+ghost use Rattle.indent.specs.Call.{indentor-of};
 ghost use Rattle.magic_string.specs.Exported.{flag};
 use texts::Answer;
 
@@ -310,6 +311,37 @@ pub extern "C" fn magic_string_trim_lines(
 {
     if well_formed::well_formed(source, chunks, pieces, store) {
         let number = trim::trim_lines(source, chunks, pieces, store);
+        return Answer { number, value: 0 };
+    }
+    Answer {
+        number: 2,
+        value: 0,
+    }
+}
+
+#[no_mangle]
+pub extern "C" fn magic_string_indent_with(
+    source: &[u8],
+    chunks: &mut [u32],
+    pieces: &mut [u32],
+    store: &mut [u8],
+    has_indentor: u32,
+    indentor: &[u8],
+    exclude: &[u32],
+) -> Answer
+    ensures { λ r. ⌜ Edited (indent-with (indentor-of (flag «has_indentor») (now (indentor .entry))) (now (exclude .entry))) (now (source .entry)) (now (chunks .entry)) (now (pieces .entry)) (now (store .entry))
+        (now (chunks .exit)) (now (pieces .exit)) (now (store .exit)) (r .number) × (r .value ≡ 0) ⌝ }
+{
+    if well_formed::well_formed(source, chunks, pieces, store) {
+        let number = indent::indent_with(
+            source,
+            chunks,
+            pieces,
+            store,
+            has_indentor != 0,
+            indentor,
+            exclude,
+        );
         return Answer { number, value: 0 };
     }
     Answer {

@@ -12,7 +12,7 @@ use borrow.Author.Tests.{ne-eqb, eq-eqb, le-ltb, lt-ltb}
 use Rattle.utf8.specs.Chars.{All, nil, cons}
 use Rattle.table.specs.Ring.{Each}
 use Rattle.table.specs.Table.{rowAt}
-use Rattle.table.specs.Order.{Entry, entryAt, entries}
+use Rattle.table.specs.Order.{Entry, entryAt, entries, countOf}
 use Rattle.model.specs.Text.{Text}
 use Rattle.model.specs.Chunk.{Chunk, Texts, bare, start-of, edit, reset-texts}
 use Rattle.model.specs.MagicString.{MagicString, Result, ok, err, and-then, with-chunks}
@@ -28,14 +28,17 @@ use Rattle.closed_forms.specs.Cuts.{Contains, cut-all-aligned}
 use Rattle.closed_forms.specs.Spans.{Cover}
 use Rattle.closed_forms.specs.SplitAt.{cuts-then}
 use Rattle.closed_forms.specs.ByPosition.{in-range, by-position}
-use Rattle.rows.specs.Insert.{runsOf}
+use Rattle.rows.specs.Insert.{runsOf, startF}
 use Rattle.rows.specs.Clear.{clearIn, ClearDone}
+use Rattle.uses.specs.Kept.{Kept, kept-then}
+use Rattle.uses.specs.Steps.{clear-kept}
 use Rattle.rebuild.specs.Rebuilt.{Finished}
 use Rattle.frame.specs.Front.{bool-elim}
 use Rattle.frame.specs.Loaded.{Loaded}
 use Rattle.frame.specs.Frame.{Scratch, Did, did-loaded, loaded-readable, ran-finished, may-write-0, may-write-6}
+use Rattle.in_place.specs.InPlace.{ran-rows}
 use Rattle.split.specs.Lift.{Reordered, still-readable, with-entries, chunks-of, no-run, no-run-in}
-use Rattle.split.specs.Cuts.{Spans, CutsLeave, CutsDone, cuts-spans, loaded-spans}
+use Rattle.split.specs.Cuts.{Spans, CutsLeave, CutsDone, cuts-spans, formed-spans, loaded-spans}
 
 -- what the chunks of the range get: an empty replacement, at the place v, or none
 abbrev pub cleared-to : ℕ → Texts → Texts
@@ -44,6 +47,8 @@ cleared-to v x = bare (cond (eqb v NONE) none (some []))
 pub record RangeDone (a b v : ℕ) (t t' : List ℕ) (r : ℕ) : Type 0 where
   pub leave : (source p s : List ℕ) → Readable t p s → Spans source t p s → Did (change-range (cleared-to v) a b) source t p s t' p s r
   pub number : (r ≡ 0) ⊎ (r ≡ 6)
+  pub count : countOf t' ≤ countOf t + 2
+  pub kept : Kept t t'
 
 -- ── on entries ──
 place-of : (s : List ℕ) (v : ℕ) → replacementOf s (v, 0) ≡ cond (eqb v NONE) none (some [])
@@ -81,6 +86,8 @@ range-refused a b v t t' r d n =
           let k = d .leave source p s h c in
           record { readable = k .readable; result = k .result (λ m. ok (with-chunks m (change-by-position (length (m .chunks)) (cleared-to v) a b (m .chunks)))) ∙ stop r (magicStringOf source t' p s) (λ m. ok (with-chunks m (change-by-position (length (m .chunks)) (cleared-to v) a b (m .chunks)))) n };
       number = d .number;
+      count = omega (arith, d .count);
+      kept = d .kept;
     }
   where
     stop : (r : ℕ) (m : MagicString) (g : MagicString → Result) → (r ≡ 0 → ⊥) → and-then (err r m) g ≡ err r m
@@ -120,6 +127,8 @@ range-done a b v t t1 t2 r ab mk d z c =
                 ∙ ap ok (sym g);
           };
       number = inl refl;
+      count = omega (arith, d .count, ap startF (c .desk));
+      kept = kept-then (d .kept) (clear-kept t1 t2 a b v c);
     }
 
 -- ── the call, for either edit ──
@@ -129,12 +138,23 @@ RangeRan a b v source t p s t' p' s' r =
     → steps e (magicStringOf source t p s) ≡ change-range (cleared-to v) a b (magicStringOf source t p s) → idle e ≡ false
     → Ran e source t p s t' p' s' r
 
+-- which answers may write
+range-writes : {a b v : ℕ} {t t' : List ℕ} {r : ℕ} → RangeDone a b v t t' r → (e : Edit) → idle e ≡ false → may-write e r ≡ true
+range-writes {r = r} x e i = ⊎-elim {C = may-write e r ≡ true} (λ (z : r ≡ 0). rw z (may-write-0 e i)) (λ (z : r ≡ 6). rw z (may-write-6 e)) (x .number)
+
+-- on the lent rows themselves, where two chunks more are within the limit
+pub range-in-place : {a b v : ℕ} {source t p s t' : List ℕ} {r : ℕ} → WellFormed source t p s → countOf t + 2 ≤ 512 → RangeDone a b v t t' r → length t' ≡ length t
+    → RangeRan a b v source t p s t' p s r
+range-in-place {source = source} {p = p} {s = s} w few x len e h q i =
+    let g = x .leave source p s (w .readable) (formed-spans w) in
+    ran-rows w h (record { readable = g .readable; result = q ∙ g .result }) (range-writes x e i) len (x .kept) (omega (arith, x .count))
+
+-- on scratch rows
 pub range-ran : {a b v : ℕ} {source t p s t₀ p₀ s₀ t1 p1 s1 t2 t' p' s' : List ℕ} {r r' : ℕ} → WellFormed source t p s → Scratch t₀ p₀ s₀ → Loaded t p s t₀ p₀ s₀ t1 p1 s1
     → RangeDone a b v t1 t2 r → Finished t2 p1 s1 t p s t' p' s' r r' → RangeRan a b v source t p s t' p' s' r'
-range-ran {a} {b} {v} {source} {t} {p} {s} {r = r} w f d x y e h q i =
+range-ran {source = source} {p = p} {s = s} w f d x y e h q i =
     let g = did-loaded w f d (x .leave source p s (loaded-readable w f d) (loaded-spans w f d)) in
-    let may = ⊎-elim {C = may-write e r ≡ true} (λ (z : r ≡ 0). rw z (may-write-0 e i)) (λ (z : r ≡ 6). rw z (may-write-6 e)) (x .number) in
-    ran-finished w h (record { readable = g .readable; result = q ∙ g .result }) may y
+    ran-finished w h (record { readable = g .readable; result = q ∙ g .result }) (range-writes x e i) y
 
 pub range-readable : {a b v : ℕ} {source t p s t₀ p₀ s₀ t1 p1 s1 t2 : List ℕ} {r : ℕ} → WellFormed source t p s → Scratch t₀ p₀ s₀ → Loaded t p s t₀ p₀ s₀ t1 p1 s1
     → RangeDone a b v t1 t2 r → Readable t2 p1 s1

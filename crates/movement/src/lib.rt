@@ -7,7 +7,7 @@ ghost use Rattle.memory.specs.Calls.{Ran};
 ghost use Rattle.frame.specs.Frame.{Roomy, Scratch};
 ghost use Rattle.movement.specs.Range.{Marked, RangeDone, RangeRan};
 
-// Two cuts, then every chunk of the range is cleared: on scratch rows.
+// Two cuts, then every chunk of the range is cleared.
 fn clear_range(t: &mut [u32], a: u32, b: u32, text_at: u32) -> u32
     requires { ⌜ Roomy 2 (now t) ⌝ }
     requires { ⌜ a < b ⌝ }
@@ -47,8 +47,8 @@ fn range_by(
     frame::finish(t, p, s, chunks, pieces, store, r)
 }
 
-// `remove` and `reset` past their tests: text_at is 0 for an empty replacement, or the mark for none.
-pub fn range_with(
+// The same with scratch tables of its own.
+fn range_scratch(
     source: &[u8],
     chunks: &mut [u32],
     pieces: &mut [u32],
@@ -81,6 +81,30 @@ pub fn range_with(
         b,
         text_at,
     )
+}
+
+// `remove` and `reset` past their tests: text_at is 0 for an empty replacement, or the mark for none.
+// On the lent rows themselves where two chunks more are within the limit, so that 13 cannot arise; else on scratch rows.
+pub fn range_with(
+    source: &[u8],
+    chunks: &mut [u32],
+    pieces: &mut [u32],
+    store: &mut [u8],
+    a: u32,
+    b: u32,
+    text_at: u32,
+) -> u32
+    requires { ⌜ WellFormed (now source) (now chunks) (now pieces) (now store) ⌝ }
+    requires { ⌜ a < b ⌝ }
+    requires { ⌜ Marked «text_at» ⌝ }
+    ensures { λ r. ⌜ RangeRan a b «text_at» (now (source .entry)) (now (chunks .entry)) (now (pieces .entry)) (now (store .entry))
+        (now (chunks .exit)) (now (pieces .exit)) (now (store .exit)) r ⌝ }
+{
+    let z = table::get_row(chunks, 0);
+    if z.start <= 510 {
+        return clear_range(chunks, a, b, text_at);
+    }
+    range_scratch(source, chunks, pieces, store, a, b, text_at)
 }
 
 // `remove`: 3, zero width is a no-op, 4, then the range; an end past the source is accepted.

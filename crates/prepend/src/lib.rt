@@ -16,13 +16,7 @@ pub fn prepend_left(
     ensures { λ r. ⌜ Ran (prepend-left at (now (text .entry))) (now (source .entry)) (now (chunks .entry)) (now (pieces .entry)) (now (store .entry))
         (now (chunks .exit)) (now (pieces .exit)) (now (store .exit)) r ⌝ }
 {
-    if utf8::valid(text) {
-        if utf8::boundary(source, at as usize) {
-            return insert::insert_with(source, chunks, pieces, store, text, at, true, true);
-        }
-        return 3;
-    }
-    1
+    insert_call::insert_at(source, chunks, pieces, store, at, text, true, true)
 }
 
 // `prepend_right`: 1, 3, then the cut and the piece.
@@ -38,13 +32,7 @@ pub fn prepend_right(
     ensures { λ r. ⌜ Ran (prepend-right at (now (text .entry))) (now (source .entry)) (now (chunks .entry)) (now (pieces .entry)) (now (store .entry))
         (now (chunks .exit)) (now (pieces .exit)) (now (store .exit)) r ⌝ }
 {
-    if utf8::valid(text) {
-        if utf8::boundary(source, at as usize) {
-            return insert::insert_with(source, chunks, pieces, store, text, at, false, true);
-        }
-        return 3;
-    }
-    1
+    insert_call::insert_at(source, chunks, pieces, store, at, text, false, true)
 }
 
 // `prepend`: 1, then the piece for the head.
@@ -59,8 +47,5 @@ pub fn prepend(
     ensures { λ r. ⌜ Ran (prepend (now (text .entry))) (now (source .entry)) (now (chunks .entry)) (now (pieces .entry)) (now (store .entry))
         (now (chunks .exit)) (now (pieces .exit)) (now (store .exit)) r ⌝ }
 {
-    if utf8::valid(text) {
-        return insert::whole_with(source, chunks, pieces, store, text, false, true);
-    }
-    1
+    insert_call::add_whole(source, chunks, pieces, store, text, false)
 }

@@ -3,12 +3,13 @@ use mathlib.Core.Path.{_≡_, refl, sym, ap, _∙_, subst}
 use mathlib.Core.Bool.{Bool, true, false, _&&_, cond}
 use mathlib.Core.List.{List, [], _∷_}
 use mathlib.Core.Logic.{_⊎_, inl, inr}
-use Prim.Native.Nat.{ℕ, suc, _≤_, _<_}
+use Prim.Native.Nat.{ℕ, suc, _+_, _≤_, _<_}
 use native.Mathlib.Omega.{arith}
 use lib.Dec.{ltb, leb, eqb}
 use lib.ListN.{length}
 use borrow.Author.Tests.{ne-eqb, eq-eqb, le-ltb, lt-ltb}
 use Rattle.utf8.specs.Rfc3629.{utf8, between}
+use Rattle.table.specs.Order.{countOf}
 use Rattle.model.specs.Text.{all}
 use Rattle.model.specs.MagicString.{MagicString, ok, err}
 use Rattle.model.specs.Movement as movement-rs
@@ -20,8 +21,9 @@ use Rattle.closed_forms.specs.SplitAt.{cuts-then}
 use Rattle.rebuild.specs.Rebuilt.{Finished}
 use Rattle.frame.specs.Loaded.{Loaded}
 use Rattle.frame.specs.Frame.{Scratch, Did, did-loaded, loaded-readable, ran-before, ran-same, ran-finished, refused-3, not-refused, may-write-0, may-write-6, may-write-9}
+use Rattle.in_place.specs.InPlace.{ran-rows}
 use Rattle.split.specs.Lift.{source-of}
-use Rattle.split.specs.Cuts.{loaded-spans}
+use Rattle.split.specs.Cuts.{formed-spans, loaded-spans}
 use Rattle.relocate_rows.specs.Relocated.{Spanned, Movable, move-step, RelocateDone}
 use Rattle.relocate.specs.Tested.{Tested}
 
@@ -60,7 +62,27 @@ writes a b to r h (inr (inr z)) = rw z (may-write-9 (relocate a b to))
 pub valid-source : {source t p s : List ℕ} → WellFormed source t p s → utf8 source ≡ true
 valid-source {source} {t} {p} {s} w = ap utf8 (sym (source-of source t p s)) ∙ w .desk .formed .source
 
--- ── past the tests ──
+-- ── past the tests, on the lent rows ──
+module _ {a b to : ℕ} {source t p s : List ℕ} (w : WellFormed source t p s) (k : Tested a b to source t p s) where
+  pub lent-spanned : Spanned t
+  lent-spanned =
+      record {
+        source = source;
+        pieces = p;
+        store = s;
+        readable = w .readable;
+        spans = formed-spans w;
+        filled = omega (arith, k .movable .ascends, k .inside);
+      }
+
+  pub relocated-in-place : {t' : List ℕ} {r : ℕ} → countOf t + 3 ≤ 512 → RelocateDone a b to t t' r → length t' ≡ length t → Ran (relocate a b to) source t p s t' p s r
+  relocated-in-place {r = r} few x len =
+      let m = magicStringOf source t p s in
+      let q = steps-move a b to m (k .movable .outside) (k .movable .ascends) (omega (arith, k .inside, ap length (source-of source t p s))) in
+      let g = x .leave source p s (w .readable) (formed-spans w) in
+      ran-rows w (k .placed) (record { readable = g .readable; result = q ∙ g .result }) (writes a b to r (k .movable .ascends) (x .number)) len (x .kept) (omega (arith, x .count))
+
+-- ── past the tests, on scratch rows ──
 module _ {a b to : ℕ} {source t p s t₀ p₀ s₀ t1 p1 s1 : List ℕ} (w : WellFormed source t p s) (f : Scratch t₀ p₀ s₀) (d : Loaded t p s t₀ p₀ s₀ t1 p1 s1)
     (k : Tested a b to source t p s) where
   pub loaded-spanned : Spanned t1

@@ -36,7 +36,7 @@ fn relocate_by(
 }
 
 // The same with scratch tables of its own.
-fn relocate_with(
+fn relocate_scratch(
     source: &[u8],
     chunks: &mut [u32],
     pieces: &mut [u32],
@@ -68,6 +68,28 @@ fn relocate_with(
         b,
         to,
     )
+}
+
+// The same on the lent rows themselves where three chunks more are within the limit, so that 13 cannot arise; else on scratch rows.
+fn relocate_with(
+    source: &[u8],
+    chunks: &mut [u32],
+    pieces: &mut [u32],
+    store: &mut [u8],
+    a: u32,
+    b: u32,
+    to: u32,
+) -> u32
+    requires { ⌜ WellFormed (now source) (now chunks) (now pieces) (now store) ⌝ }
+    requires { ⌜ Tested a b to (now source) (now chunks) (now pieces) (now store) ⌝ }
+    ensures { λ r. ⌜ Ran (relocate a b to) (now (source .entry)) (now (chunks .entry)) (now (pieces .entry)) (now (store .entry))
+        (now (chunks .exit)) (now (pieces .exit)) (now (store .exit)) r ⌝ }
+{
+    let z = table::get_row(chunks, 0);
+    if z.start <= 509 {
+        return relocate_rows::relocate_rows(chunks, a, b, to);
+    }
+    relocate_scratch(source, chunks, pieces, store, a, b, to)
 }
 
 // Whether three positions stand between characters.

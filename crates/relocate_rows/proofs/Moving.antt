@@ -21,9 +21,11 @@ use Rattle.closed_forms.specs.Spans.{Proper, Once}
 use Rattle.closed_forms.specs.SplitAt.{cuts-then}
 use Rattle.rows.specs.declared.Key.the-variants.{Start}
 use Rattle.rows.specs.Find.{meets, First}
-use Rattle.rows.specs.Insert.{runsOf}
+use Rattle.rows.specs.Insert.{runsOf, startF}
 use Rattle.rows.specs.Swap.{lastOf}
 use Rattle.rows.specs.Move.{Parts, swapped, Moved, MoveAt, MoveDone}
+use Rattle.uses.specs.Kept.{kept-same, kept-then}
+use Rattle.uses.specs.Steps.{move-kept}
 use Rattle.frame.specs.Frame.{Did}
 use Rattle.split.specs.Lift.{Reordered, still-readable, with-entries}
 use Rattle.split.specs.Cuts.{Spans, CutsDone, cuts-spans}
@@ -59,7 +61,7 @@ each-swap P s h =
 
 -- ── behind the cuts ──
 stays-put : (a b to : ℕ) (t : List ℕ) (r : ℕ) → ((source p s : List ℕ) → move-step a b to (magicStringOf source t p s) ≡ err r (magicStringOf source t p s)) → (r ≡ 0) ⊎ (r ≡ 9) → RangeMoved a b to t t r
-stays-put a b to t r f n = record { leave = λ source p s h. record { readable = h; result = f source p s }; number = n }
+stays-put a b to t r f n = record { leave = λ source p s h. record { readable = h; result = f source p s }; number = n; count = refl; kept = kept-same t }
 
 module _ (a b to : ℕ) (t : List ℕ) where
   as-rows : (source p s : List ℕ) {z : Segment} → segment a b (chunksAt t p s (order t)) ≡ z → move-step a b to (magicStringOf source t p s) ≡ move-segment to (magicStringOf source t p s) z
@@ -203,6 +205,8 @@ module _ (a b to : ℕ) (t : List ℕ) where
                           ∙ ap ok (sym (with-entries t p s t' h reordered source));
                     };
                 number = inl refl;
+                count = ap startF (c .rest 0);
+                kept = move-kept t t' f l n moved-at c;
               }
 
 -- ── the cuts, and what is behind them ──
@@ -218,6 +222,8 @@ module _ (a b to : ℕ) (t t' : List ℕ) (r : ℕ) (d : CutsDone (a ∷ b ∷ t
             let k = d .leave source p s h v in
             record { readable = k .readable; result = k .result (move-step a b to) ∙ stop r (magicStringOf source t' p s) (move-step a b to) n };
         number = ⊎-elim (λ e. absurd (n e)) (λ e. inr (inl e)) (d .number);
+        count = omega (arith, d .count);
+        kept = d .kept;
       }
 
   -- the spans still cover the source
@@ -244,4 +250,6 @@ module _ (a b to : ℕ) (t t' : List ℕ) (r : ℕ) (d : CutsDone (a ∷ b ∷ t
               result = k .result (move-step a b to) ∙ ap (λ (n : ℕ). and-then (err n (magicStringOf source t' p s)) (move-step a b to)) z ∙ u .result;
             };
         number = ⊎-elim (λ e. inl e) (λ e. inr (inr e)) (v .number);
+        count = omega (arith, d .count, v .count);
+        kept = kept-then (d .kept) (v .kept);
       }

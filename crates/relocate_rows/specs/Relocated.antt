@@ -1,19 +1,20 @@
--- `relocate` on scratch rows: what its parts ask and leave.
+-- `relocate` on rows: what its parts ask and leave.
 use mathlib.Core.Path.{_≡_}
 use mathlib.Core.Bool.{false, _&&_}
 use mathlib.Core.List.{List, [], _∷_}
 use mathlib.Core.Logic.{_⊎_}
-use Prim.Native.Nat.{ℕ, _≤_, _<_}
+use Prim.Native.Nat.{ℕ, _+_, _≤_, _<_}
 use lib.Dec.{leb}
 use lib.ListN.{length}
 use Rattle.table.specs.Ring.{Each}
-use Rattle.table.specs.Order.{entryAt, order}
+use Rattle.table.specs.Order.{entryAt, order, countOf}
 use Rattle.model.specs.MagicString.{MagicString, Result}
 use Rattle.model.specs.Movement.{segment, move-segment}
 use Rattle.memory.specs.WellFormed.{Readable}
 use Rattle.closed_forms.specs.SplitAt.{cuts-then}
 use Rattle.rows.specs.declared.Key.the-variants.{Start}
 use Rattle.rows.specs.Find.{meets, First}
+use Rattle.uses.specs.Kept.{Kept}
 use Rattle.frame.specs.Frame.{Did}
 use Rattle.split.specs.Cuts.{Spans}
 
@@ -42,8 +43,12 @@ move-step a b to m = move-segment to m (segment a b (m .chunks))
 pub record RangeMoved (a b to : ℕ) (t t' : List ℕ) (r : ℕ) : Type 0 where
   pub leave : (source p s : List ℕ) → Readable t p s → Did (move-step a b to) source t p s t' p s r
   pub number : (r ≡ 0) ⊎ (r ≡ 9)
+  pub count : countOf t' ≡ countOf t
+  pub kept : Kept t t'
 
 -- the cuts too
 pub record RelocateDone (a b to : ℕ) (t t' : List ℕ) (r : ℕ) : Type 0 where
   pub leave : (source p s : List ℕ) → Readable t p s → Spans source t p s → Did (cuts-then (a ∷ b ∷ to ∷ []) (move-step a b to)) source t p s t' p s r
   pub number : (r ≡ 0) ⊎ ((r ≡ 6) ⊎ (r ≡ 9))
+  pub count : countOf t' ≤ countOf t + 3
+  pub kept : Kept t t'

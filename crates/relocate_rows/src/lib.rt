@@ -1,4 +1,4 @@
-// movement.rs: the cuts and the move of `relocate`, on scratch rows.
+// movement.rs: the cuts and the move of `relocate`, on rows with room for three chunks more.
 ghost use mathlib.Core.Path.{_≡_};
 ghost use mathlib.Core.List.{[], _∷_};
 ghost use Rattle.table.specs.Order.{Linked};

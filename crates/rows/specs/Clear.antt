@@ -7,20 +7,52 @@ use native.Mathlib.Omega.{arith}
 use native.Mathlib.Decide.{ℕ-discrete}
 use lib.Dec.{leb, ltb}
 use lib.ListN.{length}
+use borrow.Author.Tests.{lt-leb, le-leb, le-ltb, lt-ltb}
 use Rattle.table.specs.declared.Row.{Row}
-use Rattle.table.specs.Ring.{Each, each-map, follow}
+use Rattle.table.specs.Ring.{Each, each-map, Not, follow}
 use Rattle.table.specs.Table.{rowAt, Put}
+use Rattle.rows.specs.Insert.{startF, nextF, prevF}
 use Rattle.table.specs.Order.{Entry, entryOf, entryAt, entries, order, nextOf, prevOf, countOf, Linked, put-keep, same-links}
+
+-- a row without pieces, its replacement empty, at v, or gone
+abbrev pub bareAt : ℕ → Row → Entry
+bareAt v r = record { start = r .start; end = r .end; intro = (0, 0); outro = (0, 0); text = (v, 0) }
 
 -- every chunk that starts from a up to but without b; v is the place of its replacement, which is empty, or the mark for none
 abbrev pub clearIn : ℕ → ℕ → ℕ → Entry → Entry
 clearIn a b v c =
     cond (leb a (c .start) && ltb (c .start) b) (record { start = c .start; end = c .end; intro = (0, 0); outro = (0, 0); text = (v, 0) }) c
 
-pub record Cleared (a b v : ℕ) (c r : Row) : Type 0 where
-  pub entry-is : entryOf r ≡ clearIn a b v (entryOf c)
-  pub next : r .next ≡ c .next
-  pub prev : r .prev ≡ c .prev
+-- row k is cleared if it starts in the range, and all else is as before
+pub record ClearedAt (t t' : List ℕ) (k a b v : ℕ) : Type 0 where
+  pub here : entryAt t' k ≡ clearIn a b v (entryAt t k)
+  pub off : (i : ℕ) → Not k i → rowAt t' i ≡ rowAt t i
+  pub next : (i : ℕ) → nextOf t' i ≡ nextOf t i
+  pub prev : (i : ℕ) → prevOf t' i ≡ prevOf t i
+
+module _ (t : List ℕ) (k a b v : ℕ) (c : Row) (e : c ≡ rowAt t k) where
+  stays : entryAt t k ≡ clearIn a b v (entryAt t k) → ClearedAt t t k a b v
+  stays h = record { here = h; off = λ i n. refl; next = λ i. refl; prev = λ i. refl }
+
+  pub starts-before : c .start < a → ClearedAt t t k a b v
+  starts-before h = stays (rw (lt-leb a (rowAt t k .start) (omega (arith, ap startF e))))
+
+  pub starts-behind : a ≤ c .start → b ≤ c .start → ClearedAt t t k a b v
+  starts-behind g h = stays (rw (le-leb a (rowAt t k .start) (omega (arith, ap startF e)), le-ltb (rowAt t k .start) b (omega (arith, ap startF e))))
+
+  pub starts-inside : (t' : List ℕ) (r : Row) → a ≤ c .start → c .start < b → Put t t' k r
+      → entryOf r ≡ bareAt v c → r .next ≡ c .next → r .prev ≡ c .prev → ClearedAt t t' k a b v
+  starts-inside t' r g h p f en ep =
+      record {
+        here =
+            ap entryOf (p .at)
+            ∙ f
+            ∙ ap (bareAt v) e
+            ∙ rw (le-leb a (rowAt t k .start) (omega (arith, ap startF e)), lt-ltb (rowAt t k .start) b (omega (arith, ap startF e)));
+        off = p .off;
+        next = put-keep nextF t t' k r p (en ∙ ap nextF e);
+        prev = put-keep prevF t t' k r p (ep ∙ ap prevF e);
+      }
 
 pub record ClearDone (t t' : List ℕ) (a b v : ℕ) : Type 0 where
   pub linked : Linked t'
@@ -48,23 +80,24 @@ swept-none t a b v =
       desk = refl;
     }
 
-pub swept-more : (t₀ t t' : List ℕ) (a b v k : ℕ) (c r : Row) → Swept t₀ t a b v k → c ≡ rowAt t (k + 1) → Cleared a b v c r → Put t t' (k + 1) r
-    → length t' ≡ length t → Swept t₀ t' a b v (k + 1)
-swept-more t₀ t t' a b v k c r s ec w p len =
-    let e : c ≡ rowAt t₀ (k + 1) = ec ∙ s .todo (k + 1) (omega arith) in
+pub swept-more : (t₀ t t' : List ℕ) (a b v k : ℕ) → Swept t₀ t a b v k → ClearedAt t t' (k + 1) a b v → length t' ≡ length t → Swept t₀ t' a b v (k + 1)
+swept-more t₀ t t' a b v k s c len =
     record {
       len = len ∙ s .len;
-      next = λ x. put-keep (λ (y : Row). y .next) t t' (k + 1) r p (w .next ∙ ap (λ (y : Row). y .next) ec) x ∙ s .next x;
-      prev = λ x. put-keep (λ (y : Row). y .prev) t t' (k + 1) r p (w .prev ∙ ap (λ (y : Row). y .prev) ec) x ∙ s .prev x;
+      next = λ x. c .next x ∙ s .next x;
+      prev = λ x. c .prev x ∙ s .prev x;
       done =
           λ x h g.
           elim (ℕ-discrete x (k + 1)) [
             | yes q ↦
-                ap (entryAt t') q ∙ ap entryOf (p .at) ∙ w .entry-is ∙ ap (λ (y : Row). clearIn a b v (entryOf y)) e ∙ ap (λ (y : ℕ). clearIn a b v (entryAt t₀ y)) (sym q)
-            | no q ↦ ap entryOf (p .off x q) ∙ s .done x h (omega arith)
+                ap (entryAt t') q
+                ∙ c .here
+                ∙ ap (λ (y : Row). clearIn a b v (entryOf y)) (s .todo (k + 1) (omega arith))
+                ∙ ap (λ (y : ℕ). clearIn a b v (entryAt t₀ y)) (sym q)
+            | no q ↦ ap entryOf (c .off x q) ∙ s .done x h (omega arith)
           ];
-      todo = λ x h. p .off x (λ q. omega arith) ∙ s .todo x (omega arith);
-      desk = p .off 0 (λ q. omega arith) ∙ s .desk;
+      todo = λ x h. c .off x (λ q. omega arith) ∙ s .todo x (omega arith);
+      desk = c .off 0 (λ q. omega arith) ∙ s .desk;
     }
 
 map-over : (f g : ℕ → Entry) (h : Entry → Entry) (xs : List ℕ) → Each (λ x. f x ≡ h (g x)) xs → map f xs ≡ map h (map g xs)

@@ -97,6 +97,10 @@ pub record SplitRow (t t' : List ℕ) (i p : ℕ) : Type 0 where
   pub linked : Linked t'
   pub place : (us bs : List ℕ) → order t ≡ us ++ i ∷ bs
       → entries t' ≡ map (entryAt t) us ++ first p (entryAt t i) ∷ second p (entryAt t i) ∷ map (entryAt t) bs
+  pub order-is : (us bs : List ℕ) → order t ≡ us ++ i ∷ bs → order t' ≡ us ++ i ∷ (countOf t + 1) ∷ bs
+  pub here : entryAt t' i ≡ first p (entryAt t i)
+  pub new : entryAt t' (countOf t + 1) ≡ second p (entryAt t i)
+  pub off : (a : ℕ) → Not 0 a → Not (countOf t + 1) a → Not i a → entryAt t' a ≡ entryAt t a
   pub desk : runsOf (rowAt t' 0) ≡ runsOf (rowAt t 0)
   pub count : countOf t' ≡ countOf t + 1
 
@@ -120,6 +124,10 @@ module _ (t ta tb : List ℕ) (p i : ℕ) (s : Row) (l : Linked t) (w : Placed t
             ap (map (entryAt tb)) (d .place us bs (ra .order-is ∙ o))
             ∙ map-append (entryAt tb) us (i ∷ (countOf ta + 1) ∷ bs)
             ∙ join (same us (v .0) (g .0)) (d .old i (λ e. omega arith) (λ e. omega arith) ∙ ra .here) (d .new ∙ es) (same bs (v .1) (g .1));
+        order-is = λ us bs o. d .place us bs (ra .order-is ∙ o) ∙ ap (λ (n : ℕ). us ++ i ∷ (n + 1) ∷ bs) ca;
+        here = d .old i (λ e. omega arith) (λ e. omega arith) ∙ ra .here;
+        new = ap (λ (n : ℕ). entryAt tb (n + 1)) (sym ca) ∙ d .new ∙ es;
+        off = λ a h0 hn hi. d .old a h0 (λ e. hn (e ∙ ap (λ (n : ℕ). n + 1) ca)) ∙ ap entryOf (ra .off a hi);
         desk = d .desk ∙ ra .desk;
         count = omega (arith, d .count);
       }

@@ -6,7 +6,7 @@ ghost use Rattle.table.specs.Order.{Linked, entryOf, countOf};
 ghost use Rattle.rows.specs.Find.{meets, FoundIn};
 ghost use Rattle.rows.specs.Insert.{Placed, LinkedIn};
 ghost use Rattle.rows.specs.Split.{SplitRow};
-ghost use Rattle.rows.specs.Clear.{Cleared, ClearDone};
+ghost use Rattle.rows.specs.Clear.{ClearedAt, ClearDone};
 ghost use Rattle.rows.specs.Move.{Joined, Movable, Relinked, MoveAt, MoveDone};
 
 // What a search may not find.
@@ -97,15 +97,17 @@ pub fn split_row(t: &mut [u32], i: u32, p: u32)
     link_in(t, i, b);
 }
 
-// A chunk that starts from a up to b loses its pieces, and its replacement is empty, at text_at, or gone; another chunk stays.
-fn cleared(c: table::Row, a: u32, b: u32, text_at: u32) -> table::Row
-    ensures { λ r. ⌜ Cleared a b «text_at» c r ⌝ }
+// Row k, if it starts from a up to b: it loses its pieces, and its replacement is empty, at text_at, or gone.
+fn clear_row(t: &mut [u32], k: u32, a: u32, b: u32, text_at: u32)
+    requires { ⌜ k * 12 + 12 ≤ length (now t) ⌝ }
+    ensures { λ _. ⌜ ClearedAt (now (t .entry)) (now (t .exit)) k a b «text_at» ⌝ }
 {
+    let c = table::get_row(t, k);
     if c.start < a {
-        return c;
+        return;
     }
     if b <= c.start {
-        return c;
+        return;
     }
     let mut d = c;
     d.intro_at = 0;
@@ -114,7 +116,7 @@ fn cleared(c: table::Row, a: u32, b: u32, text_at: u32) -> table::Row
     d.outro_n = 0;
     d.text_at = text_at;
     d.text_n = 0;
-    d
+    table::put_row(t, k, d);
 }
 
 // The same for every chunk.
@@ -127,8 +129,7 @@ pub fn clear_rows(t: &mut [u32], a: u32, b: u32, text_at: u32)
     let mut k = 0;
     while k < n {
         k += 1;
-        let c = table::get_row(t, k);
-        table::put_row(t, k, cleared(c, a, b, text_at));
+        clear_row(t, k, a, b, text_at);
     }
 }
 

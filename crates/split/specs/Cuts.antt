@@ -1,4 +1,4 @@
--- Cuts of a scratch table: what they leave, in the model's words, with any pieces and store.
+-- Cuts of a chunk table: what they leave, in the model's words, with any pieces and store.
 use mathlib.Core.Path.{_≡_, refl, sym, ap, ap₂, _∙_, subst}
 use mathlib.Core.Bool.{Bool, true, false, _&&_, not, cond}
 use mathlib.Core.List.{List, [], _∷_, _++_, map}
@@ -26,9 +26,11 @@ use Rattle.closed_forms.specs.SplitAt.{cover-once, cover-cut, cover-cut-all, sp
 use Rattle.rows.specs.declared.Key.the-variants.{Inside}
 use Rattle.rows.specs.Find.{meets, First}
 use Rattle.rows.specs.Split.{first, second, SplitRow, entries-at}
+use Rattle.uses.specs.Kept.{Kept, kept-same, kept-then}
+use Rattle.uses.specs.Steps.{split-kept}
 use Rattle.frame.specs.Loaded.{Loaded}
 use Rattle.frame.specs.Frame.{Roomy, Scratch, loaded-desk}
-use Rattle.split.specs.Lift.{RunSmall, EntrySmall, DeskSmall, same-head, same-tail, first-small, second-small, all-first, all-rest, all-append, map-append, Reordered, still-readable, with-entries, chunks-of, source-of, lift-first, lift-second, first-in, second-in, lift-filled}
+use Rattle.split.specs.Lift.{RunSmall, EntrySmall, DeskSmall, same-head, same-tail, first-small, second-small, all-first, all-rest, all-append, map-append, Reordered, still-readable, with-entries, chunks-of, source-of, lift-first, lift-second, first-in, second-in, lift-filled, not-filled}
 use Rattle.split.specs.Lift as lift
 
 abbrev pub filled : Entry → Bool
@@ -51,6 +53,7 @@ pub record CutsDone (ps : List ℕ) (t t' : List ℕ) (r : ℕ) : Type 0 where
   pub number : (r ≡ 0) ⊎ (r ≡ 6)
   pub linked : Linked t'
   pub count : countOf t' ≤ countOf t + length ps
+  pub kept : Kept t t'
 
 -- ── the model's cut, where the chunk that contains the position is known ──
 Out : ℕ → Chunk → Type 0
@@ -124,6 +127,7 @@ none-found q t l n =
       number = inl refl;
       linked = l;
       count = omega arith;
+      kept = kept-same t;
     }
 
 module _ (q : ℕ) (t : List ℕ) (i : ℕ) (w : First (meets Inside q) t i) where
@@ -209,10 +213,10 @@ module _ (q : ℕ) (t : List ℕ) (i : ℕ) (w : First (meets Inside q) t i) whe
         }
 
   pub found-filled : Linked t → filled (entryAt t i) ≡ true → CutsDone (q ∷ []) t t 6
-  found-filled l f = record { leave = λ source p s h v. refused-leave source p s h v f; readable = λ p s h. h; small = λ p s h. h; number = inr refl; linked = l; count = omega arith }
+  found-filled l f = record { leave = λ source p s h v. refused-leave source p s h v f; readable = λ p s h. h; small = λ p s h. h; number = inr refl; linked = l; count = omega arith; kept = kept-same t }
 
-  pub found-split : (t' : List ℕ) → SplitRow t t' i q → filled (entryAt t i) ≡ false → CutsDone (q ∷ []) t t' 0
-  found-split t' d f =
+  pub found-split : Linked t → (t' : List ℕ) → SplitRow t t' i q → filled (entryAt t i) ≡ false → CutsDone (q ∷ []) t t' 0
+  found-split l t' d f =
       record {
         leave = λ source p s h v. made-leave source p s h v t' d f;
         readable = λ p s h. split-readable p s t' d h;
@@ -220,6 +224,7 @@ module _ (q : ℕ) (t : List ℕ) (i : ℕ) (w : First (meets Inside q) t i) whe
         number = inl refl;
         linked = d .linked;
         count = omega (arith, d .count);
+        kept = split-kept t t' i q l (record { us = w .us; bs = w .bs; place = w .place }) d (not-filled (entryAt t i) f);
       }
 
 -- ── cuts one after another ──
@@ -242,6 +247,7 @@ cuts-stop q ps t t' r d n =
       number = d .number;
       linked = d .linked;
       count = omega (arith, d .count);
+      kept = d .kept;
     }
 
 pub cuts-spans : {ps : List ℕ} {source t p s t' : List ℕ} {r : ℕ} → CutsLeave ps source t p s t' r → r ≡ 0 → Spans source t p s → Spans source t' p s
@@ -263,13 +269,15 @@ cuts-more q ps t t' t'' r r' d z e =
       number = e .number;
       linked = e .linked;
       count = omega (arith, d .count, e .count);
+      kept = kept-then (d .kept) (e .kept);
     }
 
 pub cut-roomy : {n : ℕ} {q : ℕ} {t t' : List ℕ} {r : ℕ} → Roomy (suc n) t → CutsDone (q ∷ []) t t' r → length t' ≡ length t → Roomy n t'
 cut-roomy y d e = record { linked = d .linked; room = omega (arith, y .room, d .count); narrow = omega (arith, y .narrow) }
 
--- ── the loaded desk's spans cover the source ──
+-- ── a well-formed desk's spans cover the source, and so do the loaded desk's ──
+pub formed-spans : {source t p s : List ℕ} → WellFormed source t p s → Spans source t p s
+formed-spans {source} {t} {p} {s} w = subst (λ x. Cover x (magicStringOf source t p s .chunks)) (source-of source t p s) (formed-cover (w .desk .formed))
+
 pub loaded-spans : {source t p s t₀ p₀ s₀ t1 p1 s1 : List ℕ} → WellFormed source t p s → Scratch t₀ p₀ s₀ → Loaded t p s t₀ p₀ s₀ t1 p1 s1 → Spans source t1 p s
-loaded-spans {source} {t} {p} {s} w f d =
-    let m = magicStringOf source t p s in
-    subst (λ (n : MagicString). Cover source (n .chunks)) (sym (loaded-desk w f d)) (subst (λ x. Cover x (m .chunks)) (source-of source t p s) (formed-cover (w .desk .formed)))
+loaded-spans {source} w f d = subst (λ (n : MagicString). Cover source (n .chunks)) (sym (loaded-desk w f d)) (formed-spans w)

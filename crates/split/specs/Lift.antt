@@ -1,13 +1,14 @@
--- From entries to the model: what a change of the rows of a scratch table means for the desk that it holds with given pieces and store.
+-- From entries to the model: what a change of the rows of a chunk table means for the desk that it holds with given pieces and store.
 use mathlib.Core.Path.{_≡_, refl, sym, ap, ap₂, _∙_, subst}
 use mathlib.Core.Bool.{Bool, true, false, _&&_, not, cond}
 use mathlib.Core.List.{List, [], _∷_, _++_, map}
 use mathlib.Core.Option.{Option, none, some}
+use mathlib.Core.Logic.{inl, inr}
 use Prim.Native.Nat.{ℕ, zero, suc, _+_, _≤_, _<_}
 use native.Mathlib.Omega.{arith}
 use lib.Dec.{ltb, leb, eqb}
 use lib.ListN.{length, take, drop, length-drop, length-append}
-use borrow.Author.Tests.{eqb-true, eqb-false, lt-ltb, leb-true}
+use borrow.Author.Tests.{eqb-true, eqb-false, lt-ltb, ltb-false, leb-true}
 use Rattle.utf8.specs.Rfc3629.{utf8}
 use Rattle.utf8.specs.Chars.{All, nil, cons, concat}
 use Rattle.table.specs.Ring.{Each}
@@ -22,6 +23,7 @@ use Rattle.memory.specs.WellFormed.{RunIn, ReplacementIn, RunsIn, EntryIn, Read
 use Rattle.texts.specs.Texts.{concat-cons, concat-nil}
 use Rattle.rows.specs.Insert.{runsOf}
 use Rattle.rows.specs.Split.{first, second}
+use Rattle.uses.specs.Steps.{Unfilled}
 use Rattle.frame.specs.Front.{bool-elim, desk-same}
 
 -- ── lists ──
@@ -181,6 +183,11 @@ second-small p s q e h = record { intro = no-run-small p s 0; outro = h .outro }
 -- ── a replacement that is not empty ──
 abbrev pub filled : Entry → Bool
 filled e = cond (eqb (e .text .0) NONE) false (ltb 0 (e .text .1))
+
+pub not-filled : (e : Entry) → filled e ≡ false → Unfilled e
+not-filled e f =
+    bool-elim (eqb (e .text .0) NONE) (λ k. inl (eqb-true _ _ k))
+    (λ k. let g : ltb 0 (e .text .1) ≡ false = rw k at f in inr (let h = ltb-false 0 (e .text .1) g in omega arith))
 
 pub lift-filled : (s : List ℕ) (e : Entry) → ReplacementIn s (e .text) → is-filled (replacementOf s (e .text)) ≡ filled e
 unfolding replacementOf ReplacementIn

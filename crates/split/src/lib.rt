@@ -1,4 +1,4 @@
-// `split_at`, document 01's cut, on scratch rows.
+// `split_at`, document 01's cut, on rows with room for what it adds.
 ghost use mathlib.Core.Path.{_≡_};
 ghost use mathlib.Core.List.{[], _∷_};
 ghost use Rattle.table.specs.Order.{entryOf};

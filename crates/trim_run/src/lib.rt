@@ -51,7 +51,7 @@ pub fn is_blank(p: &[u32], s: &[u8], at: u32, n: u32, pattern: u32) -> bool
 }
 
 // The rows at .. at + n - 1, copied to row top.
-fn copy_rows(p: &mut [u32], at: u32, n: u32, top: u32)
+pub fn copy_rows(p: &mut [u32], at: u32, n: u32, top: u32)
     requires { ⌜ (at + n ≤ top) × ((top + n) * 2 ≤ length (now p)) × (length (now p) ≤ 4294967296) ⌝ }
     ensures { λ _. ⌜ Copied (now (p .entry)) (now (p .exit)) at n top ⌝ }
 {

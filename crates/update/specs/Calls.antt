@@ -9,7 +9,7 @@ use lib.Dec.{ltb}
 use lib.ListN.{length, drop, take, length-append, length-drop}
 use lib.Seq.{take-at, drop-append-add}
 use borrow.Author.Tests.{le-ltb, lt-ltb}
-use Rattle.table.specs.Order.{entries}
+use Rattle.table.specs.Order.{entries, countOf}
 use Rattle.model.specs.MagicString.{MagicString, Result, ok, err, and-then, with-chunks, at-start}
 use Rattle.model.specs.Chunk.{edit}
 use Rattle.model.specs.Limits.{full, within}
@@ -18,7 +18,7 @@ use Rattle.model.specs.Call.{Edit, update-with, steps, refused-before}
 use Rattle.memory.specs.Layout.{magicStringOf}
 use Rattle.memory.specs.WellFormed.{Readable, WellFormed}
 use Rattle.memory.specs.Calls.{may-write, idle, Ran}
-use Rattle.texts.specs.Over.{over}
+use Rattle.texts.specs.Over.{over, take-over}
 use Rattle.closed_forms.specs.SplitAt.{cuts-then}
 use Rattle.rows.specs.declared.Found.the-variants.{At, Nothing}
 use Rattle.rebuild.specs.Rebuilt.{Finished}
@@ -28,16 +28,23 @@ use Rattle.frame.specs.Frame.{Scratch, Did, loaded-readable, loaded-desk, ran-f
 use Rattle.split.specs.Lift.{source-of}
 use Rattle.split.specs.Cuts.{Spans, CutsDone, CutsLeave, loaded-spans}
 use Rattle.insert.specs.Calls.{past-bytes}
+use Rattle.rows.specs.Insert.{Placed}
+use Rattle.uses.specs.Kept.{Kept, kept-then}
 use Rattle.update_rows.specs.Walk.{walkFrom, Walked}
+use Rattle.update_rows.specs.Replaced.{Replaced, kept-replaced, replaced-then, walked-kept, walked-count, edited-replaced, edited-count}
 use Rattle.update_rows.specs.Steps.{update-step, update-past, update-is, FirstEdited, edit-readable, edit-desk, edited-big, walked-readable, walk-refused, walk-done}
 
--- the lent store s stands at the front of the scratch store s1; y stands behind the lent pieces
-pub record UpdateSteps (a b : ℕ) (text : List ℕ) (o : Bool) (n : ℕ) (t s1 t' s1' : List ℕ) (r : ℕ) : Type 0 where
-  pub leave : (r ≡ 13 → ⊥) → (source p s y z : List ℕ) → length source ≡ n → Readable t p s → Spans source t p s → s1 ≡ s ++ z → length s ≡ 32768
+-- all texts in use stand in s, the front of the store s1, and the new one goes to the byte behind it; y stands behind the pieces in use
+pub record UpdateSteps (a b : ℕ) (text : List ℕ) (o : Bool) (n at : ℕ) (t s1 t' s1' : List ℕ) (r : ℕ) : Type 0 where
+  pub leave : (r ≡ 13 → ⊥) → (source p s y z : List ℕ) → length source ≡ n → Readable t p s → Spans source t p s → s1 ≡ s ++ z → length s ≡ at
       → Did (update-past a b text o) source t p s t' (p ++ y) s1' r
   pub long : r ≡ 13 → (source p s : List ℕ) → length source ≡ n → Readable t p s → Spans source t p s
       → within full (update-past a b text o (magicStringOf source t p s) .desk) ≡ false
   pub writes : (r ≡ 13 → ⊥) → may-write (update-with a b text o) r ≡ true
+  pub short : length text ≤ 32768 → r ≡ 13 → ⊥
+  pub replaced : Replaced t t' (at, length text)
+  pub count : countOf t' ≤ countOf t + 2
+  pub below : at ≤ length s1 → take at s1' ≡ take at s1
 
 may-write-10 : (a b : ℕ) (text : List ℕ) (o : Bool) → may-write (update-with a b text o) 10 ≡ true
 unfolding may-write
@@ -62,8 +69,8 @@ unfolding over
 over-behind d y xs n e =
     rw e (ap₂ (λ (a b : List ℕ). a ++ (xs ++ b)) (take-at d y (length d) refl) (drop-append-add d y (length xs)))
 
-module _ (a b : ℕ) (text : List ℕ) (o : Bool) (n : ℕ) (t t1 s1 : List ℕ) (r : ℕ) (c : CutsDone (a ∷ b ∷ []) t t1 r) where
-  pub update-refused : (r ≡ 0 → ⊥) → UpdateSteps a b text o n t s1 t1 s1 r
+module _ (a b : ℕ) (text : List ℕ) (o : Bool) (n at : ℕ) (t t1 s1 : List ℕ) (r : ℕ) (c : CutsDone (a ∷ b ∷ []) t t1 r) where
+  pub update-refused : (r ≡ 0 → ⊥) → UpdateSteps a b text o n at t s1 t1 s1 r
   update-refused h =
       record {
         leave = λ _ source p s y z ln rd sp e ls.
@@ -71,6 +78,10 @@ module _ (a b : ℕ) (text : List ℕ) (o : Bool) (n : ℕ) (t t1 s1 : List ℕ)
             kept y z e (record { readable = k .readable; result = k .result (update-step a b text o) ∙ stop r (magicStringOf source t1 p s) (update-step a b text o) h });
         long = λ z. absurd (⊎-elim {C = ⊥} (λ (w : r ≡ 0). h w) (λ (w : r ≡ 6). omega arith) (c .number));
         writes = λ _. ⊎-elim {C = may-write (update-with a b text o) r ≡ true} (λ (w : r ≡ 0). absurd (h w)) (λ (w : r ≡ 6). rw w (may-write-6 (update-with a b text o))) (c .number);
+        short = λ _ z. ⊎-elim {C = ⊥} (λ (w : r ≡ 0). h w) (λ (w : r ≡ 6). omega arith) (c .number);
+        replaced = kept-replaced (at, length text) (c .kept);
+        count = c .count;
+        below = λ _. refl;
       }
 
   module _ (z0 : r ≡ 0) where
@@ -81,7 +92,7 @@ module _ (a b : ℕ) (text : List ℕ) (o : Bool) (n : ℕ) (t t1 s1 : List ℕ)
     size : (source p s : List ℕ) → length source ≡ n → length (magicStringOf source t1 p s .source) ≡ n
     size source p s ln = ap length (source-of source t1 p s) ∙ ln
 
-    pub update-past-end : n < b → UpdateSteps a b text o n t s1 t1 s1 10
+    pub update-past-end : n < b → UpdateSteps a b text o n at t s1 t1 s1 10
     update-past-end h =
         record {
           leave = λ _ source p s y z ln rd sp e ls.
@@ -92,13 +103,17 @@ module _ (a b : ℕ) (text : List ℕ) (o : Bool) (n : ℕ) (t t1 s1 : List ℕ)
               });
           long = λ z. absurd (omega arith);
           writes = λ _. may-write-10 a b text o;
+          short = λ _ z. omega arith;
+          replaced = kept-replaced (at, length text) (c .kept);
+          count = c .count;
+          below = λ _. refl;
         }
 
     module _ (h : b ≤ n) where
       inside : (source p s : List ℕ) → length source ≡ n → Readable t p s → Spans source t p s → update-past a b text o (magicStringOf source t p s) ≡ update-chunks a b text o (magicStringOf source t1 p s)
       inside source p s ln rd sp = cut source p s rd sp ∙ rw (le-ltb (length (magicStringOf source t1 p s .source)) b (omega (arith, size source p s ln)))
 
-      pub update-broken : (t2 : List ℕ) → Walked a b t1 t2 Nothing → UpdateSteps a b text o n t s1 t2 s1 7
+      pub update-broken : (t2 : List ℕ) → Walked a b t1 t2 Nothing → UpdateSteps a b text o n at t s1 t2 s1 7
       update-broken t2 d =
           record {
             leave = λ _ source p s y z ln rd sp e ls.
@@ -110,6 +125,10 @@ module _ (a b : ℕ) (text : List ℕ) (o : Bool) (n : ℕ) (t t1 s1 : List ℕ)
                 });
             long = λ z. absurd (omega arith);
             writes = λ _. may-write-7 (update-with a b text o);
+            short = λ _ z. omega arith;
+            replaced = kept-replaced (at, length text) (kept-then (c .kept) (walked-kept d));
+            count = omega (arith, c .count, walked-count d);
+            below = λ _. refl;
           }
 
       module _ (t2 : List ℕ) (i : ℕ) (d : Walked a b t1 t2 (At i)) where
@@ -117,7 +136,7 @@ module _ (a b : ℕ) (text : List ℕ) (o : Bool) (n : ℕ) (t t1 s1 : List ℕ)
             → update-past a b text o (magicStringOf source t p s) ≡ ok (with-chunks (magicStringOf source t2 p s) (at-start a (edit text o) (magicStringOf source t2 p s .chunks)))
         came source p s ln rd sp = inside source p s ln rd sp ∙ walk-done a b text o source p s t1 t2 (c .readable p s rd) d (d .ended .0)
 
-        pub update-long : 32768 < length text → UpdateSteps a b text o n t s1 t2 s1 13
+        pub update-long : 32768 < length text → UpdateSteps a b text o n at t s1 t2 s1 13
         update-long l =
             record {
               leave = λ k. absurd (k refl);
@@ -125,22 +144,33 @@ module _ (a b : ℕ) (text : List ℕ) (o : Bool) (n : ℕ) (t t1 s1 : List ℕ)
                   ap (λ (x : Result). within full (x .desk)) (came source p s ln rd sp)
                   ∙ past-bytes (with-chunks (magicStringOf source t2 p s) (at-start a (edit text o) (magicStringOf source t2 p s .chunks))) (omega (arith, edited-big a o text p s t2 i (d .ended .1) source));
               writes = λ k. absurd (k refl);
+              short = λ k _. omega arith;
+              replaced = kept-replaced (at, length text) (kept-then (c .kept) (walked-kept d));
+              count = omega (arith, c .count, walked-count d);
+              below = λ _. refl;
             }
 
-        pub update-done : (t3 s3 : List ℕ) → FirstEdited o text t2 s1 t3 s3 i → length t3 ≡ length t2 → UpdateSteps a b text o n t s1 t3 s3 0
-        update-done t3 s3 f len =
+        pub update-done : (t3 s3 : List ℕ) → at ≤ 32768 → FirstEdited o at text t2 s1 t3 s3 i → length t3 ≡ length t2 → UpdateSteps a b text o n at t s1 t3 s3 0
+        update-done t3 s3 few f len =
             record {
               leave = λ _ source p s y z ln rd sp e ls.
                   let rd2 = walked-readable a b text o source p s t1 t2 (c .readable p s rd) d in
-                  let q : s3 ≡ s ++ (text ++ drop (length text) z) = f .store ∙ ap (λ (l : List ℕ). over l 32768 text) e ∙ over-behind s z text 32768 (sym ls) in
+                  let q : s3 ≡ s ++ (text ++ drop (length text) z) = f .store ∙ ap (λ (l : List ℕ). over l at text) e ∙ over-behind s z text at (sym ls) in
                   rw q
                   (record {
-                    readable = edit-readable a o text p s y (drop (length text) z) t2 t3 i (f .row) (d .ended .1) rd2 ls (f .edited) (f .put) len;
-                    result = came source p s ln rd sp ∙ ap ok (sym (edit-desk a o text p s y (drop (length text) z) t2 t3 i (f .row) (d .ended .1) rd2 ls (f .edited) (f .put) len source));
+                    readable = edit-readable a o at text p s y (drop (length text) z) t2 t3 i (f .row) (d .ended .1) rd2 few ls (f .edited) (f .put) len;
+                    result = came source p s ln rd sp ∙ ap ok (sym (edit-desk a o at text p s y (drop (length text) z) t2 t3 i (f .row) (d .ended .1) rd2 few ls (f .edited) (f .put) len source));
                   });
               long = λ z. absurd (omega arith);
               writes = λ _. may-write-0 (update-with a b text o) (busy a b text o);
+              short = λ _ z. omega arith;
+              replaced = replaced-then (kept-then (c .kept) (walked-kept d)) (edited-replaced first f (d .linked) len);
+              count = omega (arith, c .count, walked-count d, edited-count first f (d .linked) len);
+              below = λ h. ap (take at) (f .store) ∙ take-over s1 at text h;
             }
+          where
+            first : Placed t2 i
+            first = let w = d .ended .1 in record { us = w .us; bs = w .bs; place = w .place }
 
 -- ── the call ──
 pub record UpdateScratch (t p s : List ℕ) : Type 0 where
@@ -148,7 +178,7 @@ pub record UpdateScratch (t p s : List ℕ) : Type 0 where
   pub store : length s ≡ 65536
 
 module _ {a b : ℕ} {text : List ℕ} {o : Bool} {n : ℕ} {source t p s t₀ p₀ s₀ t1 p1 s1 t2 s2 : List ℕ} {r : ℕ} (ab : a < b) (w : WellFormed source t p s)
-    (h : refused-before (magicStringOf source t p s) (update-with a b text o) ≡ 0) (f : UpdateScratch t₀ p₀ s₀) (d : Loaded t p s t₀ p₀ s₀ t1 p1 s1) (x : UpdateSteps a b text o n t1 s1 t2 s2 r)
+    (h : refused-before (magicStringOf source t p s) (update-with a b text o) ≡ 0) (f : UpdateScratch t₀ p₀ s₀) (d : Loaded t p s t₀ p₀ s₀ t1 p1 s1) (x : UpdateSteps a b text o n 32768 t1 s1 t2 s2 r)
     (ln : length source ≡ n) where
   did : (r ≡ 13 → ⊥) → Did (update-past a b text o) source t1 p s t2 p1 s2 r
   did k =

@@ -1,6 +1,6 @@
 // update.rs: `update_with`, with `keep_original` false, on lent memory.
 ghost use mathlib.Core.Path.{_≡_};
-ghost use Prim.Native.Nat.{_<_};
+ghost use Prim.Native.Nat.{_+_, _≤_, _<_};
 ghost use lib.ListN.{length};
 ghost use Rattle.model.specs.Call.{update-with, refused-before};
 ghost use Rattle.memory.specs.Layout.{magicStringOf};
@@ -10,7 +10,7 @@ ghost use Rattle.frame.specs.Frame.{Roomy};
 ghost use Rattle.update.specs.Calls.{UpdateSteps, UpdateScratch};
 use rows::Found;
 
-// The steps past 5 and 4: two cuts, 10, the walk and its 7, and the edit; 13 where the text alone is longer than the store.
+// The steps past 5 and 4: two cuts, 10, the walk and its 7, and the edit, with the text at `byte`; 13 where the text alone is longer than the store.
 fn update_steps(
     text: &[u8],
     t: &mut [u32],
@@ -19,10 +19,12 @@ fn update_steps(
     start: u32,
     end: u32,
     overwrite: bool,
+    byte: usize,
 ) -> u32
     requires { ⌜ Roomy 2 (now t) ⌝ }
-    requires { ⌜ length (now s) ≡ 65536 ⌝ }
-    ensures { λ r. ⌜ UpdateSteps start end (now (text .entry)) overwrite len (now (t .entry)) (now (s .entry)) (now (t .exit)) (now (s .exit)) r ⌝ }
+    requires { ⌜ byte ≤ 32768 ⌝ }
+    requires { ⌜ (length (now text) ≤ 32768 → byte + length (now text) ≤ length (now s)) ⌝ }
+    ensures { λ r. ⌜ UpdateSteps start end (now (text .entry)) overwrite len byte (now (t .entry)) (now (s .entry)) (now (t .exit)) (now (s .exit)) r ⌝ }
 {
     let r = split::split_both(t, start, end);
     if r != 0 {
@@ -37,7 +39,7 @@ fn update_steps(
     if text.len() > 32768 {
         return 13;
     }
-    update_rows::edit_first(text, t, s, i, overwrite);
+    update_rows::edit_first(text, t, s, i, overwrite, byte);
     0
 }
 
@@ -63,7 +65,7 @@ fn update_by(
         (now (chunks .exit)) (now (pieces .exit)) (now (store .exit)) r ⌝ }
 {
     frame::load(chunks, pieces, store, t, p, s);
-    let r = update_steps(text, t, s, source.len(), start, end, overwrite);
+    let r = update_steps(text, t, s, source.len(), start, end, overwrite, 32768);
     if r == 13 {
         return r;
     }
@@ -71,7 +73,7 @@ fn update_by(
 }
 
 // The same with scratch tables of its own.
-fn update_past(
+fn update_scratch(
     source: &[u8],
     chunks: &mut [u32],
     pieces: &mut [u32],
@@ -106,6 +108,40 @@ fn update_past(
         text,
         overwrite,
     )
+}
+
+// `update_with` past 5 and 4: on the lent tables themselves where 13 cannot arise and there is room above all texts in use; else on scratch tables.
+fn update_past(
+    source: &[u8],
+    chunks: &mut [u32],
+    pieces: &mut [u32],
+    store: &mut [u8],
+    start: u32,
+    end: u32,
+    text: &[u8],
+    overwrite: bool,
+) -> u32
+    requires { ⌜ WellFormed (now source) (now chunks) (now pieces) (now store) ⌝ }
+    requires { ⌜ start < end ⌝ }
+    requires { ⌜ refused-before (magicStringOf (now source) (now chunks) (now pieces) (now store)) (update-with start end (now text) overwrite) ≡ 0 ⌝ }
+    ensures { λ r. ⌜ Ran (update-with start end (now (text .entry)) overwrite) (now (source .entry)) (now (chunks .entry)) (now (pieces .entry)) (now (store .entry))
+        (now (chunks .exit)) (now (pieces .exit)) (now (store .exit)) r ⌝ }
+{
+    let l = on_top::live(chunks, pieces, store);
+    let z = table::get_row(chunks, 0);
+    if on_top::has_room(l, z.start + 2, text.len()) {
+        return update_steps(
+            text,
+            chunks,
+            store,
+            source.len(),
+            start,
+            end,
+            overwrite,
+            l.byte,
+        );
+    }
+    update_scratch(source, chunks, pieces, store, start, end, text, overwrite)
 }
 
 // `update_with`: 1, 3, 5, 4, then the steps.

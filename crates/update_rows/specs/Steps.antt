@@ -1,4 +1,4 @@
--- `update_with` past its tests: two cuts, 10, the walk, and the edit of the first chunk, on scratch tables.
+-- `update_with` past its tests: two cuts, 10, the walk, and the edit of the first chunk.
 use mathlib.Core.Path.{_≡_, refl, sym, ap, ap₂, _∙_, subst}
 use mathlib.Core.Bool.{Bool, true, false, _&&_, cond}
 use mathlib.Core.List.{List, [], _∷_, _++_, map, append-assoc}
@@ -129,46 +129,46 @@ module _ (p s : List ℕ) where
       go false ih = cons h ih
 
 -- ── the first chunk, edited last ──
--- the replacement stands at the byte behind the lent store
-abbrev pub editedEntry : Bool → ℕ → Entry → Entry
-editedEntry o n e = record { start = e .start; end = e .end; intro = cond o (0, 0) (e .intro); outro = cond o (0, 0) (e .outro); text = (32768, n) }
+-- the replacement stands at a byte above all texts in use
+abbrev pub editedEntry : Bool → ℕ → ℕ → Entry → Entry
+editedEntry o at n e = record { start = e .start; end = e .end; intro = cond o (0, 0) (e .intro); outro = cond o (0, 0) (e .outro); text = (at, n) }
 
-pub record EditedRow (o : Bool) (n : ℕ) (c r : Row) : Type 0 where
-  pub entry-is : entryOf r ≡ editedEntry o n (entryOf c)
+pub record EditedRow (o : Bool) (at n : ℕ) (c r : Row) : Type 0 where
+  pub entry-is : entryOf r ≡ editedEntry o at n (entryOf c)
   pub next : r .next ≡ c .next
   pub prev : r .prev ≡ c .prev
 
-pub record FirstEdited (o : Bool) (text t s t' s' : List ℕ) (i : ℕ) : Type 0 where
+pub record FirstEdited (o : Bool) (at : ℕ) (text t s t' s' : List ℕ) (i : ℕ) : Type 0 where
   pub row : Row
-  pub edited : EditedRow o (length text) (rowAt t i) row
+  pub edited : EditedRow o at (length text) (rowAt t i) row
   pub put : Put t t' i row
-  pub store : s' ≡ over s 32768 text
+  pub store : s' ≡ over s at text
 
 over-behind : (d y xs : List ℕ) (n : ℕ) → n ≡ length d → over (d ++ y) n xs ≡ d ++ (xs ++ drop (length xs) y)
 unfolding over
 over-behind d y xs n e =
     rw e (ap₂ (λ (a b : List ℕ). a ++ (xs ++ b)) (take-at d y (length d) refl) (drop-append-add d y (length xs)))
 
-behind-is : (s text z : List ℕ) → length s ≡ 32768 → replacementOf (s ++ (text ++ z)) (32768, length text) ≡ some text
+behind-is : (at : ℕ) (s text z : List ℕ) → at ≤ 32768 → length s ≡ at → replacementOf (s ++ (text ++ z)) (at, length text) ≡ some text
 unfolding replacementOf
-behind-is s text z h = ap some (ap (take (length text)) (drop-at s (text ++ z) 32768 h) ∙ take-at text z (length text) refl)
+behind-is at s text z few h = rw (ne-eqb at NONE (λ e. omega arith)) (ap some (ap (take (length text)) (drop-at s (text ++ z) at h) ∙ take-at text z (length text) refl))
 
-module _ (o : Bool) (text p s y z : List ℕ) (ls : length s ≡ 32768) (e : Entry) (h : EntryIn p s e) where
-  lift-edit : chunkOf (p ++ y) (s ++ (text ++ z)) (editedEntry o (length text) e) ≡ with-texts (edit text o) (chunkOf p s e)
+module _ (o : Bool) (at : ℕ) (text p s y z : List ℕ) (few : at ≤ 32768) (ls : length s ≡ at) (e : Entry) (h : EntryIn p s e) where
+  lift-edit : chunkOf (p ++ y) (s ++ (text ++ z)) (editedEntry o at (length text) e) ≡ with-texts (edit text o) (chunkOf p s e)
   lift-edit = go o
     where
-      go : (o : Bool) → chunkOf (p ++ y) (s ++ (text ++ z)) (editedEntry o (length text) e) ≡ with-texts (edit text o) (chunkOf p s e)
-      go true = rw (no-run (p ++ y) (s ++ (text ++ z)) 0, behind-is s text z ls)
-      go false = rw (run-front p s y (text ++ z) (e .intro) (h .runs .intro), run-front p s y (text ++ z) (e .outro) (h .runs .outro), behind-is s text z ls)
+      go : (o : Bool) → chunkOf (p ++ y) (s ++ (text ++ z)) (editedEntry o at (length text) e) ≡ with-texts (edit text o) (chunkOf p s e)
+      go true = rw (no-run (p ++ y) (s ++ (text ++ z)) 0, behind-is at s text z few ls)
+      go false = rw (run-front p s y (text ++ z) (e .intro) (h .runs .intro), run-front p s y (text ++ z) (e .outro) (h .runs .outro), behind-is at s text z few ls)
 
-  edit-in : EntryIn (p ++ y) (s ++ (text ++ z)) (editedEntry o (length text) e)
+  edit-in : EntryIn (p ++ y) (s ++ (text ++ z)) (editedEntry o at (length text) e)
   unfolding ReplacementIn
   edit-in = go o
     where
-      fits : 32768 + length text ≤ length (s ++ (text ++ z))
+      fits : at + length text ≤ length (s ++ (text ++ z))
       fits = omega (arith, length-append s (text ++ z), length-append text z)
 
-      go : (o : Bool) → EntryIn (p ++ y) (s ++ (text ++ z)) (editedEntry o (length text) e)
+      go : (o : Bool) → EntryIn (p ++ y) (s ++ (text ++ z)) (editedEntry o at (length text) e)
       go true = record { runs = record { intro = no-run-in (p ++ y) (s ++ (text ++ z)) 0; outro = no-run-in (p ++ y) (s ++ (text ++ z)) 0 }; replacement = λ n. fits }
       go false =
           record {
@@ -185,12 +185,12 @@ none-start : (p s : List ℕ) (q : ℕ) (t xs : List ℕ) → Each (λ x. meets 
 none-start p s q t [] h = nil
 none-start p s q t (x ∷ xs) h = cons {x = chunkOf p s (entryAt t x)} (h .0) (none-start p s q t xs (h .1))
 
-module _ (a : ℕ) (o : Bool) (text p s y z t t' : List ℕ) (i : ℕ) (row : Row) (w : First (meets Start a) t i) (h : Readable t p s) (ls : length s ≡ 32768)
-    (ed : EditedRow o (length text) (rowAt t i) row) (pt : Put t t' i row) (len : length t' ≡ length t) where
+module _ (a : ℕ) (o : Bool) (at : ℕ) (text p s y z t t' : List ℕ) (i : ℕ) (row : Row) (w : First (meets Start a) t i) (h : Readable t p s) (few : at ≤ 32768) (ls : length s ≡ at)
+    (ed : EditedRow o at (length text) (rowAt t i) row) (pt : Put t t' i row) (len : length t' ≡ length t) where
   set : RowSet t t' i (entryOf row)
   set = row-set t t' i row (h .linked) (record { us = w .us; bs = w .bs; place = w .place }) pt (ed .next) (ed .prev) len
 
-  list : entries t' ≡ map (entryAt t) (w .us) ++ editedEntry o (length text) (entryAt t i) ∷ map (entryAt t) (w .bs)
+  list : entries t' ≡ map (entryAt t) (w .us) ++ editedEntry o at (length text) (entryAt t i) ∷ map (entryAt t) (w .bs)
   list = set .place (w .us) (w .bs) (w .place) ∙ ap (λ (e : Entry). map (entryAt t) (w .us) ++ e ∷ map (entryAt t) (w .bs)) (ed .entry-is)
 
   old : All (EntryIn p s) (map (entryAt t) (w .us) ++ entryAt t i ∷ map (entryAt t) (w .bs))
@@ -213,7 +213,7 @@ module _ (a : ℕ) (o : Bool) (text p s y z t t' : List ℕ) (i : ℕ) (row : Ro
             };
         chunks =
             subst (All (EntryIn (p ++ y) (s ++ (text ++ z)))) (sym list)
-            (all-append (entries-front p s y (text ++ z) front-in) (cons (edit-in o text p s y z ls (entryAt t i) (all-first mid)) (entries-front p s y (text ++ z) (all-rest mid))));
+            (all-append (entries-front p s y (text ++ z) front-in) (cons (edit-in o at text p s y z few ls (entryAt t i) (all-first mid)) (entries-front p s y (text ++ z) (all-rest mid))));
       }
 
   pub edit-desk : (source : List ℕ) → magicStringOf source t' (p ++ y) (s ++ (text ++ z))
@@ -223,8 +223,8 @@ module _ (a : ℕ) (o : Bool) (text p s y z t t' : List ℕ) (i : ℕ) (row : Ro
       desk-same source (ap (λ (x : (ℕ × ℕ) × (ℕ × ℕ)). runOf (p ++ y) (s ++ (text ++ z)) (x .0)) (set .desk) ∙ run-front p s y (text ++ z) _ (h .desk .intro))
       (ap (λ (x : (ℕ × ℕ) × (ℕ × ℕ)). runOf (p ++ y) (s ++ (text ++ z)) (x .1)) (set .desk) ∙ run-front p s y (text ++ z) _ (h .desk .outro))
       (ap (map (chunkOf (p ++ y) (s ++ (text ++ z)))) list
-      ∙ map-append (chunkOf (p ++ y) (s ++ (text ++ z))) (map (entryAt t) (w .us)) (editedEntry o (length text) (entryAt t i) ∷ map (entryAt t) (w .bs))
-      ∙ three (chunks-front p s y (text ++ z) front-in) (lift-edit o text p s y z ls (entryAt t i) (all-first mid)) (chunks-front p s y (text ++ z) (all-rest mid))
+      ∙ map-append (chunkOf (p ++ y) (s ++ (text ++ z))) (map (entryAt t) (w .us)) (editedEntry o at (length text) (entryAt t i) ∷ map (entryAt t) (w .bs))
+      ∙ three (chunks-front p s y (text ++ z) front-in) (lift-edit o at text p s y z few ls (entryAt t i) (all-first mid)) (chunks-front p s y (text ++ z) (all-rest mid))
       ∙ sym (start-set a (edit text o) (chunkOf p s (entryAt t i)) (map (chunkOf p s) (map (entryAt t) (w .bs))) (none-start p s a t (w .us) (w .none)) (w .here))
       ∙ ap (at-start a (edit text o)) (sym (ap (map (chunkOf p s)) (entries-at t (w .us) i (w .bs) (w .place)) ∙ map-append (chunkOf p s) (map (entryAt t) (w .us)) (entryAt t i ∷ map (entryAt t) (w .bs)))))
     where

@@ -85,7 +85,7 @@ pub record Running (t₀ t : List ℕ) (cur at end k : ℕ) (goal : List Entry) 
 abbrev pub goalOf : List ℕ → ℕ → ℕ → List ℕ → List ℕ → List Entry
 goalOf t i end us bs = map (entryAt t) us ++ entryAt t i ∷ runs (entryAt t i .end) end (map (entryAt t) bs) .list
 
-order-length : (t : List ℕ) → length (order t) ≡ countOf t
+pub order-length : (t : List ℕ) → length (order t) ≡ countOf t
 unfolding order
 order-length t = length-follow (nextOf t) (countOf t) (nextOf t 0)
 
@@ -239,6 +239,7 @@ WalkEnd a d t' Nothing = d ≡ false
 
 pub record Walked (a b : ℕ) (t t' : List ℕ) (r : Found) : Type 0 where
   pub linked : Linked t'
+  pub order-is : order t' ≡ order t
   pub desk : runsOf (rowAt t' 0) ≡ runsOf (rowAt t 0)
   pub chunks : entries t' ≡ walkFrom a b (entries t) .list
   pub ended : WalkEnd a (walkFrom a b (entries t) .done) t' r
@@ -255,7 +256,7 @@ walk-at a b t (x ∷ us) e es n h = rw (n .0) (ap (onto (entryAt t x)) (walk-at 
 pub walked-none : (a b : ℕ) (t : List ℕ) → Linked t → Each (λ x. meets Start a (entryAt t x) ≡ false) (order t) → Walked a b t t Nothing
 walked-none a b t l n =
     let q = walk-none a b t (order t) n in
-    record { linked = l; desk = refl; chunks = sym (ap (λ (w : RunWalk). w .list) q); ended = ap (λ (w : RunWalk). w .done) q }
+    record { linked = l; order-is = refl; desk = refl; chunks = sym (ap (λ (w : RunWalk). w .list) q); ended = ap (λ (w : RunWalk). w .done) q }
 
 module _ (a b : ℕ) (t t' : List ℕ) (i : ℕ) (w : First (meets Start a) t i) (r : Bool) (c : RunCleared t t' i b r) where
   found : walkFrom a b (entries t) ≡ record { done = r; list = entries t' }
@@ -269,6 +270,7 @@ module _ (a b : ℕ) (t t' : List ℕ) (i : ℕ) (w : First (meets Start a) t i)
   walked-done z =
       record {
         linked = c .linked;
+        order-is = c .order-is;
         desk = c .desk;
         chunks = sym (ap (λ (x : RunWalk). x .list) found);
         ended = (
@@ -285,7 +287,7 @@ module _ (a b : ℕ) (t t' : List ℕ) (i : ℕ) (w : First (meets Start a) t i)
 
   pub walked-broken : r ≡ false → Walked a b t t' Nothing
   walked-broken z =
-      record { linked = c .linked; desk = c .desk; chunks = sym (ap (λ (x : RunWalk). x .list) found); ended = ap (λ (x : RunWalk). x .done) found ∙ z }
+      record { linked = c .linked; order-is = c .order-is; desk = c .desk; chunks = sym (ap (λ (x : RunWalk). x .list) found); ended = ap (λ (x : RunWalk). x .done) found ∙ z }
 
 -- ── the same, said of the row at hand ──
 module _ {t₀ t : List ℕ} {cur at end k : ℕ} {goal : List Entry} {fin : Bool} (h : Running t₀ t cur at end k goal fin) (nx : ℕ) (e : nx ≡ nextOf t cur) where

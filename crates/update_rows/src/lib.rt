@@ -1,4 +1,4 @@
-// update.rs: the walk of `update_with` and its edit of the first chunk, on scratch tables.
+// update.rs: the walk of `update_with` and its edit of the first chunk.
 ghost use mathlib.Core.Path.{_≡_};
 ghost use Prim.Native.Nat.{_+_, _*_, _≤_};
 ghost use lib.ListN.{length};
@@ -68,12 +68,12 @@ pub fn update_walk(t: &mut [u32], start: u32, end: u32) -> Found
     Found::Nothing
 }
 
-// The row with the replacement that stands behind the lent store; overwrite clears both piece lists.
-fn edited(c: table::Row, n: u32, overwrite: bool) -> table::Row
-    ensures { λ r. ⌜ EditedRow overwrite n c r ⌝ }
+// The row with the replacement at a byte; overwrite clears both piece lists.
+fn edited(c: table::Row, at: u32, n: u32, overwrite: bool) -> table::Row
+    ensures { λ r. ⌜ EditedRow overwrite at n c r ⌝ }
 {
     let mut d = c;
-    d.text_at = 32768;
+    d.text_at = at;
     d.text_n = n;
     if overwrite {
         d.intro_at = 0;
@@ -85,15 +85,15 @@ fn edited(c: table::Row, n: u32, overwrite: bool) -> table::Row
     d
 }
 
-// The first chunk of the range is edited: the text goes behind the lent store.
-pub fn edit_first(text: &[u8], t: &mut [u32], s: &mut [u8], i: u32, overwrite: bool)
+// The first chunk of the range is edited: the text goes to `byte`, above all texts in use.
+pub fn edit_first(text: &[u8], t: &mut [u32], s: &mut [u8], i: u32, overwrite: bool, byte: usize)
     requires { ⌜ i * 12 + 12 ≤ length (now t) ⌝ }
     requires { ⌜ length (now text) ≤ 32768 ⌝ }
-    requires { ⌜ length (now s) ≡ 65536 ⌝ }
-    ensures { λ _. ⌜ FirstEdited overwrite (now (text .entry)) (now (t .entry)) (now (s .entry)) (now (t .exit)) (now (s .exit)) i ⌝ }
+    requires { ⌜ byte ≤ 32768 ⌝ }
+    requires { ⌜ byte + length (now text) ≤ length (now s) ⌝ }
+    ensures { λ _. ⌜ FirstEdited overwrite byte (now (text .entry)) (now (t .entry)) (now (s .entry)) (now (t .exit)) (now (s .exit)) i ⌝ }
 {
-    let k = 32768usize;
-    texts::put(&mut s[k..], text);
+    texts::put(&mut s[byte..], text);
     let c = table::get_row(t, i);
-    table::put_row(t, i, edited(c, text.len() as u32, overwrite));
+    table::put_row(t, i, edited(c, byte as u32, text.len() as u32, overwrite));
 }

@@ -1,6 +1,9 @@
 //! Each call on one desk, beside the Rust.
 
-use differential::{Answer, Core, Image, Unseen, image};
+use differential::{
+  Answer, Core, Image, Unseen,
+  image::{self, Style},
+};
 use oracle::{
   Call::{self, *},
   Desk, DeskData, Limits,
@@ -8,7 +11,7 @@ use oracle::{
 };
 use string_wizard::MagicString;
 
-use crate::{rust::RustCall, timing::least};
+use crate::{check, desks, rust::RustCall, timing::least};
 
 /// Long enough for every output.
 pub const ROOM: usize = 50_000;
@@ -16,24 +19,38 @@ pub const ROOM: usize = 50_000;
 pub fn print(core: &mut impl Core, desk: &DeskData) {
   let (source, chunks) = (desk.source.len(), desk.chunks.len());
   println!("\nsource of {source} bytes, {chunks} chunks");
-  println!("{:<30} {:>10} {:>10} {:>8}", "", "Rust ns", "ns", "ratio");
+  print!("{:<30} {:>10} {:>10} {:>8}", "", "Rust ns", "ns", "ratio");
+  println!(" {:>10} {:>8}", "inner ns", "ratio");
   let rust = Desk::build(Limits::FULL, desk).magic_string().clone();
-  let image = image::encode(desk, &mut Random::new(1));
+  let image = image::encode_in(Style::tight(), desk, &mut Random::new(1));
   let source: &'static str = desk.source.clone().leak();
   let theirs = least(|| None, |opened| *opened = Some(MagicString::new(source)));
   let ours = time(core, &image, &Open { source: Vec::new() });
-  line("open", theirs, ours);
+  line("open", theirs, ours, ours);
+  let checked = checking(core, &image);
   for call in every(desk).into_iter().filter(|call| core.has(call)).collect::<Vec<_>>() {
     let rust_call = RustCall::new(&call);
     let theirs = least(|| rust.clone(), |desk| rust_call.make(desk));
     let ours = time(core, &image, &call);
     let name = call.to_string();
-    line(name.split(' ').next().unwrap_or_default(), theirs, ours);
+    line(name.split(' ').next().unwrap_or_default(), theirs, ours, ours - checked);
   }
+  println!("{:<30} {:>10} {checked:>10.0}", "well_formed", "");
+  let (utf8, copied) = check::floor(check::bytes(desk), desks::ASCII);
+  println!("{:<30} {:>10} {:>10.0}", "floor: from_utf8 and a copy", "", utf8 + copied);
 }
 
-fn line(name: &str, theirs: f64, ours: f64) {
-  println!("{name:<30} {theirs:>10.0} {ours:>10.0} {:>8.2}", ours / theirs);
+fn line(name: &str, theirs: f64, ours: f64, inner: f64) {
+  print!("{name:<30} {theirs:>10.0} {ours:>10.0} {:>8.2}", ours / theirs);
+  println!(" {:>10.0} {:>8.2}", inner.max(0.0), inner.max(0.0) / theirs);
+}
+
+/// Nanoseconds of the check alone, which an exported call makes first.
+fn checking(core: &mut impl Core, image: &Image) -> f64 {
+  let mut answer = Answer::ACCEPTED;
+  let took = least(|| image.clone(), |image| answer = core.well_formed(&image.lend()));
+  assert_eq!(answer, Answer::ACCEPTED, "a desk within the limits");
+  took
 }
 
 /// Nanoseconds of the call on copies of this memory.

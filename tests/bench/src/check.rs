@@ -34,18 +34,24 @@ fn line(core: &mut impl Core, name: &str, desk: &DeskData, unit: &str) {
   let check = least(|| (), |()| answer = core.well_formed(&image.lend()));
   assert_eq!(answer, Answer::ACCEPTED, "a desk within the limits");
 
-  let text = unit.repeat(bytes / unit.len()).into_bytes();
-  let mut copy = vec![0; text.len()];
-  let utf8 = least(|| (), |()| assert!(std::str::from_utf8(black_box(&text)).is_ok()));
-  let copied = least(|| (), |()| black_box(&mut copy).copy_from_slice(black_box(&text)));
+  let (utf8, copied) = floor(bytes, unit);
   let per_byte = |took: f64| took / bytes as f64;
   print!("{name:<30} {bytes:>10} {check:>10.0}");
   println!(" {:>10.3} {:>10.3} {:>10.3}", per_byte(check), per_byte(utf8), per_byte(copied));
 }
 
+/// Nanoseconds of std's UTF-8 check and of a copy, of so many bytes.
+pub fn floor(bytes: usize, unit: &str) -> (f64, f64) {
+  let text = unit.repeat(bytes / unit.len()).into_bytes();
+  let mut copy = vec![0; text.len()];
+  let utf8 = least(|| (), |()| assert!(std::str::from_utf8(black_box(&text)).is_ok()));
+  let copied = least(|| (), |()| black_box(&mut copy).copy_from_slice(black_box(&text)));
+  (utf8, copied)
+}
+
 /// What a check has to look at: 12 words for row 0 and each chunk, 2 for each
 /// piece, the source and the texts.
-fn bytes(desk: &DeskData) -> usize {
+pub fn bytes(desk: &DeskData) -> usize {
   let chunks = desk.chunks.iter();
   let texts = chunks.clone().flat_map(|chunk| chunk.intro.iter().chain(&chunk.outro));
   let (pieces, in_pieces) = texts.fold((0, 0), |(n, len), text| (n + 1, len + text.len()));

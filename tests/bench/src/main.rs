@@ -12,9 +12,12 @@ use differential::{Core, cores};
 
 const ABOUT: &str = "\
 Each time is the least of repeated rounds, both sides in this run and on this machine.
-Each call gets its own copy of the desk, made before the clock starts. Output buffers
-and, in whole papers, the tables are lent again as they are: they are not cleared.
+Each call gets its own copy of the desk, made before the clock starts, with its pieces
+and texts at the front of the tables, as calls leave them. Output buffers and, in
+whole papers, the tables are lent again as they are: they are not cleared.
 The Rust's texts are borrowed, and its reports make a string of their own.
+An exported call checks its memory first; 'inner' is its time less that of the check
+(`well_formed`) alone, which is what a proved caller pays.
 The Rust is built with the oracle's stand-ins: std's hash map for rustc_hash, and
 plain loops for memchr and simd_utf16_len. With those crates it would be faster.
 ";

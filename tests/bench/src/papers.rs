@@ -16,14 +16,17 @@ const EDITS: usize = 200;
 
 pub fn print(core: &mut impl Core) {
   println!("\na whole paper: open, {EDITS} edits, to_string");
-  println!("{:<30} {:>10} {:>10} {:>8}", "", "Rust us", "us", "ratio");
+  print!("{:<30} {:>10} {:>10} {:>8}", "", "Rust us", "us", "ratio");
+  println!(" {:>10} {:>8}", "inner us", "ratio");
   for source in [2_048, 16_384] {
     let source = desks::edited(source, 1).source;
     let calls = edits(&source);
     let theirs = rust(&source, &calls) / 1_000.0;
-    let ours = time(core, &source, &calls) / 1_000.0;
+    let ours = time(core, &source, &calls, false) / 1_000.0;
+    let inner = 2.0 * ours - time(core, &source, &calls, true) / 1_000.0;
     let name = format!("source of {} bytes", source.len());
-    println!("{name:<30} {theirs:>10.1} {ours:>10.1} {:>8.2}", ours / theirs);
+    print!("{name:<30} {theirs:>10.1} {ours:>10.1} {:>8.2}", ours / theirs);
+    println!(" {inner:>10.1} {:>8.2}", inner / theirs);
   }
 }
 
@@ -65,7 +68,8 @@ fn rust(source: &str, calls: &[Call]) -> f64 {
   )
 }
 
-fn time(core: &mut impl Core, source: &str, calls: &[Call]) -> f64 {
+/// With `checked`, `well_formed` is called once more before each call.
+fn time(core: &mut impl Core, source: &str, calls: &[Call], checked: bool) -> f64 {
   let mut image = Image::junk(source.as_bytes().to_vec(), &mut Random::new(1));
   let mut out = vec![0; ROOM];
   let open = Call::Open { source: Vec::new() };
@@ -75,6 +79,9 @@ fn time(core: &mut impl Core, source: &str, calls: &[Call]) -> f64 {
     || (),
     |()| {
       for call in [&open].into_iter().chain(calls).chain([&to_string]) {
+        if checked && call != &open {
+          number |= core.well_formed(&image.lend()).number;
+        }
         number |= core.call(&mut image.lend(), call, &Unseen::PLAIN, &mut out).number;
       }
     },

@@ -17,11 +17,22 @@ pub struct Compared {
 }
 
 pub fn compare<C: Core + Clone>(core: &mut C, seed: u64, count: u64, most: Duration) -> Compared {
+  compare_on(papers::paper, core, seed, count, most)
+}
+
+/// On papers of one kind: each is made from a seed.
+pub fn compare_on<C: Core + Clone>(
+  paper: fn(u64) -> Paper,
+  core: &mut C,
+  seed: u64,
+  count: u64,
+  most: Duration,
+) -> Compared {
   let began = Instant::now();
   let mut seeds = Random::new(seed);
   let mut tally = Tally::default();
   while tally.calls < count && began.elapsed() < most {
-    let paper = papers::paper(seeds.number());
+    let paper = paper(seeds.number());
     if let Err(found) = run(core, &paper, &mut tally) {
       return Compared { tally, different: Some(shrink(core, paper, found)) };
     }

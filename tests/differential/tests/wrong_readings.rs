@@ -1,12 +1,19 @@
 //! Cores that read document 01 otherwise are caught: its traps, options and the
-//! arguments beside them, and freed places that are used again.
+//! arguments beside them, freed places that are used again, and what a trim and
+//! an indent go through.
 
 use std::time::Duration;
 
 use differential::{
-  Answer, Core, Lent, Unseen, compare::compare, cores::StandIn, layout::*, well_formed,
+  Answer, Core, Lent, Unseen,
+  compare::{compare, compare_on},
+  cores::StandIn,
+  image,
+  layout::*,
+  papers::blanks,
+  well_formed,
 };
-use oracle::Call;
+use oracle::{Call, DeskData, random::Random};
 
 /// Makes the call in place of the stand-in.
 type Fault = fn(&mut StandIn, &mut Lent, &Call, &Unseen, &mut [u8]) -> Answer;
@@ -34,7 +41,7 @@ impl Core for Wrong {
   }
 }
 
-const FAULTS: [(&str, Fault); 8] = [
+const FAULTS: [(&str, Fault); 12] = [
   ("zero width is tested before 8", |right, lent, call, unseen, out| {
     let answer = right.call(lent, call, unseen, out);
     let zero_width = matches!(call, Call::Relocate { start, end, .. } if start == end);
@@ -93,7 +100,93 @@ const FAULTS: [(&str, Fault); 8] = [
     let answer = right.call(lent, call, unseen, out);
     if reversed { Answer { number: 4, value: 0 } } else { answer }
   }),
+  ("the output is trimmed", |right, lent, call, unseen, out| {
+    let answer = right.call(lent, call, unseen, out);
+    if matches!(call, Call::Trim { pattern: 0 }) && answer == Answer::ACCEPTED {
+      change(lent, trim_first_text);
+    }
+    answer
+  }),
+  ("a trim drops every empty piece of the head", |right, lent, call, unseen, out| {
+    let answer = right.call(lent, call, unseen, out);
+    if matches!(call, Call::TrimStart { .. }) && answer == Answer::ACCEPTED {
+      change(lent, |desk| desk.head.retain(|piece| !piece.is_empty()));
+    }
+    answer
+  }),
+  ("each text of the head begins a line", |right, lent, call, unseen, out| {
+    let answer = right.call(lent, call, unseen, out);
+    if is_indent(call) && answer == Answer::ACCEPTED {
+      change(lent, |desk| desk.head.iter_mut().skip(1).for_each(begin_line));
+    }
+    answer
+  }),
+  ("a chunk's intro is indented", |right, lent, call, unseen, out| {
+    let answer = right.call(lent, call, unseen, out);
+    if is_indent(call) && answer == Answer::ACCEPTED {
+      change(lent, |desk| {
+        desk
+          .chunks
+          .iter_mut()
+          .flat_map(|chunk| chunk.intro.iter_mut().skip(1))
+          .for_each(begin_line);
+      });
+    }
+    answer
+  }),
 ];
+
+fn is_indent(call: &Call) -> bool {
+  matches!(call, Call::IndentWith { indentor: None, .. })
+}
+
+/// A tab before a text that begins with another character than one.
+fn begin_line(text: &mut String) {
+  if text.starts_with(|first: char| !first.is_whitespace()) {
+    text.insert(0, '\t');
+  }
+}
+
+/// Lays the desk out anew, changed.
+fn change(lent: &mut Lent, change: impl Fn(&mut DeskData)) {
+  let mut desk = image::decode(lent.source, lent.chunks, lent.pieces, lent.store);
+  change(&mut desk);
+  let image = image::encode(&desk, &mut Random::new(1));
+  lent.chunks.copy_from_slice(&image.chunks);
+  lent.pieces.copy_from_slice(&image.pieces);
+  lent.store.copy_from_slice(&image.store);
+}
+
+/// Blanks at the front of the first text that is not empty are taken off.
+fn trim_first_text(desk: &mut DeskData) {
+  if trim_first(&mut desk.head) {
+    return;
+  }
+  for chunk in &mut desk.chunks {
+    if trim_first(&mut chunk.intro) {
+      return;
+    }
+    let part = &desk.source[chunk.start as usize..chunk.end as usize];
+    let content = chunk.edited_content.as_deref().unwrap_or(part);
+    if !content.is_empty() {
+      let left = content.trim_start();
+      if left != content {
+        chunk.edited_content = Some(left.to_string());
+      }
+      return;
+    }
+    if trim_first(&mut chunk.outro) {
+      return;
+    }
+  }
+  trim_first(&mut desk.tail);
+}
+
+/// Whether the list has a text that is not empty; the first such is trimmed.
+fn trim_first(list: &mut [String]) -> bool {
+  let first = list.iter_mut().find(|text| !text.is_empty());
+  first.map(|text| *text = text.trim_start().to_string()).is_some()
+}
 
 /// The longest row of bytes that no text has.
 fn longest_hole(lent: &Lent) -> usize {
@@ -116,7 +209,10 @@ fn longest_hole(lent: &Lent) -> usize {
 fn wrong_readings_are_caught() {
   for (name, fault) in FAULTS {
     let mut core = Wrong { right: StandIn::new(1), fault };
-    let compared = compare(&mut core, 7, 50_000, Duration::MAX);
+    let mut compared = compare(&mut core, 7, 20_000, Duration::MAX);
+    if compared.different.is_none() {
+      compared = compare_on(blanks::paper, &mut core, 7, 50_000, Duration::MAX);
+    }
     println!("{name}: {} calls", compared.tally.calls);
     assert!(compared.different.is_some(), "not caught: {name}");
   }

@@ -1,47 +1,40 @@
-use mathlib.Core.Path.{sym}
+use mathlib.Core.Path.{_≡_, refl, sym, ap, _∙_, subst}
+use Prim.Native.Nat.{ℕ, _+_, _*_, _≤_}
 use native.Mathlib.Omega.{arith}
-use Rattle.frame.specs.Frame.{zeros-length, zeros-at}
-use Rattle.insert.specs.Calls.{whole-long}
+use lib.ListN.{length, take}
+use Rattle.on_top.specs.Live.{live-small}
+use Rattle.insert.specs.OnTop.{whole-ready}
+use Rattle.insert.specs.TopCalls.{bare-within, whole-top-ready, whole-top-ran}
 use borrow.Author.Needs.{needs}
 use Rattle.insert.proofs.whole_with.Statement.{statement}
 use Rattle.insert.proofs.whole_with.Tie as tie
 use Rattle.insert.proofs.whole_with.Reads as reads
 use Rattle.insert.proofs.whole_with.Lts as lts
-use Rattle.insert.proofs.whole_by.Reads as whole-by-reads
+use Rattle.insert.proofs.add_on_top.Reads as add-on-top-reads
+use Rattle.insert.proofs.whole_scratch.Reads as whole-scratch-reads
+use Rattle.on_top.proofs.has_room.Reads as has-room-reads
+use Rattle.on_top.proofs.live.Reads as live-reads
 
-returns : tie.Need-returns
-returns c =
-    let start = c .before .before .before .before .before .before in
-    let if1 = c .if1 in
+live-requires : tie.Need-live-requires
+live-requires c κs =
+    let start = c .before .before .before .before .before .before .before .before in
+    (start .pre .readable, bare-within (start .pre))
+
+has-room-requires : tie.Need-has-room-requires
+has-room-requires c κs =
+    let start = c .before .before .before .before .before .before .before .before .before in
+    live-small (start .pre) (c .live .ensures)
+
+add-on-top-requires : tie.Need-add-on-top-requires
+add-on-top-requires c κs =
+    let start = c .before .before .before .before .before .before .before .before .before .before .before .before .before .before in
+    let live = c .before .before .before .before .before .live in
+    let has-room = c .before .before .before .before .has-room in
+    let if1 = c .before .before .before .if1 in
     let a = start .args in
-    whole-long (a .outro) (a .front) (a .text .now) (start .pre) (if1 .taken)
-
-array-borrow-prefix-t : tie.Need-array-borrow-prefix-t
-array-borrow-prefix-t c = search needs
-
-slice-aggregate-whole-by : tie.Need-slice-aggregate-whole-by
-slice-aggregate-whole-by c =
-    sym (zeros-length 6192 6192 (omega arith))
-
-array-borrow-prefix-p : tie.Need-array-borrow-prefix-p
-array-borrow-prefix-p c = search needs
-
-slice-aggregate-whole-by-2 : tie.Need-slice-aggregate-whole-by-2
-slice-aggregate-whole-by-2 c =
-    sym (zeros-length 6146 6146 (omega arith))
-
-array-borrow-prefix-s : tie.Need-array-borrow-prefix-s
-array-borrow-prefix-s c = search needs
-
-slice-aggregate-whole-by-3 : tie.Need-slice-aggregate-whole-by-3
-slice-aggregate-whole-by-3 c =
-    sym (zeros-length 98304 98304 (omega arith))
-
-whole-by-requires : tie.Need-whole-by-requires
-whole-by-requires c κs =
-    let start = c .before .before .before .before .before .before .before .before .before .before .before .before in
-    let if1 = c .before .before .before .before .before .before .if1 in
-    (start .pre, (record { scratch = record { chunks = zeros-length 6192 6192 (omega arith); clear = zeros-at 6192 6192; pieces = rw (zeros-length 6146 6146 (omega arith)) (omega arith); store = rw (zeros-length 98304 98304 (omega arith)) (omega arith) }; pieces = zeros-length 6146 6146 (omega arith); store = zeros-length 98304 98304 (omega arith) }, if1 .left))
+    let h = start .pre in
+    let k = whole-ready (a .outro) (a .chunks .now) (a .pieces .now) (a .store .now) (a .text .now) (live .result) (whole-top-ready (a .outro) (a .front) h (live .ensures) (has-room .ensures .0 (if1 .taken))) in
+    (omega (arith, h .readable .linked .room), (h .sized .pieces, (k .0, k .1)))
 
 same-length : tie.Need-same-length
 same-length c = search needs
@@ -52,6 +45,28 @@ same-length-2 c = search needs
 same-length-3 : tie.Need-same-length-3
 same-length-3 c = search needs
 
+returns : tie.Need-returns
+returns c =
+    let start = c .before .before .before .before .before .before .before .before .before .before .before .before .before .before .before .before .before .before .before .before .before in
+    let live = c .before .before .before .before .before .before .before .before .before .before .before .before .live in
+    let has-room = c .before .before .before .before .before .before .before .before .before .before .before .has-room in
+    let if1 = c .before .before .before .before .before .before .before .before .before .before .if1 in
+    let add-on-top = c .before .before .before .before .before .before .add-on-top in
+    let a = start .args in
+    whole-top-ran (a .outro) (a .front) (start .pre) (live .ensures) (has-room .ensures .0 (if1 .taken)) _ _ _ (add-on-top .ensures) (add-on-top .kept .0) (add-on-top .kept .1 .0) (add-on-top .kept .1 .1 .0)
+
+whole-scratch-requires : tie.Need-whole-scratch-requires
+whole-scratch-requires c κs = search needs
+
+same-length-4 : tie.Need-same-length-4
+same-length-4 c = search needs
+
+same-length-5 : tie.Need-same-length-5
+same-length-5 c = search needs
+
+same-length-6 : tie.Need-same-length-6
+same-length-6 c = search needs
+
 returns-2 : tie.Need-returns-2
 returns-2 c = search needs
 
@@ -59,15 +74,15 @@ pub whole-with-spec : {M : Type 1} → statement M
 whole-with-spec =
     tie.close
     (tie.spec
-    returns
-    array-borrow-prefix-t
-    slice-aggregate-whole-by
-    array-borrow-prefix-p
-    slice-aggregate-whole-by-2
-    array-borrow-prefix-s
-    slice-aggregate-whole-by-3
-    whole-by-requires
+    live-requires
+    has-room-requires
+    add-on-top-requires
     same-length
     same-length-2
     same-length-3
+    returns
+    whole-scratch-requires
+    same-length-4
+    same-length-5
+    same-length-6
     returns-2)

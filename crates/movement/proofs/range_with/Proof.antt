@@ -1,41 +1,40 @@
-use mathlib.Core.Path.{sym}
+use mathlib.Core.Path.{ap}
 use native.Mathlib.Omega.{arith}
-use Rattle.frame.specs.Frame.{zeros-length, zeros-at}
+use Rattle.rows.specs.Insert.{startF}
+use Rattle.in_place.specs.InPlace.{lent-roomy}
+use Rattle.movement.specs.Range.{range-in-place}
 use borrow.Author.Needs.{needs}
 use Rattle.movement.proofs.range_with.Statement.{statement}
 use Rattle.movement.proofs.range_with.Tie as tie
 use Rattle.movement.proofs.range_with.Reads as reads
 use Rattle.movement.proofs.range_with.Lts as lts
-use Rattle.movement.proofs.range_by.Reads as range-by-reads
+use Rattle.movement.proofs.clear_range.Reads as clear-range-reads
+use Rattle.movement.proofs.range_scratch.Reads as range-scratch-reads
+use Rattle.table.proofs.get_row.Reads as get-row-reads
 
-array-borrow-prefix-t : tie.Need-array-borrow-prefix-t
-array-borrow-prefix-t c = search needs
+get-row-requires : tie.Need-get-row-requires
+get-row-requires c κs = search needs
 
-slice-aggregate-range-by : tie.Need-slice-aggregate-range-by
-slice-aggregate-range-by c =
-    sym (zeros-length 6192 6192 (omega arith))
-
-array-borrow-prefix-p : tie.Need-array-borrow-prefix-p
-array-borrow-prefix-p c = search needs
-
-slice-aggregate-range-by-2 : tie.Need-slice-aggregate-range-by-2
-slice-aggregate-range-by-2 c =
-    sym (zeros-length 4096 4096 (omega arith))
-
-array-borrow-prefix-s : tie.Need-array-borrow-prefix-s
-array-borrow-prefix-s c = search needs
-
-slice-aggregate-range-by-3 : tie.Need-slice-aggregate-range-by-3
-slice-aggregate-range-by-3 c =
-    sym (zeros-length 32768 32768 (omega arith))
-
-range-by-requires : tie.Need-range-by-requires
-range-by-requires c κs =
-    let start = c .before .before .before .before .before .before .before .before .before .before in
-    (start .pre .0, (record { chunks = zeros-length 6192 6192 (omega arith); clear = zeros-at 6192 6192; pieces = rw (zeros-length 4096 4096 (omega arith)) (omega arith); store = rw (zeros-length 32768 32768 (omega arith)) (omega arith) }, start .pre .1))
+clear-range-requires : tie.Need-clear-range-requires
+clear-range-requires c κs =
+    let start = c .before .before .before .before .before .before .before .before .before in
+    let get-row = c .before .before .before .get-row in
+    let if1 = c .before .if1 in
+    (lent-roomy 2 (start .pre .0) (omega (arith, if1 .taken, ap startF (get-row .ensures))), start .pre .1)
 
 same-length : tie.Need-same-length
 same-length c = search needs
+
+returns : tie.Need-returns
+returns c =
+    let start = c .before .before .before .before .before .before .before .before .before .before .before .before in
+    let get-row = c .before .before .before .before .before .before .get-row in
+    let if1 = c .before .before .before .before .if1 in
+    let clear-range = c .before .before .clear-range in
+    range-in-place (start .pre .0) (omega (arith, if1 .taken, ap startF (get-row .ensures))) (clear-range .ensures) (clear-range .kept .0)
+
+range-scratch-requires : tie.Need-range-scratch-requires
+range-scratch-requires c κs = search needs
 
 same-length-2 : tie.Need-same-length-2
 same-length-2 c = search needs
@@ -43,21 +42,22 @@ same-length-2 c = search needs
 same-length-3 : tie.Need-same-length-3
 same-length-3 c = search needs
 
-returns : tie.Need-returns
-returns c = search needs
+same-length-4 : tie.Need-same-length-4
+same-length-4 c = search needs
+
+returns-2 : tie.Need-returns-2
+returns-2 c = search needs
 
 pub range-with-spec : {M : Type 1} → statement M
 range-with-spec =
     tie.close
     (tie.spec
-    array-borrow-prefix-t
-    slice-aggregate-range-by
-    array-borrow-prefix-p
-    slice-aggregate-range-by-2
-    array-borrow-prefix-s
-    slice-aggregate-range-by-3
-    range-by-requires
+    get-row-requires
+    clear-range-requires
     same-length
+    returns
+    range-scratch-requires
     same-length-2
     same-length-3
-    returns)
+    same-length-4
+    returns-2)

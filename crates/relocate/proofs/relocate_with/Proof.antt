@@ -1,41 +1,40 @@
-use mathlib.Core.Path.{sym}
+use mathlib.Core.Path.{ap}
 use native.Mathlib.Omega.{arith}
-use Rattle.frame.specs.Frame.{zeros-length, zeros-at}
+use Rattle.rows.specs.Insert.{startF}
+use Rattle.in_place.specs.InPlace.{lent-roomy}
+use Rattle.relocate.proofs.Call.{lent-spanned, relocated-in-place}
 use borrow.Author.Needs.{needs}
 use Rattle.relocate.proofs.relocate_with.Statement.{statement}
 use Rattle.relocate.proofs.relocate_with.Tie as tie
 use Rattle.relocate.proofs.relocate_with.Reads as reads
 use Rattle.relocate.proofs.relocate_with.Lts as lts
-use Rattle.relocate.proofs.relocate_by.Reads as relocate-by-reads
+use Rattle.relocate.proofs.relocate_scratch.Reads as relocate-scratch-reads
+use Rattle.relocate_rows.proofs.relocate_rows.Reads as relocate-rows-reads
+use Rattle.table.proofs.get_row.Reads as get-row-reads
 
-array-borrow-prefix-t : tie.Need-array-borrow-prefix-t
-array-borrow-prefix-t c = search needs
+get-row-requires : tie.Need-get-row-requires
+get-row-requires c κs = search needs
 
-slice-aggregate-relocate-by : tie.Need-slice-aggregate-relocate-by
-slice-aggregate-relocate-by c =
-    sym (zeros-length 6192 6192 (omega arith))
-
-array-borrow-prefix-p : tie.Need-array-borrow-prefix-p
-array-borrow-prefix-p c = search needs
-
-slice-aggregate-relocate-by-2 : tie.Need-slice-aggregate-relocate-by-2
-slice-aggregate-relocate-by-2 c =
-    sym (zeros-length 4096 4096 (omega arith))
-
-array-borrow-prefix-s : tie.Need-array-borrow-prefix-s
-array-borrow-prefix-s c = search needs
-
-slice-aggregate-relocate-by-3 : tie.Need-slice-aggregate-relocate-by-3
-slice-aggregate-relocate-by-3 c =
-    sym (zeros-length 32768 32768 (omega arith))
-
-relocate-by-requires : tie.Need-relocate-by-requires
-relocate-by-requires c κs =
-    let start = c .before .before .before .before .before .before .before .before .before .before in
-    (start .pre .0, (record { chunks = zeros-length 6192 6192 (omega arith); clear = zeros-at 6192 6192; pieces = rw (zeros-length 4096 4096 (omega arith)) (omega arith); store = rw (zeros-length 32768 32768 (omega arith)) (omega arith) }, start .pre .1))
+relocate-rows-requires : tie.Need-relocate-rows-requires
+relocate-rows-requires c κs =
+    let start = c .before .before .before .before .before .before .before .before .before in
+    let get-row = c .before .before .before .get-row in
+    let if1 = c .before .if1 in
+    (lent-roomy 3 (start .pre .0) (omega (arith, if1 .taken, ap startF (get-row .ensures))), (lent-spanned (start .pre .0) (start .pre .1), start .pre .1 .movable))
 
 same-length : tie.Need-same-length
 same-length c = search needs
+
+returns : tie.Need-returns
+returns c =
+    let start = c .before .before .before .before .before .before .before .before .before .before .before .before in
+    let get-row = c .before .before .before .before .before .before .get-row in
+    let if1 = c .before .before .before .before .if1 in
+    let relocate-rows = c .before .before .relocate-rows in
+    relocated-in-place (start .pre .0) (start .pre .1) (omega (arith, if1 .taken, ap startF (get-row .ensures))) (relocate-rows .ensures) (relocate-rows .kept .0)
+
+relocate-scratch-requires : tie.Need-relocate-scratch-requires
+relocate-scratch-requires c κs = search needs
 
 same-length-2 : tie.Need-same-length-2
 same-length-2 c = search needs
@@ -43,21 +42,22 @@ same-length-2 c = search needs
 same-length-3 : tie.Need-same-length-3
 same-length-3 c = search needs
 
-returns : tie.Need-returns
-returns c = search needs
+same-length-4 : tie.Need-same-length-4
+same-length-4 c = search needs
+
+returns-2 : tie.Need-returns-2
+returns-2 c = search needs
 
 pub relocate-with-spec : {M : Type 1} → statement M
 relocate-with-spec =
     tie.close
     (tie.spec
-    array-borrow-prefix-t
-    slice-aggregate-relocate-by
-    array-borrow-prefix-p
-    slice-aggregate-relocate-by-2
-    array-borrow-prefix-s
-    slice-aggregate-relocate-by-3
-    relocate-by-requires
+    get-row-requires
+    relocate-rows-requires
     same-length
+    returns
+    relocate-scratch-requires
     same-length-2
     same-length-3
-    returns)
+    same-length-4
+    returns-2)

@@ -32,7 +32,7 @@ fragment-requires : tie.Need-fragment-requires Inv-loop μ-loop
 fragment-requires c κs = (ready _ _ _ _ (c .before .before .before .before .before .before .before .before .before .pre), (c .before .before .loop .inv .on, walks (c .before .before .loop .inv) (c .if1 .taken)))
 
 begins-requires : tie.Need-begins-requires Inv-loop μ-loop
-begins-requires c κs = c .before .before .before .loop .inv .inside
+begins-requires c κs = omega (arith, c .before .before .before .loop .inv .inside)
 
 returns : tie.Need-returns Inv-loop μ-loop
 returns c =

@@ -1,17 +1,16 @@
 use mathlib.Core.Path.{_≡_, ap}
 use Prim.Native.Nat.{_≤_, _-_}
 use native.Mathlib.Omega.{arith}
-use borrow.Author.Needs.{needs}
 use Rattle.table.specs.declared.Row.{Row}
 use Rattle.table.specs.Order.{countOf}
 use Rattle.rows.specs.Clear.{Swept, swept-none, swept-more, swept-all}
+use borrow.Author.Needs.{needs}
 use Rattle.rows.proofs.clear_rows.Statement.{statement}
 use Rattle.rows.proofs.clear_rows.Tie as tie
 use Rattle.rows.proofs.clear_rows.Reads as reads
 use Rattle.rows.proofs.clear_rows.Lts as lts
-use Rattle.rows.proofs.cleared.Reads as cleared-reads
+use Rattle.rows.proofs.clear_row.Reads as clear-row-reads
 use Rattle.table.proofs.get_row.Reads as get-row-reads
-use Rattle.table.proofs.put_row.Reads as put-row-reads
 
 abbrev Inv-loop : tie.InvT-loop
 Inv-loop t₀ a b v n k₀ t k = (n ≡ countOf t₀) × (k ≤ n) × Swept t₀ t a b v k
@@ -23,31 +22,27 @@ get-row-requires : tie.Need-get-row-requires Inv-loop μ-loop
 get-row-requires c κs = omega arith
 
 loop-holds : tie.Need-loop-holds Inv-loop μ-loop
-loop-holds c = (ap (λ (r : Row). r .start) (c .get-row .ensures), omega arith, swept-none (c .before .before .before .args .t .now) (c .before .before .before .args .a) (c .before .before .before .args .b) (c .before .before .before .args .text-at))
+loop-holds c =
+    let s = c .before .before .before .args in
+    (ap (λ (r : Row). r .start) (c .get-row .ensures), omega arith, swept-none (s .t .now) (s .a) (s .b) (s .text-at))
 
 add-k : tie.Need-add-k Inv-loop μ-loop
 add-k c = search needs
 
-get-row-requires-2 : tie.Need-get-row-requires-2 Inv-loop μ-loop
-get-row-requires-2 c κs = omega (arith, c .before .before .loop .inv .0, c .before .before .loop .inv .2 .len, c .before .before .before .before .before .before .pre .room, c .before .loop-test .taken)
-
-cleared-requires : tie.Need-cleared-requires Inv-loop μ-loop
-cleared-requires c κs = search needs
-
-put-row-requires : tie.Need-put-row-requires Inv-loop μ-loop
-put-row-requires c κs = omega (arith, c .before .before .before .before .before .loop .inv .0, c .before .before .before .before .before .loop .inv .2 .len, c .before .before .before .before .before .before .before .before .before .pre .room, c .before .before .before .before .loop-test .taken)
+clear-row-requires : tie.Need-clear-row-requires Inv-loop μ-loop
+clear-row-requires c κs = omega (arith, c .before .before .loop .inv .0, c .before .before .loop .inv .2 .len, c .before .before .before .before .before .before .pre .room, c .before .loop-test .taken)
 
 loop-less : tie.Need-loop-less Inv-loop μ-loop
-loop-less c = omega (arith, c .before .before .before .before .before .before .before .loop-test .taken)
+loop-less c = omega (arith, c .before .before .before .before .loop-test .taken)
 
 loop-again : tie.Need-loop-again Inv-loop μ-loop
 loop-again c =
-    let s = c .before .before .before .before .before .before .before .before .before .before .before .before .args in
-    let l = c .before .before .before .before .before .before .before .before .loop in (
+    let s = c .before .before .before .before .before .before .before .before .before .args in
+    let l = c .before .before .before .before .before .loop in
+    let clear-row = c .before .before .clear-row in (
       l .inv .0,
-      omega (arith, c .before .before .before .before .before .before .before .loop-test .taken),
-      swept-more (s .t .now) (l .t) (c .before .before .put-row .last .0) (s .a) (s .b) (s .text-at) (l .k) (c .before .before .before .before .before .get-row2 .result) (c .before .before .before .cleared .result) (l .inv .2) (c .before .before .before .before .before .get-row2 .ensures)
-          (c .before .before .before .cleared .ensures) (c .before .before .put-row .ensures) (c .before .before .put-row .kept .0),
+      omega (arith, c .before .before .before .before .loop-test .taken),
+      swept-more (s .t .now) (l .t) (clear-row .last .0) (s .a) (s .b) (s .text-at) (l .k) (l .inv .2) (clear-row .ensures) (clear-row .kept .0),
     )
 
 same-length : tie.Need-same-length Inv-loop μ-loop
@@ -68,9 +63,7 @@ clear-rows-spec =
     get-row-requires
     loop-holds
     add-k
-    get-row-requires-2
-    cleared-requires
-    put-row-requires
+    clear-row-requires
     loop-less
     loop-again
     same-length

@@ -85,7 +85,7 @@ returns-3 c =
     let if1 = c .before .before .before .before .if1 in
     let t = start .args .t .now in
     let w = subst (FoundIn (meets Inside (start .args .q)) t) (i .given .1) (find .ensures) in
-    found-split (start .args .q) t (i .given .0 .0) w (split-row .last .0) (split-row .ensures) (sym (ap (λ (r : Row). filled (entryOf r)) (get-row .ensures)) ∙ sym (is-filled .ensures) ∙ if1 .left)
+    found-split (start .args .q) t (i .given .0 .0) w (start .pre .linked) (split-row .last .0) (split-row .ensures) (sym (ap (λ (r : Row). filled (entryOf r)) (get-row .ensures)) ∙ sym (is-filled .ensures) ∙ if1 .left)
 
 pub split-at-spec : {M : Type 1} → statement M
 split-at-spec =

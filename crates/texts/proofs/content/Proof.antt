@@ -20,7 +20,7 @@ part-result-end c = search needs
 
 returns : tie.Need-returns
 unfolding replacementOf
-returns c = rw (eq-eqb _ _ (c .before .if1 .taken)) refl
+returns c = rw (eq-eqb (c .before .before .args .at) _ (c .before .if1 .taken)) refl
 
 add-result : tie.Need-add-result
 unfolding ReplacementIn
@@ -38,7 +38,7 @@ part-result-end-2 c = omega (arith, c .before .pre .replacement (c .if1 .left))
 
 returns-2 : tie.Need-returns-2
 unfolding replacementOf
-returns-2 c = rw (ne-eqb _ _ (c .before .if1 .left), add-sub-cancel-left)
+returns-2 c = rw (ne-eqb (c .before .before .args .at) _ (c .before .if1 .left), add-sub-cancel-left)
 
 pub content-spec : {M : Type 1} → statement M
 content-spec =

@@ -23,8 +23,9 @@ trim-place-requires c κs =
 
 copy-rows-requires : tie.Need-copy-rows-requires
 copy-rows-requires c κs =
-    let r = c .before .before .before .before .before .before .pre .1 .0 in
-    (r .below, r .room, r .narrow)
+    let start = c .before .before .before .before .before .before in
+    let r = start .pre .1 .0 in
+    (omega (arith, r .below, start .pre .1 .1), omega (arith, r .room, start .pre .1 .1), r .narrow)
 
 add-put-piece : tie.Need-add-put-piece
 add-put-piece c =

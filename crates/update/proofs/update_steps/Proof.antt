@@ -24,7 +24,7 @@ returns c =
     let split-both = c .before .before .before .split-both in
     let if1 = c .if1 in
     let a = start .args in
-    update-refused (a .start) (a .end) (a .text .now) (a .overwrite) (a .len) (a .t .now) _ (a .s .now) _ (split-both .ensures) (if1 .taken)
+    update-refused (a .start) (a .end) (a .text .now) (a .overwrite) (a .len) (a .byte) (a .t .now) _ (a .s .now) _ (split-both .ensures) (if1 .taken)
 
 same-length-2 : tie.Need-same-length-2
 same-length-2 c = search needs
@@ -36,7 +36,7 @@ returns-2 c =
     let if1 = c .before .if1 in
     let if2 = c .if2 in
     let a = start .args in
-    update-past-end (a .start) (a .end) (a .text .now) (a .overwrite) (a .len) (a .t .now) _ (a .s .now) _ (split-both .ensures) (if1 .left) (if2 .taken)
+    update-past-end (a .start) (a .end) (a .text .now) (a .overwrite) (a .len) (a .byte) (a .t .now) _ (a .s .now) _ (split-both .ensures) (if1 .left) (if2 .taken)
 
 update-walk-requires : tie.Need-update-walk-requires
 update-walk-requires c κs = search needs
@@ -59,7 +59,7 @@ returns-3 c =
     let update-walk = c .before .before .before .before .update-walk in
     let enum-told = c .enum-told in
     let a = start .args in
-    update-broken (a .start) (a .end) (a .text .now) (a .overwrite) (a .len) (a .t .now) _ (a .s .now) _ (split-both .ensures) (if1 .left) (if2 .left) _ (subst (Walked (a .start) (a .end) (split-both .last .0) (update-walk .last .0)) (enum-told .given .1) (update-walk .ensures))
+    update-broken (a .start) (a .end) (a .text .now) (a .overwrite) (a .len) (a .byte) (a .t .now) _ (a .s .now) _ (split-both .ensures) (if1 .left) (if2 .left) _ (subst (Walked (a .start) (a .end) (split-both .last .0) (update-walk .last .0)) (enum-told .given .1) (update-walk .ensures))
 
 same-length-4 : tie.Need-same-length-4
 same-length-4 c = search needs
@@ -74,7 +74,7 @@ returns-4 c =
     let update-walk = c .before .before .before .before .before .before .update-walk in
     let if3 = c .if3 in
     let a = start .args in
-    update-long (a .start) (a .end) (a .text .now) (a .overwrite) (a .len) (a .t .now) _ (a .s .now) _ (split-both .ensures) (if1 .left) (if2 .left) _ (i .given .0 .0) (subst (Walked (a .start) (a .end) (split-both .last .0) (update-walk .last .0)) (i .given .1) (update-walk .ensures)) (if3 .taken)
+    update-long (a .start) (a .end) (a .text .now) (a .overwrite) (a .len) (a .byte) (a .t .now) _ (a .s .now) _ (split-both .ensures) (if1 .left) (if2 .left) _ (i .given .0 .0) (subst (Walked (a .start) (a .end) (split-both .last .0) (update-walk .last .0)) (i .given .1) (update-walk .ensures)) (if3 .taken)
 
 edit-first-requires : tie.Need-edit-first-requires
 edit-first-requires c κs =
@@ -86,7 +86,7 @@ edit-first-requires c κs =
     let a = start .args in
     let d = subst (Walked (a .start) (a .end) (split-both .last .0) (update-walk .last .0)) (i .given .1) (update-walk .ensures) in
     let w = d .ended .1 in
-    (omega (arith, d .linked .room, inside-at (update-walk .last .0) (w .us) (i .given .0 .0) (w .bs) (d .linked) (w .place) .1), (if3 .left, start .pre .1))
+    (omega (arith, d .linked .room, inside-at (update-walk .last .0) (w .us) (i .given .0 .0) (w .bs) (d .linked) (w .place) .1), (if3 .left, (start .pre .1 .0, omega (arith, start .pre .1 .1 (if3 .left), split-both .kept .0))))
 
 same-length-5 : tie.Need-same-length-5
 same-length-5 c = search needs
@@ -105,7 +105,7 @@ returns-5 c =
     let edit-first = c .before .before .before .before .edit-first in
     let a = start .args in
     let d = subst (Walked (a .start) (a .end) (split-both .last .0) (update-walk .last .0)) (i .given .1) (update-walk .ensures) in
-    update-done (a .start) (a .end) (a .text .now) (a .overwrite) (a .len) (a .t .now) _ (a .s .now) _ (split-both .ensures) (if1 .left) (if2 .left) _ (i .given .0 .0) d _ _ (edit-first .ensures) (edit-first .kept .1 .0)
+    update-done (a .start) (a .end) (a .text .now) (a .overwrite) (a .len) (a .byte) (a .t .now) _ (a .s .now) _ (split-both .ensures) (if1 .left) (if2 .left) _ (i .given .0 .0) d _ _ (start .pre .1 .0) (edit-first .ensures) (edit-first .kept .1 .0)
 
 pub update-steps-spec : {M : Type 1} → statement M
 update-steps-spec =

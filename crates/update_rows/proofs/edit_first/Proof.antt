@@ -31,6 +31,9 @@ get-row-requires c κs = search needs
 cast-edited : tie.Need-cast-edited
 cast-edited c = search needs
 
+cast-edited-2 : tie.Need-cast-edited-2
+cast-edited-2 c = search needs
+
 edited-requires : tie.Need-edited-requires
 edited-requires c κs = search needs
 
@@ -54,7 +57,7 @@ returns c =
       row = edited .result;
       edited = rw (get-row .ensures) at (edited .ensures);
       put = put-row .ensures;
-      store = put-back (start .args .s .now) (start .args .text .now) _ 32768 (omega (arith, start .pre .1 .0, start .pre .1 .1)) (put .ensures);
+      store = put-back (start .args .s .now) (start .args .text .now) _ (start .args .byte) (start .pre .1 .1 .1) (put .ensures);
     }
 
 pub edit-first-spec : {M : Type 1} → statement M
@@ -67,6 +70,7 @@ edit-first-spec =
     put-requires
     get-row-requires
     cast-edited
+    cast-edited-2
     edited-requires
     put-row-requires
     same-length

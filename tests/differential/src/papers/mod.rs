@@ -1,7 +1,9 @@
 //! Random papers, each the same for the same seed.
 
+pub mod blanks;
 mod calls;
 mod cuts;
+pub mod fixed;
 mod positions;
 mod sweep;
 

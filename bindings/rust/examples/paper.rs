@@ -1,0 +1,145 @@
+//! A paper: a script is opened and edits are filed on it, with the running text after
+//! each. Then the desk chunk by chunk, its reports, and the fifteen refusals in words.
+
+use magic_string::{Chunk, IndentOptions, MagicString, Refusal, UpdateOptions, layout};
+
+const SCRIPT: &str = "\
+Here is Ålesund Radio.
+  Wind north, 12 knots.
+  Air 7 °C, sea calm.
+Good night – over.
+";
+
+fn main() -> Result<(), Refusal> {
+  let mut desk = MagicString::new(SCRIPT)?;
+  println!("The script, {} bytes:", SCRIPT.len());
+  show(&desk);
+  edits(&mut desk)?;
+  draw(&desk);
+  reports(&desk)?;
+  refusals(&mut desk);
+  Ok(())
+}
+
+/// The place of a text in the script: its first byte, and the first behind it.
+fn start(text: &str) -> u32 {
+  SCRIPT.find(text).expect("the script has it") as u32
+}
+
+fn end(text: &str) -> u32 {
+  start(text) + text.len() as u32
+}
+
+/// Files an edit: prints the call with its arguments, then the running text.
+macro_rules! file {
+  ($desk:ident.$edit:ident($($argument:expr),*)) => {
+    let arguments: Vec<String> = vec![$(format!("{:?}", $argument)),*];
+    println!("\n{}({})", stringify!($edit), arguments.join(", "));
+    $desk.$edit($($argument),*)?;
+    show($desk);
+  };
+}
+
+fn edits(desk: &mut MagicString) -> Result<(), Refusal> {
+  let (wind, air) = (start("  Wind"), start("  Air"));
+  file!(desk.update(start("north"), end("north"), "north-west"));
+  file!(desk.append_left(end("12"), " to 15"));
+  file!(desk.append_right(start("Wind"), "Gale warning! "));
+  file!(desk.remove(start(", sea"), end("calm")));
+  file!(desk.prepend_left(end("Ålesund"), " Coast"));
+  file!(desk.relocate(air, start("Good"), wind));
+  file!(desk.prepend_right(start("Wind"), "News: "));
+  file!(desk.update_with(start("Wind"), end("Wind"), "Storm", UpdateOptions { overwrite: true }));
+  file!(desk.reset(start(", sea"), end("calm")));
+  file!(desk.remove(start(" –"), end("–")));
+  file!(desk.append_right(start("over"), "and "));
+  file!(desk.prepend("CQ CQ CQ\n"));
+  file!(desk.append("73 \t\n\n"));
+  file!(desk.trim_end(Some("\\s")));
+  file!(desk.indent_with(IndentOptions { indentor: Some("> "), exclude: &[(air, start("Good"))] }));
+  Ok(())
+}
+
+/// The running text.
+fn show(desk: &MagicString) {
+  for line in desk.to_string().split('\n') {
+    println!("{}", format!("  | {line}").trim_end());
+  }
+}
+
+/// The desk: the texts before all chunks, each chunk, and the texts behind all.
+fn draw(desk: &MagicString) {
+  println!("\nThe desk, chunk by chunk:");
+  list("before all", &desk.intro());
+  for chunk in desk.chunks() {
+    let Chunk { span, intro, outro, edited_content } = &chunk;
+    list("intro", intro);
+    print!("  {:>3} to {:<3}  {:?}", span.start(), span.end(), span.text(desk.source()));
+    match edited_content {
+      None => println!(),
+      Some("") => println!(" is removed"),
+      Some(text) => println!(" is replaced by {text:?}"),
+    }
+    list("outro", outro);
+  }
+  list("behind all", &desk.outro());
+}
+
+/// A list of pieces, if there are any.
+fn list(name: &str, pieces: &[&str]) {
+  if !pieces.is_empty() {
+    println!("  {name:>10}  {pieces:?}");
+  }
+}
+
+fn reports(desk: &MagicString) -> Result<(), Refusal> {
+  let wind = (start("Wind"), end("Wind"));
+  println!("\nReports:");
+  println!("  lines            {}", desk.line_count());
+  println!("  bytes in chunks  {}", desk.len());
+  println!("  UTF-16 units     {}", desk.len_utf16());
+  println!("  last line        {:?}", desk.last_line());
+  println!("  last character   {:?}", desk.last_char());
+  println!("  indent string    {:?}", desk.get_indent_string());
+  println!("  changed          {}", desk.has_changed());
+  println!("  Wind replaced    {}", desk.is_range_within_edited_chunk(wind.0, wind.1));
+  println!("  from Wind to 12  {:?}", desk.slice(wind.0, Some(end("12")))?);
+  Ok(())
+}
+
+fn refusals(desk: &mut MagicString) {
+  println!("\nRefused:");
+  let text = desk.to_string();
+  let long = "x".repeat(layout::STORE_BYTES + 1);
+  let (past, inside) = (SCRIPT.len() as u32 + 1, start("Å") + 1);
+  let (wind, night) = (start("Wind"), start("night"));
+  let no_desk = ([0; layout::CHUNKS_LEN], [0; layout::PIECES_LEN], [0; layout::STORE_LEN]);
+
+  refused("open a source with the byte FF", MagicString::from_utf8(*b"73\xFF"));
+  refused(
+    "take tables of zeros for a desk",
+    MagicString::from_tables("73", no_desk.0, no_desk.1, no_desk.2),
+  );
+  refused("remove from inside the Å", desk.remove(inside, end("Å")));
+  refused("remove backwards", desk.remove(end("night"), night));
+  refused("replace no byte at all", desk.update(night, night, "day"));
+  refused("insert inside a replaced word", desk.append_left(wind + 1, "?"));
+  refused("replace from Radio to Wind", desk.update(start("Radio"), end("Wind"), "?"));
+  refused("move night into itself", desk.relocate(night, end("night"), night + 1));
+  refused("move from Wind to Air", desk.relocate(wind, end("Air"), 0));
+  refused("reset past the source", desk.reset(0, past));
+  refused("slice from inside a replaced word", desk.slice(wind + 1, None));
+  refused("slice up to inside it", desk.slice(0, Some(wind + 1)));
+  refused("append more than the store holds", desk.append(long));
+  refused("write the text to 10 bytes", desk.write_to(&mut [0; 10]));
+  refused("trim by another pattern", desk.trim(Some("[0-9]")));
+
+  println!("\nThe text has {} bytes, as before: {}", text.len(), desk.to_string() == text);
+}
+
+fn refused<T>(asked: &str, answer: Result<T, Refusal>) {
+  match answer {
+    Ok(_) => println!("      {asked}: done"),
+    Err(refusal) => println!("  {:>2}  {asked:<34}  {refusal}", refusal.number()),
+  }
+}

@@ -1,0 +1,48 @@
+//! The limits of a desk and the words of its memory, as docs/LAYOUT.md and
+//! include/magic_string.h have them. For callers who make or keep desks as memory
+//! ([`MagicString::from_tables`](crate::MagicString::from_tables)).
+
+/// Most bytes of a source.
+pub const SOURCE_BYTES: usize = 16_384;
+/// Most chunks.
+pub const CHUNKS: usize = 512;
+/// Most pieces in all lists together, empty ones counted.
+pub const PIECES: usize = 1_024;
+/// Most bytes in pieces and replacements together.
+pub const STORE_BYTES: usize = 32_768;
+
+/// Length of the table of chunks, in words: the desk's own row and [`CHUNKS`] rows.
+pub const CHUNKS_LEN: usize = (1 + CHUNKS) * ROW;
+/// Length of the table of pieces, in words.
+pub const PIECES_LEN: usize = 2_048 * PIECE;
+/// Length of the store, in bytes.
+pub const STORE_LEN: usize = 32_768;
+
+/// Words in a row of chunks.
+pub const ROW: usize = 12;
+/// Words in a row of pieces: where its text begins in the store, how many bytes.
+pub const PIECE: usize = 2;
+
+/// Word of a row of chunks: first byte of the span. In row 0, how many chunks.
+pub const START: usize = 0;
+/// First byte behind the span.
+pub const END: usize = 1;
+/// Next chunk of the list, 0 at the last. In row 0, the first chunk.
+pub const NEXT: usize = 2;
+/// Chunk before it, 0 at the first. In row 0, the last chunk.
+pub const PREV: usize = 3;
+/// First piece of the intro. In row 0, of the whole's.
+pub const INTRO_AT: usize = 4;
+/// How many pieces the intro has.
+pub const INTRO_N: usize = 5;
+/// First piece of the outro. In row 0, of the whole's.
+pub const OUTRO_AT: usize = 6;
+/// How many pieces the outro has.
+pub const OUTRO_N: usize = 7;
+/// Where the replacement begins in the store, or [`NONE`].
+pub const TEXT_AT: usize = 8;
+/// How many bytes the replacement has.
+pub const TEXT_N: usize = 9;
+
+/// In [`TEXT_AT`]: the chunk has no replacement.
+pub const NONE: u32 = 0xFFFF_FFFF;

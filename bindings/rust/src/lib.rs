@@ -1,0 +1,49 @@
+//! A text and the edits filed on it: string_wizard's `MagicString` over a core in
+//! which every function is proved.
+//!
+//! ```
+//! use magic_string::{MagicString, Refusal};
+//!
+//! # fn main() -> Result<(), Refusal> {
+//! let mut s = MagicString::new("Wind north, 12 knots")?;
+//! s.update(5, 10, "west")?.append_left(20, ", gusting")?.prepend("CQ ")?;
+//! assert_eq!(s.to_string(), "CQ Wind west, 12 knots, gusting");
+//!
+//! // A call that cannot be done says why, as a number and in words.
+//! let refused = s.append_left(7, "?").unwrap_err();
+//! assert_eq!(refused, Refusal::CutInReplacement);
+//! assert_eq!(refused.number(), 6);
+//! assert_eq!(refused.to_string(), "cut inside a non-empty replacement");
+//! # Ok(())
+//! # }
+//! ```
+//!
+//! Names and argument types are string_wizard's. What differs:
+//!
+//! - [`MagicString`] owns its source and three tables of fixed length, so it has no
+//!   lifetime, and [limits](layout). [`MagicString::new`] and every edit may give
+//!   [`Refusal::Limit`].
+//! - Errors are a [`Refusal`], one of fifteen, and not a `String`.
+//! - A position inside a character is refused, where string_wizard may panic, and
+//!   so is an update past the source.
+//! - Trims take the two patterns that string_wizard names. Names and source maps,
+//!   `filename`, `ignore_list`, `replace`, `snip` and the joiner are left out.
+//! - Added: [`MagicString::line_count`], and a way to look at what is filed, chunk
+//!   by chunk ([`MagicString::chunks`]).
+//!
+//! Positions are byte offsets into the source.
+
+mod chunk;
+mod ffi;
+pub mod layout;
+mod magic_string;
+mod memory;
+mod refusal;
+mod span;
+
+pub use crate::{
+  chunk::{Chunk, Chunks},
+  magic_string::{MagicString, indent::IndentOptions, update::UpdateOptions},
+  refusal::Refusal,
+  span::Span,
+};

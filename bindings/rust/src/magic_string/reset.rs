@@ -1,0 +1,25 @@
+use crate::{MagicString, Refusal};
+
+impl MagicString {
+  /// Undoes the edits of the source bytes from `start` up to `end`: their chunks lose
+  /// their insertions and replacements. Zero width does nothing, and moves stay.
+  ///
+  /// # Errors
+  /// In this order [`Refusal::InsideCharacter`], [`Refusal::EndBeforeStart`],
+  /// [`Refusal::PastSource`], [`Refusal::CutInReplacement`] (a cut at `start` stays),
+  /// [`Refusal::Limit`], which comes before 6 where the cut that would stay is one too
+  /// many.
+  ///
+  /// # Example
+  /// ```
+  /// use magic_string::MagicString;
+  /// let mut s = MagicString::new("abcdef").unwrap();
+  /// s.remove(1, 5).unwrap().append_left(3, "Z").unwrap();
+  /// s.reset(2, 4).unwrap();
+  /// assert_eq!(s.to_string(), "acdf");
+  /// ```
+  pub fn reset(&mut self, start: u32, end: u32) -> Result<&mut Self, Refusal> {
+    self.memory.reset(start, end)?;
+    Ok(self)
+  }
+}

@@ -1,0 +1,137 @@
+//! What the wrapper shows of a desk, and its reports.
+
+use magic_string::{Chunk, IndentOptions, MagicString, Span, UpdateOptions};
+
+/// A desk with something of everything.
+fn filed() -> MagicString {
+  let mut desk = MagicString::new("one, zwö, three\n").unwrap();
+  desk.prepend("> ").unwrap().append("[end]").unwrap();
+  desk.update(0, 3, "1").unwrap().append_left(3, "!").unwrap().append_right(0, "#").unwrap();
+  desk.remove(9, 16).unwrap().relocate(5, 9, 0).unwrap();
+  desk
+}
+
+#[test]
+fn chunk_by_chunk() {
+  let desk = filed();
+  assert_eq!(desk.source(), "one, zwö, three\n");
+  assert_eq!(desk.intro(), ["> "]);
+  assert_eq!(desk.outro(), ["[end]"]);
+  let chunks: Vec<Chunk> = desk.chunks().collect();
+  let untouched = |start, end| Chunk { span: Span(start, end), ..Default::default() };
+  let first =
+    Chunk { intro: vec!["#"], outro: vec!["!"], edited_content: Some("1"), ..untouched(0, 3) };
+  let removed = Chunk { edited_content: Some(""), ..untouched(9, 16) };
+  assert_eq!(chunks, [untouched(5, 9), first, untouched(3, 5), removed, untouched(16, 17)]);
+}
+
+/// The output is what the desk shows, one text behind the other.
+#[test]
+fn fragments_make_the_output() {
+  let desk = filed();
+  let chunks: String = desk.chunks().flat_map(|chunk| chunk.fragments(desk.source())).collect();
+  assert_eq!(chunks.len(), desk.len());
+  let output = desk.intro().concat() + &chunks + &desk.outro().concat();
+  assert_eq!(output, desk.to_string());
+}
+
+#[test]
+fn memory_is_given_and_taken_back() {
+  let mut desk = filed();
+  let (chunks, pieces, store) = desk.tables();
+  let mut again = MagicString::from_tables(desk.source(), chunks, pieces, store).unwrap();
+  assert_eq!(again, desk);
+  for desk in [&mut desk, &mut again] {
+    desk.reset(0, 17).unwrap();
+  }
+  assert_eq!(again, desk);
+  assert_eq!(desk.to_string(), "> zwöone, , three\n[end]");
+}
+
+/// Equal desks need not lie in memory alike, and equal outputs may be other desks.
+#[test]
+fn equality_is_of_desks() {
+  let [mut first, mut second] = [(); 2].map(|()| MagicString::new("abcd").unwrap());
+  first.append_left(1, "x").unwrap().append_left(3, "yy").unwrap();
+  second.append_left(3, "yy").unwrap().append_left(1, "x").unwrap();
+  assert_eq!(first, second);
+  second.append_left(4, "").unwrap();
+  assert_eq!(first.to_string(), second.to_string());
+  assert_ne!(first, second);
+  assert_ne!(first, MagicString::default());
+}
+
+#[test]
+fn a_clone_is_its_own() {
+  let mut desk = MagicString::new("abc").unwrap();
+  let before = desk.clone();
+  desk.remove(0, 1).unwrap();
+  assert_eq!((before.to_string(), desk.to_string()), ("abc".into(), "bc".into()));
+}
+
+#[test]
+fn reports() {
+  let desk = filed();
+  assert_eq!(desk.to_string(), "> zwö#1!, \n[end]");
+  assert_eq!((desk.len(), desk.len_utf16(), desk.line_count()), (10, 9, 2));
+  assert_eq!((desk.is_empty(), desk.has_changed()), (false, true));
+  assert_eq!((desk.last_char(), desk.last_line()), (Some(']'), "[end]".to_string()));
+  assert!(desk.is_range_within_edited_chunk(1, 2));
+  assert!(!desk.is_range_within_edited_chunk(2, 4));
+  assert_eq!(desk.slice(5, Some(9)), Ok("zwö".to_string()));
+  assert_eq!(desk.get_indent_string(), "\t");
+
+  let empty = MagicString::default();
+  assert_eq!((empty.len(), empty.is_empty(), empty.has_changed()), (0, true, false));
+  assert_eq!((empty.last_char(), empty.last_line()), (None, String::new()));
+  assert_eq!(format!("[{:>3}]", MagicString::new("é").unwrap()), "[  é]");
+}
+
+#[test]
+fn what_is_filed_is_printed_for_debugging() {
+  let mut desk = MagicString::new("ab").unwrap();
+  desk.remove(0, 1).unwrap().append("x").unwrap();
+  let printed = format!("{desk:?}");
+  assert!(printed.starts_with(r#"MagicString { source: "ab", intro: [], chunks: [Chunk { span"#));
+  assert!(
+    printed.contains(r#"edited_content: Some("")"#) && printed.ends_with(r#"outro: ["x"] }"#)
+  );
+}
+
+/// Texts of any kind are taken, and calls are chained.
+#[test]
+fn as_in_string_wizard() {
+  let name = String::from("x");
+  let mut desk = MagicString::new(String::from("abc")).unwrap();
+  desk.append(&name).unwrap().append(name).unwrap().append(std::borrow::Cow::from("y")).unwrap();
+  desk.update_with(0, 1, "A", UpdateOptions { overwrite: true }).unwrap();
+  assert_eq!(desk.to_string(), "Abcxxy");
+}
+
+#[test]
+fn document_01_cases() {
+  // C: a slice of zero width on the first chunk.
+  assert_eq!(MagicString::new("abc").unwrap().slice(0, Some(0)), Ok("abc".to_string()));
+  // G: pieces are trimmed one by one.
+  let mut desk = MagicString::new("  ").unwrap();
+  desk.append_right(2, " x").unwrap().trim(None).unwrap();
+  assert_eq!(desk.to_string(), " x");
+  // H: the last piece alone.
+  let mut desk = MagicString::new("abc").unwrap();
+  desk.append_right(3, "x").unwrap().append_right(3, "").unwrap();
+  assert_eq!(desk.last_char(), Some('c'));
+  // I: each line is indented by the guessed tab; an empty indentor does nothing.
+  let mut desk = MagicString::new("a\nb").unwrap();
+  desk.indent_with(IndentOptions { indentor: Some(""), exclude: &[] }).unwrap();
+  assert_eq!(desk, MagicString::new("a\nb").unwrap());
+  desk.indent().unwrap();
+  assert_eq!(desk.to_string(), "\ta\n\tb");
+  // J: past the source, left goes to the head.
+  let mut desk = MagicString::new("abc").unwrap();
+  desk.append_left(9, "x").unwrap();
+  assert_eq!(desk.to_string(), "xabc");
+  // `remove` from 0 on an empty source edits the one chunk once.
+  let mut desk = MagicString::default();
+  desk.append_left(0, "x").unwrap().remove(0, 1).unwrap();
+  assert_eq!(desk.to_string(), "");
+}

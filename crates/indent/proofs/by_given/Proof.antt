@@ -1,0 +1,60 @@
+use mathlib.Core.Path.{sym, _∙_}
+use Rattle.indent.specs.Call.{valid-source, given-invalid, given-inside, given-empty, given-ran}
+use borrow.Author.Needs.{needs}
+use Rattle.indent.proofs.by_given.Statement.{statement}
+use Rattle.indent.proofs.by_given.Tie as tie
+
+valid-requires : tie.Need-valid-requires
+valid-requires c κs = search needs
+
+positions-between-requires : tie.Need-positions-between-requires
+positions-between-requires c κs = valid-source (c .before .before .before .before .before .before .before .before .pre .0)
+
+returns : tie.Need-returns
+returns c =
+    let start = c .before .before .before .before .before .before .before .before .before .before .before in
+    given-empty (start .pre .0) (start .args .exclude .now) (start .pre .1) (start .args .indentor .now) (sym (c .before .before .before .before .valid .ensures) ∙ c .before .before .before .if1 .taken) (sym (c .before .before .positions-between .ensures) ∙ c .before .if2 .taken) (c .if3 .taken)
+
+indent-tables-requires : tie.Need-indent-tables-requires
+indent-tables-requires c κs =
+    let start = c .before .before .before .before .before .before .before .before .before .before .before .before .before .before in
+    start .pre .0
+
+same-length : tie.Need-same-length
+same-length c = search needs
+
+same-length-2 : tie.Need-same-length-2
+same-length-2 c = search needs
+
+same-length-3 : tie.Need-same-length-3
+same-length-3 c = search needs
+
+returns-2 : tie.Need-returns-2
+returns-2 c =
+    let start = c .before .before .before .before .before .before .before .before .before .before .before .before .before .before .before .before .before .before .before .before .before in
+    given-ran (start .pre .0) (start .args .exclude .now) (start .pre .1) (start .args .indentor .now) (sym (c .before .before .before .before .before .before .before .before .before .before .before .before .before .before .valid .ensures) ∙ c .before .before .before .before .before .before .before .before .before .before .before .before .before .if1 .taken) (sym (c .before .before .before .before .before .before .before .before .before .before .before .before .positions-between .ensures) ∙ c .before .before .before .before .before .before .before .before .before .before .before .if2 .taken) (c .before .before .before .before .before .before .before .before .before .before .if3 .left) (c .before .before .before .before .before .before .indent-tables .ensures)
+
+returns-3 : tie.Need-returns-3
+returns-3 c =
+    let start = c .before .before .before .before .before .before .before .before .before .before in
+    given-inside (start .pre .0) (start .args .exclude .now) (start .pre .1) (start .args .indentor .now) (sym (c .before .before .before .valid .ensures) ∙ c .before .before .if1 .taken) (sym (c .before .positions-between .ensures) ∙ c .if2 .left)
+
+returns-4 : tie.Need-returns-4
+returns-4 c =
+    let start = c .before .before .before .before .before .before .before .before in
+    given-invalid (start .pre .0) (start .args .exclude .now) (start .pre .1) (start .args .indentor .now) (sym (c .before .valid .ensures) ∙ c .if1 .left)
+
+pub by-given-spec : {M : Type 1} → statement M
+by-given-spec =
+    tie.close
+    (tie.spec
+    valid-requires
+    positions-between-requires
+    returns
+    indent-tables-requires
+    same-length
+    same-length-2
+    same-length-3
+    returns-2
+    returns-3
+    returns-4)

@@ -1,0 +1,67 @@
+use Rattle.indent.specs.Call.{short-source, narrow-source, guess-room, guess-in, guess-part, guess-is, none-ran}
+use borrow.Author.Needs.{needs}
+use Rattle.indent.proofs.guessed_in.Statement.{statement}
+use Rattle.indent.proofs.guessed_in.Tie as tie
+
+guess-indentor-requires : tie.Need-guess-indentor-requires
+guess-indentor-requires c κs = narrow-source (c .before .before .before .before .before .before .pre .0)
+
+indentor-len-requires : tie.Need-indentor-len-requires
+indentor-len-requires c κs = search needs
+
+cast-n : tie.Need-cast-n
+cast-n c = search needs
+
+put-indentor-requires : tie.Need-put-indentor-requires
+put-indentor-requires c κs =
+    let start = c .before .before .before .before .before .before .before .before .before in
+    guess-room (start .args .source .now) (c .before .before .guess-indentor .result) (c .before .before .guess-indentor .ensures) (short-source (start .pre .0)) (start .args .out .now) (start .pre .1 .0)
+
+slice-reshare-prefix-indent-tables : tie.Need-slice-reshare-prefix-indent-tables
+slice-reshare-prefix-indent-tables c =
+    let start = c .before .before .before .before .before .before .before .before .before .before .before .before .before .before .before in
+    guess-in (start .args .source .now) (c .before .before .before .before .before .before .before .before .guess-indentor .result) (c .before .before .before .before .before .before .before .before .guess-indentor .ensures) _ _ (c .before .before .before .before .before .before .before .indentor-len .result) (c .before .before .before .before .before .before .before .indentor-len .ensures) (c .before .before .before .before .before .put-indentor .ensures)
+
+slice-aggregate-indent-tables : tie.Need-slice-aggregate-indent-tables
+slice-aggregate-indent-tables c =
+    let start = c .before .before .before .before .before .before .before .before .before .before .before .before .before .before .before .before in
+    guess-part (start .args .source .now) (c .before .before .before .before .before .before .before .before .before .guess-indentor .result) (c .before .before .before .before .before .before .before .before .before .guess-indentor .ensures) _ _ (c .before .before .before .before .before .before .before .before .indentor-len .result) (c .before .before .before .before .before .before .before .before .indentor-len .ensures) (c .before .before .before .before .before .before .put-indentor .ensures)
+
+indent-tables-requires : tie.Need-indent-tables-requires
+indent-tables-requires c κs =
+    let start = c .before .before .before .before .before .before .before .before .before .before .before .before .before .before .before .before in
+    start .pre .0
+
+same-length : tie.Need-same-length
+same-length c = search needs
+
+same-length-2 : tie.Need-same-length-2
+same-length-2 c = search needs
+
+same-length-3 : tie.Need-same-length-3
+same-length-3 c = search needs
+
+same-length-4 : tie.Need-same-length-4
+same-length-4 c = search needs
+
+returns : tie.Need-returns
+returns c =
+    let start = c .before .before .before .before .before .before .before .before .before .before .before .before .before .before .before .before .before .before .before .before .before .before .before in
+    none-ran (start .pre .0) (start .args .exclude .now) (start .pre .1 .1 .0) (start .pre .1 .1 .1) _ (guess-is (start .args .source .now) (c .before .before .before .before .before .before .before .before .before .before .before .before .before .before .before .before .guess-indentor .result) (c .before .before .before .before .before .before .before .before .before .before .before .before .before .before .before .before .guess-indentor .ensures) _ _ (c .before .before .before .before .before .before .before .before .before .before .before .before .before .before .before .indentor-len .result) (c .before .before .before .before .before .before .before .before .before .before .before .before .before .before .before .indentor-len .ensures) (c .before .before .before .before .before .before .before .before .before .before .before .before .before .put-indentor .ensures)) (c .before .before .before .before .before .before .indent-tables .ensures)
+
+pub guessed-in-spec : {M : Type 1} → statement M
+guessed-in-spec =
+    tie.close
+    (tie.spec
+    guess-indentor-requires
+    indentor-len-requires
+    cast-n
+    put-indentor-requires
+    slice-reshare-prefix-indent-tables
+    slice-aggregate-indent-tables
+    indent-tables-requires
+    same-length
+    same-length-2
+    same-length-3
+    same-length-4
+    returns)

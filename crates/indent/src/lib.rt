@@ -1,0 +1,177 @@
+// indent.rs: `indent_with`.
+ghost use mathlib.Core.Path.{_≡_};
+ghost use mathlib.Core.Bool.{true};
+ghost use mathlib.Core.Option.{none, some};
+ghost use Prim.Native.Nat.{_≤_};
+ghost use lib.ListN.{length};
+ghost use Rattle.utf8.specs.Rfc3629.{utf8, between};
+ghost use Rattle.model.specs.Text.{all};
+ghost use Rattle.model.specs.Call.{indent-with, options-valid};
+ghost use Rattle.memory.specs.WellFormed.{WellFormed};
+ghost use Rattle.memory.specs.Calls.{Ran};
+ghost use Rattle.indent.specs.Call.{indentor-of, IndentScratch, IndentRan};
+
+// Whether every position of an exclude list stands between characters.
+fn positions_between(source: &[u8], exclude: &[u32]) -> bool
+    requires { ⌜ utf8 (now source) ≡ true ⌝ }
+    ensures { λ r. ⌜ r ≡ all (between (now (source .entry))) (now (exclude .entry)) ⌝ }
+{
+    let mut i = 0;
+    while i < exclude.len() {
+        if !utf8::boundary(source, exclude[i] as usize) {
+            return false;
+        }
+        i += 1;
+    }
+    true
+}
+
+// The steps and their end, with scratch tables lent.
+fn indent_by(
+    source: &[u8],
+    chunks: &mut [u32],
+    pieces: &mut [u32],
+    store: &mut [u8],
+    t: &mut [u32],
+    p: &mut [u32],
+    s: &mut [u8],
+    indentor: &[u8],
+    exclude: &[u32],
+) -> u32
+    requires { ⌜ WellFormed (now source) (now chunks) (now pieces) (now store) ⌝ }
+    requires { ⌜ IndentScratch (now t) (now p) (now s) ⌝ }
+    ensures { λ r. ⌜ IndentRan (now (indentor .entry)) (now (exclude .entry)) (now (source .entry)) (now (chunks .entry)) (now (pieces .entry)) (now (store .entry))
+        (now (chunks .exit)) (now (pieces .exit)) (now (store .exit)) r ⌝ }
+{
+    frame::load(chunks, pieces, store, t, p, s);
+    let r = indent_steps::indent_steps(source, pieces, store, t, p, s, indentor, exclude);
+    if r == 13 {
+        return 13;
+    }
+    frame::finish(t, p, s, chunks, pieces, store, r)
+}
+
+// The call past its tests, by an indentor.
+fn indent_tables(
+    source: &[u8],
+    chunks: &mut [u32],
+    pieces: &mut [u32],
+    store: &mut [u8],
+    indentor: &[u8],
+    exclude: &[u32],
+) -> u32
+    requires { ⌜ WellFormed (now source) (now chunks) (now pieces) (now store) ⌝ }
+    ensures { λ r. ⌜ IndentRan (now (indentor .entry)) (now (exclude .entry)) (now (source .entry)) (now (chunks .entry)) (now (pieces .entry)) (now (store .entry))
+        (now (chunks .exit)) (now (pieces .exit)) (now (store .exit)) r ⌝ }
+{
+    let rows = 6192usize;
+    let words = 9300usize;
+    let size = 98304usize;
+    let mut t = [0u32; 6192];
+    let mut p = [0u32; 9300];
+    let mut s = [0u8; 98304];
+    indent_by(
+        source,
+        chunks,
+        pieces,
+        store,
+        &mut t[..rows],
+        &mut p[..words],
+        &mut s[..size],
+        indentor,
+        exclude,
+    )
+}
+
+// By the guess, written to a lent buffer as long as the longest source.
+fn guessed_in(
+    source: &[u8],
+    chunks: &mut [u32],
+    pieces: &mut [u32],
+    store: &mut [u8],
+    exclude: &[u32],
+    out: &mut [u8],
+) -> u32
+    requires { ⌜ WellFormed (now source) (now chunks) (now pieces) (now store) ⌝ }
+    requires { ⌜ 16384 ≤ length (now out) ⌝ }
+    requires { ⌜ options-valid (indent-with none (now exclude)) ≡ true ⌝ }
+    requires { ⌜ all (between (now source)) (now exclude) ≡ true ⌝ }
+    ensures { λ r. ⌜ Ran (indent-with none (now (exclude .entry))) (now (source .entry)) (now (chunks .entry)) (now (pieces .entry)) (now (store .entry))
+        (now (chunks .exit)) (now (pieces .exit)) (now (store .exit)) r ⌝ }
+{
+    let g = indent_string::guess_indentor(source);
+    let n = indent_string::indentor_len(g) as usize;
+    indent_string::put_indentor(out, g);
+    indent_tables(source, chunks, pieces, store, &out[..n], exclude)
+}
+
+// Without an indentor: by the guess.
+fn by_guess(
+    source: &[u8],
+    chunks: &mut [u32],
+    pieces: &mut [u32],
+    store: &mut [u8],
+    exclude: &[u32],
+) -> u32
+    requires { ⌜ WellFormed (now source) (now chunks) (now pieces) (now store) ⌝ }
+    requires { ⌜ options-valid (indent-with none (now exclude)) ≡ true ⌝ }
+    requires { ⌜ all (between (now source)) (now exclude) ≡ true ⌝ }
+    ensures { λ r. ⌜ Ran (indent-with none (now (exclude .entry))) (now (source .entry)) (now (chunks .entry)) (now (pieces .entry)) (now (store .entry))
+        (now (chunks .exit)) (now (pieces .exit)) (now (store .exit)) r ⌝ }
+{
+    let size = 16384usize;
+    let mut out = [0u8; 16384];
+    guessed_in(source, chunks, pieces, store, exclude, &mut out[..size])
+}
+
+// With an indentor: 1, 3; an empty one leaves everything.
+fn by_given(
+    source: &[u8],
+    chunks: &mut [u32],
+    pieces: &mut [u32],
+    store: &mut [u8],
+    indentor: &[u8],
+    exclude: &[u32],
+) -> u32
+    requires { ⌜ WellFormed (now source) (now chunks) (now pieces) (now store) ⌝ }
+    requires { ⌜ options-valid (indent-with none (now exclude)) ≡ true ⌝ }
+    ensures { λ r. ⌜ Ran (indent-with (some (now (indentor .entry))) (now (exclude .entry))) (now (source .entry)) (now (chunks .entry)) (now (pieces .entry)) (now (store .entry))
+        (now (chunks .exit)) (now (pieces .exit)) (now (store .exit)) r ⌝ }
+{
+    if utf8::valid(indentor) {
+        if positions_between(source, exclude) {
+            if indentor.len() == 0 {
+                return 0;
+            }
+            return indent_tables(source, chunks, pieces, store, indentor, exclude);
+        }
+        return 3;
+    }
+    1
+}
+
+// `indent_with`: 15 for an exclude list of odd count, then 1 and 3, then the steps by the indentor given or by the guess.
+pub fn indent_with(
+    source: &[u8],
+    chunks: &mut [u32],
+    pieces: &mut [u32],
+    store: &mut [u8],
+    has_indentor: bool,
+    indentor: &[u8],
+    exclude: &[u32],
+) -> u32
+    requires { ⌜ WellFormed (now source) (now chunks) (now pieces) (now store) ⌝ }
+    ensures { λ r. ⌜ Ran (indent-with (indentor-of «has_indentor» (now (indentor .entry))) (now (exclude .entry))) (now (source .entry)) (now (chunks .entry)) (now (pieces .entry)) (now (store .entry))
+        (now (chunks .exit)) (now (pieces .exit)) (now (store .exit)) r ⌝ }
+{
+    if exclude.len() % 2 != 0 {
+        return 15;
+    }
+    if has_indentor {
+        return by_given(source, chunks, pieces, store, indentor, exclude);
+    }
+    if positions_between(source, exclude) {
+        return by_guess(source, chunks, pieces, store, exclude);
+    }
+    3
+}

@@ -1,0 +1,4 @@
+pub mod Indent
+pub mod Walk
+pub mod Growth
+pub mod Past

@@ -1,0 +1,299 @@
+-- The steps of `indent_with`: the head, then the rest, from a desk loaded into scratch tables.
+-- Assumes nothing.
+use mathlib.Core.Path.{_≡_, refl, sym, ap, ap₂, _∙_, subst}
+use mathlib.Core.Bool.{Bool, true, false, _&&_}
+use mathlib.Core.List.{List, [], _∷_, _++_, map}
+use mathlib.Core.Logic.{_⊎_, inl, inr}
+use Prim.Native.Nat.{ℕ, _+_, _*_, _≤_, _<_}
+use native.Mathlib.Omega.{arith}
+use lib.Dec.{leb}
+use lib.ListN.{length, getD, take, length-append, List·getD-append}
+use lib.Seq.{take-at}
+use borrow.Author.Tests.{leb-true}
+use Rattle.utf8.specs.Chars.{All, nil, cons, concat}
+use Rattle.table.specs.Order.{Entry, entryAt, entries}
+use Rattle.model.specs.Text.{Text, sum}
+use Rattle.model.specs.Chunk.{Chunk}
+use Rattle.model.specs.MagicString.{MagicString, Result, ok}
+use Rattle.model.specs.Limits.{full, within, chunk-pieces, chunk-bytes, piece-count, byte-count}
+use Rattle.model.specs.Indent.{Pieces, indent-pieces, indent-by}
+use Rattle.model.specs.WellFormed as model
+use Rattle.memory.specs.Layout.{Place, pieceAt, runOf, chunkOf, magicStringOf}
+use Rattle.memory.specs.WellFormed.{RunIn, ReplacementIn, EntryIn, Readable}
+use Rattle.texts.specs.Over.{part-kept}
+use Rattle.texts.specs.Texts.{concat-cons, concat-nil, run-length}
+use Rattle.texts.specs.Carry.{Below}
+use Rattle.frame.specs.Front.{desk-same, chunks-front}
+use Rattle.frame.specs.Frame.{Did, few-chunks}
+use Rattle.trim_run.specs.Low.{RowsKept, BytesKept, TextLow, EntryLow, run-same, run-still, entries-same, entries-still}
+use Rattle.indent_closed.specs.Indent.{indented-chunks, indented}
+use Rattle.indent_closed.specs.Walk.{indent-by-closed}
+use Rattle.indent_closed.specs.Growth.{past-chunks, past-bytes}
+use Rattle.indent_run.specs.Run.{pieces-length}
+use Rattle.indent_run.specs.Own.{Runs, OwnReady, OwnDone, OwnIndented, LayRoom, Laid}
+use Rattle.indent_rows.specs.Walk.{chunksOf, closedOf, bodyOf}
+use Rattle.indent_steps.specs.Rest.{RestReady, leftOf, tailOf, RestDone}
+
+-- a desk in the rows t and the lent pieces and store; these stand at the front of the scratch ones, p1 and s1
+pub record StepsReady (source t p s p1 s1 : List ℕ) : Type 0 where
+  pub readable : Readable t p s
+  pub desk : model.WellFormed full (magicStringOf source t p s)
+  pub chunks : length t ≡ 6192
+  pub pieces : length p ≡ 4096
+  pub store : length s ≡ 32768
+  pub behind : List ℕ
+  pub after : List ℕ
+  pub pieces-is : p1 ≡ p ++ behind
+  pub store-is : s1 ≡ s ++ after
+  pub long-pieces : length p1 ≡ 9300
+  pub long-store : length s1 ≡ 98304
+
+-- what the steps leave: the model's desk, or 13 where that passes the limits
+pub record IndentSteps (indentor exclude source t p s t2 p2 s2 : List ℕ) (r : ℕ) : Type 0 where
+  pub zero-or : (r ≡ 0) ⊎ (r ≡ 13)
+  pub did : r ≡ 0 → Did (indent-by indentor exclude) source t p s t2 p2 s2 0
+  pub past : r ≡ 13 → within full (indent-by indentor exclude (magicStringOf source t p s) .desk) ≡ false
+
+-- ---- the loaded desk lies below row 2048 and byte 32,768
+module _ (p s y : List ℕ) (lp : length p ≡ 4096) (ls : length s ≡ 32768) where
+  piece-front : (j : ℕ) → j * 2 + 2 ≤ 4096 → pieceAt (p ++ y) j ≡ pieceAt p j
+  piece-front j h =
+      let a : getD (p ++ y) (j * 2) 0 ≡ getD p (j * 2) 0 = List·getD-append p y 0 (j * 2) (omega arith) in
+      let b : getD (p ++ y) (j * 2 + 1) 0 ≡ getD p (j * 2 + 1) 0 = List·getD-append p y 0 (j * 2 + 1) (omega arith) in
+      ap₂ (λ (u v : ℕ). (u, v)) a b
+
+  run-low : (r : Place) → RunIn p s r → Below (p ++ y) 32768 2048 r
+  unfolding RunIn
+  run-low r h k g =
+      let e = ap (λ (x : Place). x .0 + x .1) (piece-front (r .0 + k) (omega (arith, h k g .row))) in
+      (omega (arith, h k g .row), omega (arith, h k g .text, e))
+
+  entry-low : (e : Entry) → EntryIn p s e → EntryLow (p ++ y) 2048 32768 e
+  unfolding ReplacementIn
+  entry-low e h =
+      record { runs = record { intro = run-low (e .intro) (h .runs .intro); outro = run-low (e .outro) (h .runs .outro) }; text = λ n. omega (arith, h .replacement n) }
+
+  entries-low : {es : List Entry} → All (EntryIn p s) es → All (EntryLow (p ++ y) 2048 32768) es
+  entries-low nil = nil
+  entries-low (cons {x = e} h k) = cons (entry-low e h) (entries-low k)
+
+text-low : (p s : List ℕ) (e : Entry) → EntryIn p s e → TextLow (length s) (e .text)
+unfolding ReplacementIn
+text-low p s e h n = h .replacement n
+
+texts-low : (p s : List ℕ) {es : List Entry} → All (EntryIn p s) es → All (λ e. TextLow (length s) (e .text)) es
+texts-low p s nil = nil
+texts-low p s (cons {x = e} h k) = cons (text-low p s e h) (texts-low p s k)
+
+-- ---- tables that grow twice
+rows-then : {a b : ℕ} {p q r : List ℕ} → a ≤ b → RowsKept a p q → RowsKept b q r → RowsKept a p r
+rows-then h x y = record { len = y .len ∙ x .len; rows = λ j k. y .rows j (omega arith) ∙ x .rows j k }
+
+bytes-then : {a b : ℕ} {p q r : List ℕ} → a ≤ b → BytesKept a p q → BytesKept b q r → BytesKept a p r
+bytes-then {a} {b} {p} {q} {r} h x y = record { len = y .len ∙ x .len; bytes = part-kept a 0 b q r (y .bytes) (omega arith) ∙ x .bytes }
+
+concat-sum : (ts : List Text) → length (concat ts) ≡ sum length ts
+concat-sum [] = ap length concat-nil
+concat-sum (t ∷ ts) = ap length (concat-cons t ts) ∙ length-append t (concat ts) ∙ ap (λ (n : ℕ). length t + n) (concat-sum ts)
+
+-- ---- the limits
+and-left : (x y : Bool) → x && y ≡ true → x ≡ true
+and-left true y e = refl
+and-left false y e = e
+
+and-right : (x y : Bool) → x && y ≡ true → y ≡ true
+and-right true y e = e
+and-right false y e = let z : _≡_ {A = ℕ} 0 1 = cc in absurd (omega arith)
+
+few-pieces : (m : MagicString) → within full m ≡ true → piece-count m ≤ 1024
+unfolding within
+few-pieces m e =
+    leb-true (piece-count m) 1024
+    (and-left (leb (piece-count m) 1024) (leb (byte-count m) 32768)
+    (and-right (leb (length (m .chunks)) 512) (leb (piece-count m) 1024 && leb (byte-count m) 32768)
+    (and-right (leb (length (m .source)) 16384) (leb (length (m .chunks)) 512 && (leb (piece-count m) 1024 && leb (byte-count m) 32768)) e)))
+
+module _ (indentor exclude source t p s p1 s1 : List ℕ) (w : StepsReady source t p s p1 s1) where
+  abbrev m : MagicString
+  m = magicStringOf source t p s
+
+  abbrev head : Pieces
+  head = indent-pieces indentor true (runOf p s (entryAt t 0 .intro))
+
+  counted : (entryAt t 0 .intro .1 + entryAt t 0 .outro .1) + sum chunk-pieces (chunksOf t p s) ≤ 1024
+  unfolding magicStringOf
+  counted =
+      omega (
+        arith,
+        few-pieces (magicStringOf source t p s) (w .desk .limits),
+        run-length p s (entryAt t 0 .intro .0) (entryAt t 0 .intro .1),
+        run-length p s (entryAt t 0 .outro .0) (entryAt t 0 .outro .1),
+      )
+
+  intro-valid : All model.Valid (runOf p s (entryAt t 0 .intro))
+  unfolding magicStringOf
+  intro-valid = w .desk .formed .intro
+
+  outro-valid : All model.Valid (runOf p s (entryAt t 0 .outro))
+  unfolding magicStringOf
+  outro-valid = w .desk .formed .outro
+
+  pub steps-lay : LayRoom p1 s1
+  steps-lay = record { rows = omega (arith, w .long-pieces); bytes = omega (arith, w .long-store); rows-narrow = omega (arith, w .long-pieces); narrow = omega (arith, w .long-store) }
+
+  -- what the model leaves
+  closed-is : indent-by indentor exclude m ≡ ok (indented indentor exclude m)
+  closed-is = indent-by-closed indentor exclude m (w .desk .formed)
+
+  past-is : within full (indented indentor exclude m) ≡ false → within full (indent-by indentor exclude m .desk) ≡ false
+  past-is e = ap (λ (x : Result). within full (x .desk)) closed-is ∙ e
+
+  module _ {p2 s2 : List ℕ} (y : Laid indentor p1 s1 p2 s2) where
+    pub head-ready : OwnReady false p s t p2 s2 2049 65536
+    head-ready =
+        record {
+          linked = w .readable .linked;
+          run =
+              record {
+                inside = w .readable .desk .intro;
+                valid = intro-valid;
+                rows = omega (arith, counted, y .rows .len, w .long-pieces);
+                rows-narrow = omega (arith, y .rows .len, w .long-pieces);
+                byte-in = omega (arith, y .bytes .len, w .long-store);
+                narrow = omega (arith, y .bytes .len, w .long-store);
+              };
+        }
+
+    module _ {t3 p3 s3 : List ℕ} {fits mark : Bool} {byte : ℕ} (d : OwnIndented false indentor true (runOf p s (entryAt t 0 .intro)) t p2 s2 2049 65536 t3 p3 s3 fits mark byte) where
+      -- the head alone is too long
+      pub steps-head : fits ≡ false → (t' p' s' : List ℕ) → IndentSteps indentor exclude source t p s t' p' s' 13
+      unfolding indented magicStringOf
+      steps-head e t' p' s' =
+          record {
+            zero-or = inr refl;
+            did = λ e. absurd (omega arith);
+            past = λ _. past-is (past-bytes full (indented indentor exclude m) (omega (arith, d .short e, y .bytes .len, w .long-store, concat-sum (head .pieces))));
+          }
+
+      module _ (e : fits ≡ true) where
+        o : OwnDone false indentor true (runOf p s (entryAt t 0 .intro)) t p2 s2 2049 65536 t3 p3 s3 mark byte
+        o = d .done e
+
+        rows-kept : RowsKept 2048 p1 p3
+        rows-kept = rows-then (omega arith) (y .rows) (o .put .rows)
+
+        bytes-kept : BytesKept 32768 s1 s3
+        bytes-kept = bytes-then (omega arith) (y .bytes) (o .put .bytes)
+
+        up : 65536 ≤ byte
+        up = omega (arith, o .put .byte-is)
+
+        low : All (EntryLow p1 2048 32768) (entries t)
+        low = subst (λ (x : List ℕ). All (EntryLow x 2048 32768) (entries t)) (sym (w .pieces-is)) (entries-low p s (w .behind) (w .pieces) (w .store) (w .readable .chunks))
+
+        chunks-are : chunksOf t3 p3 s3 ≡ chunksOf t p s
+        chunks-are =
+            ap (map (chunkOf p3 s3)) (o .desk .chunks)
+            ∙ entries-same 2048 32768 p1 s1 p3 s3 rows-kept bytes-kept low
+            ∙ ap₂ (λ (x z : List ℕ). map (chunkOf x z) (entries t)) (w .pieces-is) (w .store-is)
+            ∙ chunks-front p s (w .behind) (w .after) (w .readable .chunks)
+
+        formed : model.Formed (bodyOf source (chunksOf t p s))
+        unfolding magicStringOf
+        formed = let f = w .desk .formed in record { source = f .source; covered = f .covered; intro = nil; outro = nil; texts = f .texts }
+
+        head-length : length (head .pieces) ≡ entryAt t 0 .intro .1
+        head-length = pieces-length indentor true (runOf p s (entryAt t 0 .intro)) ∙ run-length p s (entryAt t 0 .intro .0) (entryAt t 0 .intro .1)
+
+        head-at : entryAt t3 0 .intro ≡ (2049, length (head .pieces))
+        head-at = ap (λ (x : Runs). x .0) (o .desk .desk) ∙ ap (λ (n : ℕ). (2049, n)) (sym head-length)
+
+        tail-at : entryAt t3 0 .outro ≡ entryAt t 0 .outro
+        tail-at = ap (λ (x : Runs). x .1) (o .desk .desk)
+
+        head-low : Below p3 byte 3073 (2049, length (head .pieces))
+        head-low k h = let b = o .put .low k h in (omega (arith, b .0, head-length, counted), b .1)
+
+        store-front : take (length s) s3 ≡ s
+        store-front =
+            ap (λ (n : ℕ). take n s3) (w .store) ∙ bytes-kept .bytes ∙ ap (take 32768) (w .store-is) ∙ take-at s (w .after) 32768 (w .store)
+
+        pub rest-ready : RestReady indentor source p s t3 p3 s3 byte
+        rest-ready =
+            record {
+              walk =
+                  record {
+                    linked = o .desk .linked;
+                    formed = subst (λ (x : List Chunk). model.Formed (bodyOf source x)) (sym chunks-are) formed;
+                    low = subst (All (EntryLow p3 3073 byte)) (sym (o .desk .chunks)) (entries-still 2048 32768 p1 p3 rows-kept 3073 byte (omega arith) (omega (arith, up)) low);
+                    texts-low = subst (All (λ e. TextLow (length s) (e .text))) (sym (o .desk .chunks)) (texts-low p s (w .readable .chunks));
+                    store-front = store-front;
+                    store-low = omega (arith, up, w .store);
+                    indentor-row = λ l.
+                        let x = y .row l in
+                        record {
+                          text = run-same 2049 65536 p2 s2 p3 s3 (o .put .rows) (o .put .bytes) (2048, 1) (x .low) ∙ x .text;
+                          low = run-still 2049 65536 p2 p3 (o .put .rows) 3073 byte (omega arith) up (2048, 1) (x .low);
+                        };
+                    few = omega (arith, o .desk .count, few-chunks source t p s (w .desk .limits));
+                    chunk-rows = omega (arith, o .len, w .chunks);
+                    narrow-chunks = omega (arith, o .len, w .chunks);
+                    rows =
+                        omega (
+                          arith,
+                          counted,
+                          ap (sum chunk-pieces) chunks-are,
+                          o .desk .count,
+                          few-chunks source t p s (w .desk .limits),
+                          rows-kept .len,
+                          w .long-pieces,
+                        );
+                    narrow-pieces = omega (arith, rows-kept .len, w .long-pieces);
+                    byte-in = o .put .byte-in;
+                    bytes = omega (arith, up, bytes-kept .len, w .long-store);
+                    narrow = omega (arith, bytes-kept .len, w .long-store);
+                  };
+              head = subst (Below p3 byte 3073) (sym head-at) head-low;
+              inside = subst (RunIn p s) (sym tail-at) (w .readable .desk .outro);
+              valid = subst (λ (x : Place). All model.Valid (runOf p s x)) (sym tail-at) outro-valid;
+              few = omega (arith, counted, ap (sum chunk-pieces) chunks-are, ap (λ (x : Place). x .1) tail-at);
+              long-pieces = rows-kept .len ∙ w .long-pieces;
+              long-store = bytes-kept .len ∙ w .long-store;
+            }
+
+        -- the chunks and the tail, of the desk before
+        closed-same : closedOf indentor exclude source t3 p3 s3 mark ≡ indented-chunks indentor exclude source (head .mark) (chunksOf t p s)
+        closed-same = ap₂ (λ (b : Bool) (cs : List Chunk). indented-chunks indentor exclude source b cs) (o .mark-is) chunks-are
+
+        tail-same : tailOf indentor exclude source p s t3 p3 s3 mark ≡ indent-pieces indentor (indented-chunks indentor exclude source (head .mark) (chunksOf t p s) .mark) (runOf p s (entryAt t 0 .outro))
+        tail-same = ap₂ (λ (b : Bool) (x : Place). indent-pieces indentor b (runOf p s x)) (ap (λ z. z .mark) closed-same) tail-at
+
+        left-is : leftOf indentor exclude source p s t3 p3 s3 mark ≡ indented indentor exclude m
+        unfolding indented magicStringOf
+        left-is = desk-same source (ap (runOf p3 s3) head-at ∙ o .put .run) (ap (λ (x : Pieces). x .pieces) tail-same) (ap (λ z. z .chunks) closed-same)
+
+        module _ {t4 p4 s4 : List ℕ} {r : ℕ} (x : RestDone indentor exclude source p s t3 p3 s3 mark byte t4 p4 s4 r) where
+          past-rest : (512 < length (closedOf indentor exclude source t3 p3 s3 mark .chunks))
+              ⊎ (length s3 < byte + (sum chunk-bytes (closedOf indentor exclude source t3 p3 s3 mark .chunks) + length (concat (tailOf indentor exclude source p s t3 p3 s3 mark .pieces))))
+              → within full (leftOf indentor exclude source p s t3 p3 s3 mark) ≡ false
+          past-rest (inl a) = past-chunks full (leftOf indentor exclude source p s t3 p3 s3 mark) a
+          past-rest (inr b) =
+              past-bytes full (leftOf indentor exclude source p s t3 p3 s3 mark)
+              (omega (
+                arith,
+                b,
+                bytes-kept .len,
+                w .long-store,
+                o .put .byte-is,
+                concat-sum (head .pieces),
+                ap (sum length) (ap (runOf p3 s3) head-at ∙ o .put .run),
+                concat-sum (tailOf indentor exclude source p s t3 p3 s3 mark .pieces),
+              ))
+
+          pub steps-rest : IndentSteps indentor exclude source t p s t4 p4 s4 r
+          steps-rest =
+              record {
+                zero-or = x .zero-or;
+                did = λ z. let g = x .done z in record { readable = g .readable; result = closed-is ∙ ap ok (sym left-is ∙ sym (g .desk)) };
+                past = λ z. past-is (ap (within full) (sym left-is) ∙ past-rest (x .past z));
+              }

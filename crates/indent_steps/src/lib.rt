@@ -1,0 +1,77 @@
+// indent.rs: the steps of `indent_with` on scratch tables: the head, the chunks, the tail.
+ghost use mathlib.Core.Bool.{true};
+ghost use Rattle.indent_steps.specs.Rest.{RestReady, RestDone};
+ghost use Rattle.indent_steps.specs.Steps.{StepsReady, IndentSteps};
+
+// Behind the head: the chunks, then the tail. 13 where the desk would pass a limit.
+fn indent_rest(
+    source: &[u8],
+    pieces: &[u32],
+    store: &[u8],
+    t: &mut [u32],
+    p: &mut [u32],
+    s: &mut [u8],
+    indentor: &[u8],
+    exclude: &[u32],
+    mark: bool,
+    byte: u32,
+) -> u32
+    requires { ⌜ RestReady (now indentor) (now source) (now pieces) (now store) (now t) (now p) (now s) byte ⌝ }
+    ensures { λ r. ⌜ RestDone (now (indentor .entry)) (now (exclude .entry)) (now (source .entry)) (now (pieces .entry)) (now (store .entry))
+        (now (t .entry)) (now (p .entry)) (now (s .entry)) mark byte (now (t .exit)) (now (p .exit)) (now (s .exit)) r ⌝ }
+{
+    let w = indent_rows::indent_chunks(source, store, indentor, exclude, t, p, s, mark, 3073, byte);
+    if w.number != 0 {
+        return 13;
+    }
+    let r = indent_run::indent_own(
+        pieces,
+        store,
+        t,
+        p,
+        s,
+        true,
+        w.top,
+        w.byte,
+        w.mark,
+        indentor,
+    );
+    if !r.fits {
+        return 13;
+    }
+    0
+}
+
+// The indentor as a piece, the head from row 2049 and byte 65,536 on, then the rest. The desk lies in the rows t and the lent pieces and store.
+pub fn indent_steps(
+    source: &[u8],
+    pieces: &[u32],
+    store: &[u8],
+    t: &mut [u32],
+    p: &mut [u32],
+    s: &mut [u8],
+    indentor: &[u8],
+    exclude: &[u32],
+) -> u32
+    requires { ⌜ StepsReady (now source) (now t) (now pieces) (now store) (now p) (now s) ⌝ }
+    ensures { λ r. ⌜ IndentSteps (now (indentor .entry)) (now (exclude .entry)) (now (source .entry)) (now (t .entry)) (now (pieces .entry)) (now (store .entry))
+        (now (t .exit)) (now (p .exit)) (now (s .exit)) r ⌝ }
+{
+    indent_run::lay_indentor(p, s, indentor);
+    let h = indent_run::indent_own(pieces, store, t, p, s, false, 2049, 65536, true, indentor);
+    if !h.fits {
+        return 13;
+    }
+    indent_rest(
+        source,
+        pieces,
+        store,
+        t,
+        p,
+        s,
+        indentor,
+        exclude,
+        h.mark,
+        h.byte,
+    )
+}

@@ -1,0 +1,48 @@
+// What append.rs and prepend.rs share as calls: the tests of the text and the position, then the insertion.
+ghost use mathlib.Core.Bool.{Bool};
+ghost use Rattle.memory.specs.WellFormed.{WellFormed};
+ghost use Rattle.memory.specs.Calls.{Ran};
+ghost use Rattle.insert_call.specs.Insertions.{insertion, addition};
+
+// `append_left`, `append_right`, `prepend_left`, `prepend_right`: 1, 3, then the cut and the piece, left or right of the position, at the front or the back of the list.
+pub fn insert_at(
+    source: &[u8],
+    chunks: &mut [u32],
+    pieces: &mut [u32],
+    store: &mut [u8],
+    at: u32,
+    text: &[u8],
+    left: bool,
+    front: bool,
+) -> u32
+    requires { ⌜ WellFormed (now source) (now chunks) (now pieces) (now store) ⌝ }
+    ensures { λ r. ⌜ Ran (insertion left front at (now (text .entry))) (now (source .entry)) (now (chunks .entry)) (now (pieces .entry)) (now (store .entry))
+        (now (chunks .exit)) (now (pieces .exit)) (now (store .exit)) r ⌝ }
+{
+    if utf8::valid(text) {
+        if utf8::boundary(source, at as usize) {
+            return insert::insert_with(source, chunks, pieces, store, text, at, left, front);
+        }
+        return 3;
+    }
+    1
+}
+
+// `append` and `prepend`: 1, then the piece at the back of the tail or at the front of the head.
+pub fn add_whole(
+    source: &[u8],
+    chunks: &mut [u32],
+    pieces: &mut [u32],
+    store: &mut [u8],
+    text: &[u8],
+    tail: bool,
+) -> u32
+    requires { ⌜ WellFormed (now source) (now chunks) (now pieces) (now store) ⌝ }
+    ensures { λ r. ⌜ Ran (addition tail (now (text .entry))) (now (source .entry)) (now (chunks .entry)) (now (pieces .entry)) (now (store .entry))
+        (now (chunks .exit)) (now (pieces .exit)) (now (store .exit)) r ⌝ }
+{
+    if utf8::valid(text) {
+        return insert::whole_with(source, chunks, pieces, store, text, tail, !tail);
+    }
+    1
+}

@@ -1,0 +1,337 @@
+-- The pass of `live`: a run, a row, and all rows so far.
+use mathlib.Core.Path.{_≡_, refl, sym, ap, ap₂, _∙_, subst}
+use mathlib.Core.Bool.{Bool, true, false, _&&_, cond}
+use mathlib.Core.List.{List, [], _∷_, _++_, map, append-assoc, append-nil}
+use Prim.Native.Nat.{ℕ, zero, suc, _+_, _*_, _-_, _≤_, _<_, min, max}
+use native.Mathlib.Omega.{arith}
+use native.Mathlib.Decide.{ℕ-discrete, decLt}
+use native.Mathlib.Numerals.{add-one}
+use lib.Dec.{leb, eqb}
+use lib.ListN.{length, getD, take, drop, length-drop}
+use lib.Seq.{length-take-le, getD-take}
+use borrow.Author.Tests.{leb-true, ne-eqb, eq-eqb}
+use Rattle.utf8.specs.Chars.{All, nil, cons}
+use Rattle.utf8.specs.CharLaws.{all-back}
+use Rattle.table.specs.Ring.{follow}
+use Rattle.table.specs.Order.{Entry, entryOf, entryAt, entries, order, nextOf, countOf, Linked, inside-at}
+use Rattle.model.specs.Text.{Text, sum}
+use Rattle.model.specs.Chunk.{Chunk}
+use Rattle.model.specs.Limits.{full, within, chunk-pieces, chunk-bytes, piece-count, byte-count, replacement-bytes}
+use Rattle.memory.specs.Layout.{NONE, Place, bytesAt, pieceAt, tabulate, runOf, replacementOf, chunkOf, magicStringOf}
+use Rattle.memory.specs.WellFormed.{PieceIn, RunIn, ReplacementIn, RunsIn, EntryIn, Readable}
+use Rattle.texts.specs.Texts.{run-tabulate, run-length, run-piece}
+use Rattle.texts.specs.Carry.{Below}
+use Rattle.rebuild.specs.Lay.{own, ownOf, EntryBelow}
+use Rattle.on_top.specs.declared.Used.{Used}
+use Rattle.on_top.specs.Live.{LiveIn, TopRow, RunLive, EntryLive, LiveOf, few-uses}
+
+-- ── a run ──
+sum-snoc : {A : Type 0} (w : A → ℕ) (xs : List A) (x : A) → sum w (xs ++ (x ∷ [])) ≡ sum w xs + w x
+sum-snoc w [] x = omega arith
+sum-snoc w (y ∷ ys) x = omega (arith, sum-snoc w ys x)
+
+-- the bytes of the first i texts of a run
+abbrev pub firstBytes : List ℕ → List ℕ → ℕ → ℕ → ℕ
+firstBytes p s at i = sum length (runOf p s (at, i))
+
+bytes-none : (p s : List ℕ) (at : ℕ) → firstBytes p s at 0 ≡ 0
+unfolding runOf
+bytes-none p s at = refl
+
+bytes-more : (p s : List ℕ) (at i : ℕ) → firstBytes p s at (i + 1) ≡ firstBytes p s at i + length (bytesAt s (pieceAt p (at + i)))
+unfolding runOf
+bytes-more p s at i =
+    ap (λ (n : ℕ). sum length (tabulate (λ k. bytesAt s (pieceAt p (at + k))) n)) (add-one i)
+    ∙ sum-snoc length (tabulate (λ k. bytesAt s (pieceAt p (at + k))) i) (bytesAt s (pieceAt p (at + i)))
+
+-- a count that stops at c
+capped-more : (c a x s s' : ℕ) → s ≡ min a c → s' ≡ min (s + x) c → s' ≡ min (a + x) c
+capped-more c a x s s' e f = omega arith
+
+-- i pieces of the run are passed
+pub record RunAt (p s : List ℕ) (at n : ℕ) (c : Used) (i bytes byte : ℕ) : Type 0 where
+  pub upto : i ≤ n
+  pub bytes-are : bytes ≡ min (c .bytes + firstBytes p s at i) 32769
+  pub below : (k : ℕ) → k < i → pieceAt p (at + k) .0 + pieceAt p (at + k) .1 ≤ byte
+  pub grows : c .byte ≤ byte
+  pub inside : byte ≤ length s
+
+pub run-start : (p s : List ℕ) (at n : ℕ) (c : Used) → LiveIn p s c → RunAt p s at n c 0 (c .bytes) (c .byte)
+run-start p s at n c h =
+    record {
+      upto = omega arith;
+      bytes-are = omega (arith, bytes-none p s at, h .bytes);
+      below = λ k g. absurd (omega arith);
+      grows = omega arith;
+      inside = h .byte;
+    }
+
+pub run-more : {p s : List ℕ} {at n : ℕ} {c : Used} {i bytes byte : ℕ} (text : List ℕ) (bytes' e byte' : ℕ) → RunIn p s (at, n) → RunAt p s at n c i bytes byte → i < n
+    → text ≡ bytesAt s (pieceAt p (at + i)) → bytes' ≡ min (bytes + length text) 32769 → e ≡ pieceAt p (at + i) .0 + pieceAt p (at + i) .1 → byte' ≡ max byte e
+    → RunAt p s at n c (i + 1) bytes' byte'
+run-more {p} {s} {at} {n} {c} {i} {bytes} {byte} text bytes' e byte' h r g et eb ee em =
+    let x = length (bytesAt s (pieceAt p (at + i))) in
+    let y : bytes' ≡ min (bytes + x) 32769 = eb ∙ ap (λ (l : List ℕ). min (bytes + length l) 32769) et in
+    let q = run-piece p s at n i h g in
+    record {
+      upto = omega arith;
+      bytes-are = capped-more 32769 (c .bytes + firstBytes p s at i) x bytes bytes' (r .bytes-are) y ∙ ap (λ (z : ℕ). min z 32769) (omega (arith, bytes-more p s at i));
+      below = λ k l.
+          elim (decLt k i) [
+            | yes u ↦ omega (arith, r .below k u)
+            | no u ↦ subst (λ (j : ℕ). pieceAt p (at + j) .0 + pieceAt p (at + j) .1 ≤ byte') (same i k l u) (omega arith)
+          ];
+      grows = omega (arith, r .grows);
+      inside = omega (arith, r .inside, q .text);
+    }
+  where
+    same : (i k : ℕ) → k < i + 1 → (k < i → ⊥) → i ≡ k
+    same i k l u = omega arith
+
+pub below-of : {p s : List ℕ} {at n : ℕ} {c : Used} {i bytes byte row row' : ℕ} → RunAt p s at n c i bytes byte → n ≤ i → TopRow at n row row' → Below p byte row' (at, n)
+below-of r g t k h = (omega (arith, t .some (λ e. omega arith)), r .below k (omega arith))
+
+row-up : (p s : List ℕ) (at n row row' : ℕ) → RunIn p s (at, n) → row * 2 ≤ length p → TopRow at n row row' → (row ≤ row') × (row' * 2 ≤ length p)
+row-up p s at n row row' h l t =
+    elim (ℕ-discrete n 0) [
+      | yes e ↦ let a = t .none e in (omega arith, omega arith)
+      | no e ↦
+          let a = t .some e in
+          let q = run-piece p s at n (n - 1) h (omega arith) .row in
+          (omega arith, omega arith)
+    ]
+
+pub run-end : {p s : List ℕ} {at n : ℕ} {c : Used} {i bytes byte pieces row : ℕ} → RunIn p s (at, n) → LiveIn p s c → RunAt p s at n c i bytes byte → n ≤ i → pieces ≡ min (c .pieces + n) 1025
+    → TopRow at n (c .row) row → RunLive p s (at, n) c (record { pieces = pieces; bytes = bytes; row = row; byte = byte })
+run-end {p} {s} {at} {n} {c} {i} {bytes} {byte} {pieces} {row} h l r g ep t =
+    let e : i ≡ n = omega (arith, r .upto) in
+    let u = row-up p s at n (c .row) row h (l .row) t in
+    record {
+      pieces = ep;
+      bytes = r .bytes-are ∙ ap (λ (y : ℕ). min (c .bytes + firstBytes p s at y) 32769) e;
+      below = below-of r g t;
+      row-grows = u .0;
+      byte-grows = r .grows;
+      inside = record { pieces = omega arith; bytes = omega (arith, r .bytes-are); row = u .1; byte = r .inside };
+    }
+
+-- ── a row ──
+pieces-of : (p s : List ℕ) (e : Entry) → chunk-pieces (chunkOf p s e) ≡ e .intro .1 + e .outro .1
+pieces-of p s e = omega (arith, run-length p s (e .intro .0) (e .intro .1), run-length p s (e .outro .0) (e .outro .1))
+
+text-bytes : (s : List ℕ) (r : Place) → ReplacementIn s r → (r .0 ≡ NONE → ⊥) → replacement-bytes (replacementOf s r) ≡ r .1
+unfolding replacementOf ReplacementIn
+text-bytes s r h e = rw (ne-eqb (r .0) NONE e) (length-take-le (r .1) (drop (r .0) s) (simp length-drop (omega (arith, h e))))
+
+no-bytes : (s : List ℕ) (r : Place) → r .0 ≡ NONE → replacement-bytes (replacementOf s r) ≡ 0
+unfolding replacementOf
+no-bytes s r e = rw (eq-eqb (r .0) NONE e)
+
+text-in : (s : List ℕ) (r : Place) → ReplacementIn s r → (r .0 ≡ NONE → ⊥) → r .0 + r .1 ≤ length s
+unfolding ReplacementIn
+text-in s r h e = h e
+
+below-up : (p : List ℕ) (byte row byte' row' : ℕ) (x : Place) → Below p byte row x → row ≤ row' → byte ≤ byte' → Below p byte' row' x
+below-up p byte row byte' row' x h a b k g = (omega (arith, h k g .0), omega (arith, h k g .1))
+
+-- counts that stop at c, one after another
+two-counts : (c a x y r s z : ℕ) → r ≡ min (a + x) c → s ≡ min (r + y) c → z ≡ x + y → s ≡ min (a + z) c
+two-counts c a x y r s z e f g = omega arith
+
+three-counts : (c a x y w r s u v : ℕ) → r ≡ min (a + x) c → s ≡ min (r + y) c → u ≡ min (s + w) c → v ≡ w → u ≡ min (a + (x + y + v)) c
+three-counts c a x y w r s u v e f g h = omega arith
+
+module _ {p s : List ℕ} (e : Entry) {c a b : Used} (x : RunLive p s (e .intro) c a) (y : RunLive p s (e .outro) a b) where
+  two-runs : b .pieces ≡ min (c .pieces + chunk-pieces (chunkOf p s e)) 1025
+  two-runs = two-counts 1025 (c .pieces) (e .intro .1) (e .outro .1) (a .pieces) (b .pieces) (chunk-pieces (chunkOf p s e)) (x .pieces) (y .pieces) (pieces-of p s e)
+
+  pub entry-none : e .text .0 ≡ NONE → EntryLive p s e c b
+  entry-none h =
+      record {
+        pieces = two-runs;
+        bytes = three-counts 32769 (c .bytes) (sum length (runOf p s (e .intro))) (sum length (runOf p s (e .outro))) 0 (a .bytes) (b .bytes) (b .bytes) (replacement-bytes (replacementOf s (e .text)))
+            (x .bytes) (y .bytes) (omega (arith, y .inside .bytes)) (no-bytes s (e .text) h);
+        below = record { intro = below-up p (a .byte) (a .row) (b .byte) (b .row) (e .intro) (x .below) (y .row-grows) (y .byte-grows); outro = y .below; text = λ n. absurd (n h) };
+        row-grows = omega (arith, x .row-grows, y .row-grows);
+        byte-grows = omega (arith, x .byte-grows, y .byte-grows);
+        inside = y .inside;
+      }
+
+  pub entry-some : (bytes byte : ℕ) → (e .text .0 ≡ NONE → ⊥) → ReplacementIn s (e .text) → bytes ≡ min (b .bytes + e .text .1) 32769 → byte ≡ max (b .byte) (e .text .0 + e .text .1)
+      → EntryLive p s e c (record { pieces = b .pieces; bytes = bytes; row = b .row; byte = byte })
+  entry-some bytes byte h r eb em =
+      let q = text-in s (e .text) r h in
+      record {
+        pieces = two-runs;
+        bytes = three-counts 32769 (c .bytes) (sum length (runOf p s (e .intro))) (sum length (runOf p s (e .outro))) (e .text .1) (a .bytes) (b .bytes) bytes (replacement-bytes (replacementOf s (e .text)))
+            (x .bytes) (y .bytes) eb (text-bytes s (e .text) r h);
+        below =
+            record {
+              intro = below-up p (a .byte) (a .row) byte (b .row) (e .intro) (x .below) (y .row-grows) (omega (arith, y .byte-grows));
+              outro = below-up p (b .byte) (b .row) byte (b .row) (e .outro) (y .below) (omega arith) (omega arith);
+              text = λ n. omega arith;
+            };
+        row-grows = omega (arith, x .row-grows, y .row-grows);
+        byte-grows = omega (arith, x .byte-grows, y .byte-grows);
+        inside = record { pieces = y .inside .pieces; bytes = omega arith; row = y .inside .row; byte = omega (arith, y .inside .byte) };
+      }
+
+-- ── the walk ──
+pub record LiveAt (t p s : List ℕ) (m cur pieces bytes row byte : ℕ) : Type 0 where
+  pub done : List ℕ
+  pub place : order t ≡ done ++ follow (nextOf t) m cur
+  pub pieces-are : pieces ≡ min (sum chunk-pieces (map (chunkOf p s) (own t ∷ map (entryAt t) done))) 1025
+  pub bytes-are : bytes ≡ min (sum chunk-bytes (map (chunkOf p s) (own t ∷ map (entryAt t) done))) 32769
+  pub below : All (EntryBelow p byte row) (own t ∷ map (entryAt t) done)
+  pub inside : LiveIn p s (record { pieces = pieces; bytes = bytes; row = row; byte = byte })
+
+abbrev pub noUse : Used
+noUse = record { pieces = 0; bytes = 0; row = 0; byte = 0 }
+
+pub none-in : (p s : List ℕ) → LiveIn p s noUse
+none-in p s = record { pieces = omega arith; bytes = omega arith; row = omega arith; byte = omega arith }
+
+pub own-in : {t p s : List ℕ} → Readable t p s → EntryIn p s (own t)
+unfolding ReplacementIn
+own-in h = record { runs = record { intro = h .desk .intro; outro = h .desk .outro }; replacement = λ n. absurd (n refl) }
+
+pub live-start : (t p s : List ℕ) (e : Entry) (c : Used) → e ≡ own t → EntryLive p s e noUse c → LiveAt t p s (countOf t) (nextOf t 0) (c .pieces) (c .bytes) (c .row) (c .byte)
+unfolding order
+live-start t p s e c q l =
+    let a : chunk-pieces (chunkOf p s e) ≡ chunk-pieces (chunkOf p s (own t)) = ap (λ (x : Entry). chunk-pieces (chunkOf p s x)) q in
+    let b : chunk-bytes (chunkOf p s e) ≡ chunk-bytes (chunkOf p s (own t)) = ap (λ (x : Entry). chunk-bytes (chunkOf p s x)) q in
+    record {
+      done = [];
+      place = refl;
+      pieces-are = omega (arith, l .pieces);
+      bytes-are = omega (arith, l .bytes);
+      below = cons (subst (EntryBelow p (c .byte) (c .row)) q (l .below)) nil;
+      inside = l .inside;
+    }
+
+map-snoc : {A B : Type 0} (f : A → B) (xs : List A) (x : A) → map f (xs ++ (x ∷ [])) ≡ map f xs ++ (f x ∷ [])
+map-snoc f [] x = refl
+map-snoc {A} {B} f (y ∷ ys) x = ap (λ (l : List B). f y ∷ l) (map-snoc f ys x)
+
+map-append : {A B : Type 0} (f : A → B) (xs ys : List A) → map f (xs ++ ys) ≡ map f xs ++ map f ys
+map-append f [] ys = refl
+map-append {A} {B} f (x ∷ xs) ys = ap (λ (l : List B). f x ∷ l) (map-append f xs ys)
+
+all-first : {A : Type 0} {P : A → Type 0} {x : A} {xs : List A} → All P (x ∷ xs) → P x
+all-first (cons h k) = h
+
+all-rest : {A : Type 0} {P : A → Type 0} {x : A} {xs : List A} → All P (x ∷ xs) → All P xs
+all-rest (cons h k) = k
+
+all-snoc : {A : Type 0} {P : A → Type 0} {xs : List A} {x : A} → All P xs → P x → All P (xs ++ (x ∷ []))
+all-snoc nil h = cons h nil
+all-snoc (cons a k) h = cons a (all-snoc k h)
+
+entry-up : {p : List ℕ} {byte row byte' row' : ℕ} (e : Entry) → EntryBelow p byte row e → row ≤ row' → byte ≤ byte' → EntryBelow p byte' row' e
+entry-up {p} {byte} {row} {byte'} {row'} e h a b =
+    record { intro = below-up p byte row byte' row' (e .intro) (h .intro) a b; outro = below-up p byte row byte' row' (e .outro) (h .outro) a b; text = λ n. omega (arith, h .text n) }
+
+entries-up : {p : List ℕ} {byte row byte' row' : ℕ} {es : List Entry} → All (EntryBelow p byte row) es → row ≤ row' → byte ≤ byte' → All (EntryBelow p byte' row') es
+entries-up nil a b = nil
+entries-up (cons {x = e} h k) a b = cons (entry-up e h a b) (entries-up k a b)
+
+module _ {t p s : List ℕ} {m cur pieces bytes row byte : ℕ} (h : Readable t p s) (c : LiveAt t p s (suc m) cur pieces bytes row byte) where
+  pub live-in : EntryIn p s (entryAt t cur)
+  live-in =
+      all-first (all-back (EntryIn p s) (map (entryAt t) (c .done)) (map (entryAt t) (follow (nextOf t) (suc m) cur))
+      (subst (All (EntryIn p s)) (ap (map (entryAt t)) (c .place) ∙ map-append (entryAt t) (c .done) (follow (nextOf t) (suc m) cur)) (h .chunks)))
+
+  pub live-place : cur * 12 + 12 ≤ length t
+  live-place = omega (arith, h .linked .room, inside-at t (c .done) cur (follow (nextOf t) m (nextOf t cur)) (h .linked) (c .place) .1)
+
+  more : (w : Chunk → ℕ) → sum w (map (chunkOf p s) (own t ∷ map (entryAt t) (c .done ++ (cur ∷ [])))) ≡ sum w (map (chunkOf p s) (own t ∷ map (entryAt t) (c .done))) + w (chunkOf p s (entryAt t cur))
+  more w =
+      let e : map (chunkOf p s) (map (entryAt t) (c .done ++ (cur ∷ []))) ≡ map (chunkOf p s) (map (entryAt t) (c .done)) ++ (chunkOf p s (entryAt t cur) ∷ []) =
+      ap (map (chunkOf p s)) (map-snoc (entryAt t) (c .done) cur) ∙ map-snoc (chunkOf p s) (map (entryAt t) (c .done)) (entryAt t cur) in
+      rw e (sum-snoc w (chunkOf p s (own t) ∷ map (chunkOf p s) (map (entryAt t) (c .done))) (chunkOf p s (entryAt t cur)))
+
+  pub live-more : (d : Used) → EntryLive p s (entryAt t cur) (record { pieces = pieces; bytes = bytes; row = row; byte = byte }) d
+      → LiveAt t p s m (nextOf t cur) (d .pieces) (d .bytes) (d .row) (d .byte)
+  live-more d l =
+      record {
+        done = c .done ++ (cur ∷ []);
+        place = c .place ∙ sym (append-assoc (c .done) (cur ∷ []) (follow (nextOf t) m (nextOf t cur)));
+        pieces-are = capped-more 1025 _ _ pieces (d .pieces) (c .pieces-are) (l .pieces) ∙ ap (λ (x : ℕ). min x 1025) (sym (more chunk-pieces));
+        bytes-are = capped-more 32769 _ _ bytes (d .bytes) (c .bytes-are) (l .bytes) ∙ ap (λ (x : ℕ). min x 32769) (sym (more chunk-bytes));
+        below =
+            cons (all-first (entries-up (c .below) (l .row-grows) (l .byte-grows)))
+            (subst (All (EntryBelow p (d .byte) (d .row))) (sym (map-snoc (entryAt t) (c .done) cur)) (all-snoc (all-rest (entries-up (c .below) (l .row-grows) (l .byte-grows))) (l .below)));
+        inside = l .inside;
+      }
+
+pub record Loop (t p s : List ℕ) (n k cur pieces bytes row byte : ℕ) : Type 0 where
+  pub upto : k ≤ n
+  pub at : LiveAt t p s (n - k) cur pieces bytes row byte
+
+pub loop-next : {t p s : List ℕ} {n k cur pieces bytes row byte : ℕ} → Loop t p s n k cur pieces bytes row byte → k < n → LiveAt t p s (suc (n - (k + 1))) cur pieces bytes row byte
+loop-next {n = n} {k = k} l g = let e : n - k ≡ suc (n - (k + 1)) = omega arith in rw e at (l .at)
+
+-- ── the rows and bytes below the places ──
+word-below : (p : List ℕ) (m i : ℕ) → i < m → getD (take m p) i 0 ≡ getD p i 0
+word-below p m i h = getD-take m p i 0 h
+
+module _ (p s : List ℕ) (byte row : ℕ) (hr : row * 2 ≤ length p) (hb : byte ≤ length s) where
+  piece-below : (j : ℕ) → j < row → pieceAt (take (row * 2) p) j ≡ pieceAt p j
+  piece-below j h =
+      ap₂ (λ (u v : ℕ). (u, v)) (word-below p (row * 2) (j * 2) (omega arith)) (word-below p (row * 2) (j * 2 + 1) (omega arith))
+
+  run-below : (x : Place) → Below p byte row x → RunIn (take (row * 2) p) (take byte s) x
+  unfolding RunIn
+  run-below x h k g =
+      let a = h k g in
+      let e = ap (λ (r : Place). r .0 + r .1) (piece-below (x .0 + k) (a .0)) in
+      let lp = length-take-le (row * 2) p hr in
+      let ls = length-take-le byte s hb in
+      record { row = omega arith; text = omega arith }
+
+  text-below : (x : Place) → ((x .0 ≡ NONE → ⊥) → x .0 + x .1 ≤ byte) → ReplacementIn (take byte s) x
+  unfolding ReplacementIn
+  text-below x h n = omega (arith, h n, length-take-le byte s hb)
+
+  entry-below : (e : Entry) → EntryBelow p byte row e → EntryIn (take (row * 2) p) (take byte s) e
+  entry-below e h = record { runs = record { intro = run-below (e .intro) (h .intro); outro = run-below (e .outro) (h .outro) }; replacement = text-below (e .text) (h .text) }
+
+  entries-below : {es : List Entry} → All (EntryBelow p byte row) es → All (EntryIn (take (row * 2) p) (take byte s)) es
+  entries-below nil = nil
+  entries-below (cons {x = e} h k) = cons (entry-below e h) (entries-below k)
+
+-- ── the end ──
+capped-all : (c a s : ℕ) → s ≡ min a (suc c) → a ≤ c → s ≡ a
+capped-all c a s e h = omega arith
+
+module _ {t p s : List ℕ} {n k cur pieces bytes row byte : ℕ} (l : Loop t p s n k cur pieces bytes row byte) (g : n ≤ k) where
+  all-done : entries t ≡ map (entryAt t) (l .at .done)
+  all-done = let e : n - k ≡ 0 = omega arith in ap (map (entryAt t)) (l .at .place ∙ ap (λ (m : ℕ). l .at .done ++ follow (nextOf t) m cur) e ∙ append-nil (l .at .done))
+
+  pieces-all : pieces ≡ min (piece-count (magicStringOf [] t p s)) 1025
+  unfolding magicStringOf
+  pieces-all = rw all-done (l .at .pieces-are)
+
+  bytes-all : bytes ≡ min (byte-count (magicStringOf [] t p s)) 32769
+  unfolding magicStringOf replacementOf
+  bytes-all = rw all-done (l .at .bytes-are ∙ ap (λ (x : ℕ). min x 32769) (omega arith))
+
+  pub live-end : Readable t p s → within full (magicStringOf [] t p s) ≡ true → LiveOf t p s (record { pieces = pieces; bytes = bytes; row = row; byte = byte })
+  live-end h w =
+      let f = few-uses [] t p s w in
+      let b = l .at .below in
+      let hr = l .at .inside .row in
+      let hb = l .at .inside .byte in
+      let o = entry-below p s byte row hr hb (own t) (all-first b) in
+      record {
+        pieces = capped-all 1024 (piece-count (magicStringOf [] t p s)) pieces pieces-all (f .0);
+        bytes = capped-all 32768 (byte-count (magicStringOf [] t p s)) bytes bytes-all (f .1);
+        readable =
+            record {
+              linked = h .linked;
+              desk = record { intro = o .runs .intro; outro = o .runs .outro };
+              chunks = rw all-done (entries-below p s byte row hr hb (all-rest b));
+            };
+        row = hr;
+        byte = hb;
+      }

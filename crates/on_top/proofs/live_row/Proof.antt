@@ -1,0 +1,82 @@
+use mathlib.Core.Path.{_≡_, refl, sym, ap, _∙_}
+use Prim.Native.Nat.{ℕ, _+_, _≤_, max, min}
+use native.Mathlib.Omega.{arith}
+use Rattle.table.specs.Order.{entryOf}
+use Rattle.on_top.proofs.Passing.{entry-none, entry-some}
+use borrow.Author.Needs.{needs}
+use Rattle.on_top.proofs.live_row.Statement.{statement}
+use Rattle.on_top.proofs.live_row.Tie as tie
+use Rattle.on_top.proofs.live_row.Reads as reads
+use Rattle.on_top.proofs.live_row.Lts as lts
+use Rattle.frame.proofs.add_capped.Reads as add-capped-reads
+use Rattle.on_top.proofs.larger.Reads as larger-reads
+use Rattle.on_top.proofs.live_run.Reads as live-run-reads
+use Rattle.on_top.proofs.wide.Reads as wide-reads
+
+live-run-requires : tie.Need-live-run-requires
+live-run-requires c κs =
+    let start = c .before .before in
+    (start .pre .0 .runs .intro, start .pre .1)
+
+live-run-requires-2 : tie.Need-live-run-requires-2
+live-run-requires-2 c κs =
+    let start = c .before .before .before in
+    let live-run = c .live-run in
+    (start .pre .0 .runs .outro, live-run .ensures .inside)
+
+returns : tie.Need-returns
+returns c =
+    let start = c .before .before .before .before .before .before in
+    let live-run = c .before .before .before .live-run in
+    let live-run2 = c .before .before .live-run2 in
+    let if1 = c .if1 in
+    entry-none (entryOf (start .args .r)) (live-run .ensures) (live-run2 .ensures) (if1 .taken)
+
+wide-requires : tie.Need-wide-requires
+wide-requires c κs = search needs
+
+add-capped-requires : tie.Need-add-capped-requires
+add-capped-requires c κs =
+    let live-run2 = c .before .before .before .live-run2 in
+    omega (arith, live-run2 .ensures .inside .bytes)
+
+wide-requires-2 : tie.Need-wide-requires-2
+wide-requires-2 c κs = search needs
+
+add-larger : tie.Need-add-larger
+add-larger c =
+    let wide2 = c .wide2 in
+    let wide = c .before .before .wide in
+    omega (arith, wide .ensures .1, wide2 .ensures .1)
+
+larger-requires : tie.Need-larger-requires
+larger-requires c κs = search needs
+
+returns-2 : tie.Need-returns-2
+returns-2 c =
+    let start = c .before .before .before .before .before .before .before .before .before .before in
+    let live-run = c .before .before .before .before .before .before .before .live-run in
+    let live-run2 = c .before .before .before .before .before .before .live-run2 in
+    let if1 = c .before .before .before .before .if1 in
+    let wide = c .before .before .before .wide in
+    let wide2 = c .before .wide2 in
+    let add-capped = c .before .before .add-capped in
+    let larger = c .larger in
+    let e = entryOf (start .args .r) in
+    entry-some e (live-run .ensures) (live-run2 .ensures) (add-capped .result) (larger .result) (if1 .left) (start .pre .0 .replacement)
+    (add-capped .ensures ∙ ap (λ (x : ℕ). min (live-run2 .result .bytes + x) 32769) (wide .ensures .0))
+    (larger .ensures ∙ omega (arith, wide .ensures .0, wide2 .ensures .0))
+
+pub live-row-spec : {M : Type 1} → statement M
+live-row-spec =
+    tie.close
+    (tie.spec
+    live-run-requires
+    live-run-requires-2
+    returns
+    wide-requires
+    add-capped-requires
+    wide-requires-2
+    add-larger
+    larger-requires
+    returns-2)

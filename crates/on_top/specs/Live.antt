@@ -1,0 +1,105 @@
+-- What one pass over a desk finds: its pieces and bytes, and a row and a byte above all that it uses.
+use mathlib.Core.Path.{_≡_, refl, sym, ap₂, _∙_}
+use mathlib.Core.List.{List, [], _++_}
+use mathlib.Core.Bool.{Bool, true, false, _&&_}
+use Prim.Native.Nat.{ℕ, _+_, _*_, _≤_, _<_, max, min}
+use native.Mathlib.Omega.{arith}
+use lib.Dec.{leb}
+use borrow.Author.Tests.{leb-true}
+use lib.ListN.{length, take, drop, take-append-drop}
+use Rattle.table.specs.Order.{Entry}
+use Rattle.model.specs.Text.{sum}
+use Rattle.model.specs.Limits.{full, within, chunk-pieces, chunk-bytes, piece-count, byte-count}
+use Rattle.memory.specs.Layout.{Place, runOf, chunkOf, magicStringOf}
+use Rattle.memory.specs.WellFormed.{Readable, WellFormed}
+use Rattle.texts.specs.Carry.{Below}
+use Rattle.rebuild.specs.Lay.{EntryBelow}
+use Rattle.frame.specs.Front.{desk-front}
+use Rattle.on_top.specs.declared.Used.{Used}
+
+-- counts up to one past the limits, and places inside the tables
+pub record LiveIn (p s : List ℕ) (c : Used) : Type 0 where
+  pub pieces : c .pieces ≤ 1025
+  pub bytes : c .bytes ≤ 32769
+  pub row : c .row * 2 ≤ length p
+  pub byte : c .byte ≤ length s
+
+-- a row above a run too
+pub record TopRow (at n row row' : ℕ) : Type 0 where
+  pub none : n ≡ 0 → row' ≡ row
+  pub some : (n ≡ 0 → ⊥) → row' ≡ max row (at + n)
+
+pub record RunLive (p s : List ℕ) (x : Place) (c d : Used) : Type 0 where
+  pub pieces : d .pieces ≡ min (c .pieces + x .1) 1025
+  pub bytes : d .bytes ≡ min (c .bytes + sum length (runOf p s x)) 32769
+  pub below : Below p (d .byte) (d .row) x
+  pub row-grows : c .row ≤ d .row
+  pub byte-grows : c .byte ≤ d .byte
+  pub inside : LiveIn p s d
+
+pub record EntryLive (p s : List ℕ) (e : Entry) (c d : Used) : Type 0 where
+  pub pieces : d .pieces ≡ min (c .pieces + chunk-pieces (chunkOf p s e)) 1025
+  pub bytes : d .bytes ≡ min (c .bytes + chunk-bytes (chunkOf p s e)) 32769
+  pub below : EntryBelow p (d .byte) (d .row) e
+  pub row-grows : c .row ≤ d .row
+  pub byte-grows : c .byte ≤ d .byte
+  pub inside : LiveIn p s d
+
+-- the desk's pieces and bytes; and it is read from the rows and bytes below the two places alone
+pub record LiveOf (t p s : List ℕ) (l : Used) : Type 0 where
+  pub pieces : l .pieces ≡ piece-count (magicStringOf [] t p s)
+  pub bytes : l .bytes ≡ byte-count (magicStringOf [] t p s)
+  pub readable : Readable t (take (l .row * 2) p) (take (l .byte) s)
+  pub row : l .row * 2 ≤ length p
+  pub byte : l .byte ≤ length s
+
+-- counts inside the limits and places inside the lent tables
+pub record Small (l : Used) : Type 0 where
+  pub pieces : l .pieces ≤ 1024
+  pub bytes : l .bytes ≤ 32768
+  pub row : l .row ≤ 2048
+  pub byte : l .byte ≤ 32768
+
+-- n chunks, a piece more and len bytes more keep the limits; and there is room on top for any run with a piece more, and for the bytes
+pub record Room (l : Used) (n len : ℕ) : Type 0 where
+  pub chunks : n ≤ 512
+  pub pieces : l .pieces < 1024
+  pub rows : l .row + l .pieces < 2048
+  pub places : l .byte + len ≤ 32768
+  pub bytes : l .bytes + len ≤ 32768
+
+and-right : (x y : Bool) → x && y ≡ true → y ≡ true
+and-right true y e = e
+and-right false y e = let z : _≡_ {A = ℕ} 0 1 = cc in absurd (omega arith)
+
+and-left : (x y : Bool) → x && y ≡ true → x ≡ true
+and-left true y e = refl
+and-left false y e = e
+
+-- a desk that keeps the limits
+pub few-uses : (source t p s : List ℕ) → within full (magicStringOf source t p s) ≡ true → (piece-count (magicStringOf [] t p s) ≤ 1024) × (byte-count (magicStringOf [] t p s) ≤ 32768)
+unfolding within magicStringOf
+few-uses source t p s e =
+    let m = magicStringOf [] t p s in
+    let u = and-right (leb (length (m .chunks)) 512) _ (and-right (leb (length source) 16384) _ e) in
+    (leb-true (piece-count m) 1024 (and-left (leb (piece-count m) 1024) _ u), leb-true (byte-count m) 32768 (and-right (leb (piece-count m) 1024) _ u))
+
+pub live-small : {source t p s : List ℕ} {l : Used} → WellFormed source t p s → LiveOf t p s l → Small l
+live-small {source} {t} {p} {s} {l} w h =
+    let f = few-uses source t p s (w .desk .limits) in
+    record {
+      pieces = omega (arith, f .0, h .pieces);
+      bytes = omega (arith, f .1, h .bytes);
+      row = omega (arith, h .row, w .sized .pieces);
+      byte = omega (arith, h .byte, w .sized .store);
+    }
+
+-- ── the rows and bytes below the two places ──
+module _ (t p s : List ℕ) (row byte : ℕ) (h : Readable t (take (row * 2) p) (take byte s)) where
+  below-desk : Readable t (take (row * 2) p ++ drop (row * 2) p) (take byte s ++ drop byte s)
+      × ((source : List ℕ) → magicStringOf source t (take (row * 2) p ++ drop (row * 2) p) (take byte s ++ drop byte s) ≡ magicStringOf source t (take (row * 2) p) (take byte s))
+  below-desk = desk-front (take (row * 2) p) (take byte s) (drop (row * 2) p) (drop byte s) t h
+
+  -- they hold the desk
+  pub read-below : (source : List ℕ) → magicStringOf source t p s ≡ magicStringOf source t (take (row * 2) p) (take byte s)
+  read-below source = ap₂ (λ (a b : List ℕ). magicStringOf source t a b) (sym (take-append-drop (row * 2) p)) (sym (take-append-drop byte s)) ∙ below-desk .1 source

@@ -1,0 +1,218 @@
+// Texts on top of the lent tables: above every piece row and every store byte that the desk uses, so that nothing in use is written.
+ghost use mathlib.Core.Path.{_≡_};
+ghost use mathlib.Core.Bool.{true, false};
+ghost use mathlib.Core.List.{[]};
+ghost use Prim.Native.Nat.{_+_, _*_, _≤_, _<_, max};
+ghost use lib.ListN.{length};
+ghost use Rattle.table.specs.Order.{entryOf};
+ghost use Rattle.model.specs.Limits.{full, within};
+ghost use Rattle.memory.specs.Layout.{pieceAt, magicStringOf};
+ghost use Rattle.texts.specs.Over.{over};
+ghost use Rattle.memory.specs.WellFormed.{RunIn, EntryIn, Readable};
+ghost use Rattle.on_top.specs.Live.{LiveIn, TopRow, RunLive, EntryLive, LiveOf, Small, Room};
+ghost use Rattle.on_top.specs.Run.{rowWords, TopRoom, Lengthened};
+
+// How many pieces and bytes a desk has (counted up to one past the limits), and a row and a byte above every piece list and every text of it.
+pub struct Used {
+    pub pieces: usize,
+    pub bytes: usize,
+    pub row: usize,
+    pub byte: usize,
+}
+
+fn wide(x: u32) -> usize
+    ensures { λ r. ⌜ (r ≡ x) × (r ≤ 4294967295) ⌝ }
+{
+    x as usize
+}
+
+fn larger(a: usize, b: usize) -> usize
+    ensures { λ r. ⌜ r ≡ max a b ⌝ }
+{
+    if a < b {
+        return b;
+    }
+    a
+}
+
+// The byte behind the text that a row of the piece table names.
+fn piece_end(p: &[u32], row: usize) -> usize
+    requires { ⌜ row * 2 + 2 ≤ length (now p) ⌝ }
+    ensures { λ r. ⌜ r ≡ pieceAt (now (p .entry)) row .0 + pieceAt (now (p .entry)) row .1 ⌝ }
+{
+    let at = wide(p[row * 2]);
+    let n = wide(p[row * 2 + 1]);
+    at + n
+}
+
+// A row above a run too; an empty run is not looked at.
+fn top_row(at: u32, n: u32, row: usize) -> usize
+    ensures { λ r. ⌜ TopRow at n row r ⌝ }
+{
+    if n == 0 {
+        return row;
+    }
+    larger(row, wide(at) + wide(n))
+}
+
+// A run's pieces and bytes added to the counts, and places above it too.
+fn live_run(p: &[u32], s: &[u8], at: u32, n: u32, c: Used) -> Used
+    requires { ⌜ RunIn (now p) (now s) (at, n) ⌝ }
+    requires { ⌜ LiveIn (now p) (now s) c ⌝ }
+    ensures { λ d. ⌜ RunLive (now (p .entry)) (now (s .entry)) (at, n) c d ⌝ }
+{
+    let first = at as usize;
+    let count = n as usize;
+    let mut bytes = c.bytes;
+    let mut byte = c.byte;
+    let mut i = 0;
+    while i < count {
+        let text = texts::text_of(p, s, first + i);
+        bytes = frame::add_capped(bytes, text.len(), 32769);
+        byte = larger(byte, piece_end(p, first + i));
+        i += 1;
+    }
+    let pieces = frame::add_capped(c.pieces, count, 1025);
+    let row = top_row(at, n, c.row);
+    Used {
+        pieces,
+        bytes,
+        row,
+        byte,
+    }
+}
+
+// The same for a row's two runs and its replacement.
+fn live_row(p: &[u32], s: &[u8], r: table::Row, c: Used) -> Used
+    requires { ⌜ EntryIn (now p) (now s) (entryOf r) ⌝ }
+    requires { ⌜ LiveIn (now p) (now s) c ⌝ }
+    ensures { λ d. ⌜ EntryLive (now (p .entry)) (now (s .entry)) (entryOf r) c d ⌝ }
+{
+    let a = live_run(p, s, r.intro_at, r.intro_n, c);
+    let b = live_run(p, s, r.outro_at, r.outro_n, a);
+    if r.text_at == texts::NONE {
+        return b;
+    }
+    let n = wide(r.text_n);
+    Used {
+        pieces: b.pieces,
+        bytes: frame::add_capped(b.bytes, n, 32769),
+        row: b.row,
+        byte: larger(b.byte, wide(r.text_at) + n),
+    }
+}
+
+// One pass over the desk.
+pub fn live(t: &[u32], p: &[u32], s: &[u8]) -> Used
+    requires { ⌜ Readable (now t) (now p) (now s) ⌝ }
+    requires { ⌜ within full (magicStringOf [] (now t) (now p) (now s)) ≡ true ⌝ }
+    ensures { λ l. ⌜ LiveOf (now (t .entry)) (now (p .entry)) (now (s .entry)) l ⌝ }
+{
+    let z = table::get_row(t, 0);
+    let n = z.start;
+    let c = live_row(
+        p,
+        s,
+        rebuild::own_row(z),
+        Used {
+            pieces: 0,
+            bytes: 0,
+            row: 0,
+            byte: 0,
+        },
+    );
+    let mut pieces = c.pieces;
+    let mut bytes = c.bytes;
+    let mut row = c.row;
+    let mut byte = c.byte;
+    let mut cur = z.next;
+    let mut k = 0;
+    while k < n {
+        let r = table::get_row(t, cur);
+        let d = live_row(
+            p,
+            s,
+            r,
+            Used {
+                pieces,
+                bytes,
+                row,
+                byte,
+            },
+        );
+        pieces = d.pieces;
+        bytes = d.bytes;
+        row = d.row;
+        byte = d.byte;
+        cur = r.next;
+        k += 1;
+    }
+    Used {
+        pieces,
+        bytes,
+        row,
+        byte,
+    }
+}
+
+// Whether n chunks, a piece more and len bytes more keep the limits, and the tables have room on top for any run with a piece more, and for the bytes.
+pub fn has_room(l: Used, n: u32, len: usize) -> bool
+    requires { ⌜ Small l ⌝ }
+    ensures { λ r. ⌜ (r ≡ true → Room l n len) × (r ≡ false → Room l n len → ⊥) ⌝ }
+{
+    if n > 512 {
+        return false;
+    }
+    if l.pieces >= 1024 {
+        return false;
+    }
+    if l.row + l.pieces >= 2048 {
+        return false;
+    }
+    if len > 32768 - l.byte {
+        return false;
+    }
+    if len > 32768 - l.bytes {
+        return false;
+    }
+    true
+}
+
+// The rows of a run, copied to rows above it.
+fn copy_rows(p: &mut [u32], at: u32, n: u32, to: usize)
+    requires { ⌜ (0 < n → at + n ≤ to) ⌝ }
+    requires { ⌜ (to + n) * 2 ≤ length (now p) ⌝ }
+    ensures { λ _. ⌜ now (p .exit) ≡ over (now (p .entry)) (to * 2) (rowWords (now (p .entry)) (at, n)) ⌝ }
+{
+    let from = at as usize * 2;
+    let count = n as usize * 2;
+    let start = to * 2;
+    let mut k = 0;
+    while k < count {
+        p[start + k] = p[from + k];
+        k += 1;
+    }
+}
+
+// A run with a text more in front of it or behind, on top of the tables: the rows of the run are copied to `row`, the text goes to `byte`.
+pub fn lengthen(
+    p: &mut [u32],
+    s: &mut [u8],
+    text: &[u8],
+    front: bool,
+    at: u32,
+    n: u32,
+    row: usize,
+    byte: usize,
+)
+    requires { ⌜ TopRoom (at, n) (now text) (now p) (now s) row byte ⌝ }
+    ensures { λ _. ⌜ Lengthened front (now (text .entry)) (at, n) row byte (now (p .entry)) (now (s .entry)) (now (p .exit)) (now (s .exit)) ⌝ }
+{
+    if front {
+        texts::push_piece(p, s, text, byte, row);
+        copy_rows(p, at, n, row + 1);
+        return;
+    }
+    copy_rows(p, at, n, row);
+    texts::push_piece(p, s, text, byte, row + n as usize);
+}

@@ -1,0 +1,63 @@
+use mathlib.Core.Path.{sym}
+use native.Mathlib.Omega.{arith}
+use Rattle.frame.specs.Frame.{zeros-length, zeros-at}
+use borrow.Author.Needs.{needs}
+use Rattle.relocate.proofs.relocate_scratch.Statement.{statement}
+use Rattle.relocate.proofs.relocate_scratch.Tie as tie
+use Rattle.relocate.proofs.relocate_scratch.Reads as reads
+use Rattle.relocate.proofs.relocate_scratch.Lts as lts
+use Rattle.relocate.proofs.relocate_by.Reads as relocate-by-reads
+
+array-borrow-prefix-t : tie.Need-array-borrow-prefix-t
+array-borrow-prefix-t c = search needs
+
+slice-aggregate-relocate-by : tie.Need-slice-aggregate-relocate-by
+slice-aggregate-relocate-by c =
+    sym (zeros-length 6192 6192 (omega arith))
+
+array-borrow-prefix-p : tie.Need-array-borrow-prefix-p
+array-borrow-prefix-p c = search needs
+
+slice-aggregate-relocate-by-2 : tie.Need-slice-aggregate-relocate-by-2
+slice-aggregate-relocate-by-2 c =
+    sym (zeros-length 4096 4096 (omega arith))
+
+array-borrow-prefix-s : tie.Need-array-borrow-prefix-s
+array-borrow-prefix-s c = search needs
+
+slice-aggregate-relocate-by-3 : tie.Need-slice-aggregate-relocate-by-3
+slice-aggregate-relocate-by-3 c =
+    sym (zeros-length 32768 32768 (omega arith))
+
+relocate-by-requires : tie.Need-relocate-by-requires
+relocate-by-requires c κs =
+    let start = c .before .before .before .before .before .before .before .before .before .before in
+    (start .pre .0, (record { chunks = zeros-length 6192 6192 (omega arith); clear = zeros-at 6192 6192; pieces = rw (zeros-length 4096 4096 (omega arith)) (omega arith); store = rw (zeros-length 32768 32768 (omega arith)) (omega arith) }, start .pre .1))
+
+same-length : tie.Need-same-length
+same-length c = search needs
+
+same-length-2 : tie.Need-same-length-2
+same-length-2 c = search needs
+
+same-length-3 : tie.Need-same-length-3
+same-length-3 c = search needs
+
+returns : tie.Need-returns
+returns c = search needs
+
+pub relocate-scratch-spec : {M : Type 1} → statement M
+relocate-scratch-spec =
+    tie.close
+    (tie.spec
+    array-borrow-prefix-t
+    slice-aggregate-relocate-by
+    array-borrow-prefix-p
+    slice-aggregate-relocate-by-2
+    array-borrow-prefix-s
+    slice-aggregate-relocate-by-3
+    relocate-by-requires
+    same-length
+    same-length-2
+    same-length-3
+    returns)

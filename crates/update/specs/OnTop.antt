@@ -1,0 +1,127 @@
+-- `update_with` on the lent tables themselves: the cuts and clears of their rows, and the replacement above all texts in use.
+use mathlib.Core.Path.{_≡_, refl, sym, ap, ap₂, _∙_, subst}
+use mathlib.Core.Bool.{Bool, true, false, _&&_, cond}
+use mathlib.Core.List.{List, [], _∷_, _++_}
+use Prim.Native.Nat.{ℕ, _+_, _*_, _≤_, _<_}
+use native.Mathlib.Omega.{arith}
+use lib.Dec.{leb, eqb}
+use lib.ListN.{length, take, drop, length-take, length-map, take-append-drop}
+use lib.Seq.{length-take-le}
+use borrow.Author.Tests.{le-leb}
+use Rattle.table.specs.Order.{entryAt, entries, countOf}
+use Rattle.model.specs.Text.{sum}
+use Rattle.model.specs.MagicString.{MagicString, Result}
+use Rattle.model.specs.Limits.{full, within, piece-count, byte-count, replacement-bytes}
+use Rattle.model.specs.Call.{update-with, refused-before}
+use Rattle.memory.specs.Layout.{NONE, Place, bytesAt, replacementOf, chunkOf, magicStringOf}
+use Rattle.memory.specs.WellFormed.{Sized, Readable, WellFormed, Disjoint, among, pieceUses, runUses, replacementUses}
+use Rattle.memory.specs.Calls.{Ran}
+use Rattle.rows.specs.Split.{count-entries}
+use Rattle.uses.specs.Counted.{countIn, nothing, counts-rows, counts-store, sum-lists}
+use Rattle.closed_forms.specs.Spans.{Cover}
+use Rattle.frame.specs.Front.{bool-elim, desk-front}
+use Rattle.frame.specs.Frame.{Did}
+use Rattle.in_place.specs.InPlace.{ran-in-place}
+use Rattle.split.specs.Cuts.{Spans, formed-spans}
+use Rattle.on_top.specs.declared.Used.{Used}
+use Rattle.on_top.specs.Live.{LiveOf, Room, read-below}
+use Rattle.on_top.specs.Apart.{rowUses, storeUses, apart-after, store-uses-front}
+use Rattle.update_rows.specs.Steps.{update-past, update-is}
+use Rattle.update_rows.specs.Replaced.{Replaced, own-lists, replaced-pieces, replaced-bytes}
+use Rattle.update.specs.Calls.{UpdateSteps}
+
+-- ── rows and bytes stay apart ──
+text-uses : (b : ℕ) (x : Place) → replacementUses b x ≤ among x b
+unfolding replacementUses
+text-uses b x = bool-elim (eqb (x .0) NONE) (λ e. rw e (omega arith)) (λ e. rw e (omega arith))
+
+module _ (t t' P S : List ℕ) (row byte n : ℕ) (h : Readable t (take (row * 2) P) (take byte S)) (hr : row * 2 ≤ length P) (hb : byte ≤ length S) (k : Replaced t t' (byte, n)) where
+  abbrev p : List ℕ
+  p = take (row * 2) P
+
+  abbrev y : List ℕ
+  y = drop (row * 2) P
+
+  rows : (j : ℕ) → rowUses t' j ≤ rowUses t j
+  rows j =
+      omega (
+        arith,
+        own-lists k (λ r. among r j),
+        sum-lists (λ r. among r j) (entries t),
+        sum-lists (λ r. among r j) (entries t'),
+        k .less (λ r. among r j) nothing (counts-rows j),
+      )
+
+  bytes : (b : ℕ) → storeUses t' (p ++ y) b ≤ storeUses t p b + among (byte, n) b
+  bytes b =
+      omega (
+        arith,
+        own-lists k (runUses (p ++ y) b),
+        k .less (runUses (p ++ y) b) (replacementUses b) (counts-store (p ++ y) b),
+        text-uses b (byte, n),
+        store-uses-front p (take byte S) y b t h,
+      )
+
+  replaced-apart : Disjoint t P → Disjoint t' P
+  replaced-apart d =
+      subst (Disjoint t') (take-append-drop (row * 2) P)
+      (apart-after t t' p (take byte S) y y (length P, 0) (byte, n) h (subst (Disjoint t) (sym (take-append-drop (row * 2) P)) d)
+      (omega (arith, length-take-le (row * 2) P hr)) (omega (arith, length-take-le byte S hb)) (λ j. omega (arith, rows j)) bytes)
+
+-- ── the limits ──
+text-few : (s : List ℕ) (x : Place) → replacement-bytes (replacementOf s x) ≤ x .1
+unfolding replacementOf
+text-few s x = bool-elim (eqb (x .0) NONE) (λ e. rw e (omega arith)) (λ e. rw e (simp length-take (omega arith)))
+
+chunk-count : (t p s : List ℕ) → length (magicStringOf [] t p s .chunks) ≡ countOf t
+unfolding magicStringOf
+chunk-count t p s = length-map (entries t) (chunkOf p s) ∙ count-entries t
+
+no-source : (t p s : List ℕ) → leb (length (magicStringOf [] t p s .source)) 16384 ≡ true
+unfolding magicStringOf
+no-source t p s = refl
+
+within-few : (t p s : List ℕ) → countOf t ≤ 512 → piece-count (magicStringOf [] t p s) ≤ 1024 → byte-count (magicStringOf [] t p s) ≤ 32768 → within full (magicStringOf [] t p s) ≡ true
+unfolding within
+within-few t p s c a b =
+    let m = magicStringOf [] t p s in
+    rw (no-source t p s, le-leb (length (m .chunks)) 512 (omega (arith, chunk-count t p s)), le-leb (piece-count m) 1024 a, le-leb (byte-count m) 32768 b)
+
+module _ (t t' P S S' : List ℕ) (l : Used) (n m : ℕ) (lv : LiveOf t P S l) (rm : Room l m n) (k : Replaced t t' (l .byte, n)) (same : take (l .byte) S' ≡ take (l .byte) S) where
+  -- the desk before, with the store after
+  before : magicStringOf [] t P S' ≡ magicStringOf [] t P S
+  before =
+      let p = take (l .row * 2) P in
+      let s = take (l .byte) S in
+      let e : S' ≡ s ++ drop (l .byte) S' = sym (take-append-drop (l .byte) S') ∙ ap (λ (u : List ℕ). u ++ drop (l .byte) S') same in
+      ap₂ (λ (u v : List ℕ). magicStringOf [] t u v) (sym (take-append-drop (l .row * 2) P)) e
+      ∙ desk-front p s (drop (l .row * 2) P) (drop (l .byte) S') t (lv .readable) .1 []
+      ∙ sym (read-below t P S (l .row) (l .byte) (lv .readable) [])
+
+  replaced-within : countOf t' ≤ 512 → within full (magicStringOf [] t' P S') ≡ true
+  replaced-within few =
+      within-few t' P S' few (omega (arith, replaced-pieces k P S', ap piece-count before, lv .pieces, rm .pieces))
+      (omega (arith, replaced-bytes k P S', text-few S' (l .byte, n), ap byte-count before, lv .bytes, rm .bytes))
+
+-- ── the call ──
+pub update-top-ran : {a b : ℕ} {text : List ℕ} {o : Bool} {n : ℕ} {source t P S t' S' : List ℕ} {l : Used} {r : ℕ} → a < b → WellFormed source t P S
+    → refused-before (magicStringOf source t P S) (update-with a b text o) ≡ 0 → LiveOf t P S l → Room l (countOf t + 2) (length text) → UpdateSteps a b text o n (l .byte) t S t' S' r
+    → length source ≡ n → length t' ≡ length t → length S' ≡ length S → Ran (update-with a b text o) source t P S t' P S' r
+update-top-ran {a} {b} {text} {o} {n} {source} {t} {P} {S} {t'} {S'} {l} {r} ab w h lv rm x ln lt ls =
+    let p = take (l .row * 2) P in
+    let s = take (l .byte) S in
+    let y = drop (l .row * 2) P in
+    let z = drop (l .byte) S in
+    let no = x .short (omega (arith, rm .places)) in
+    let same = read-below t P S (l .row) (l .byte) (lv .readable) source in
+    let sp : Spans source t p s = subst (λ (m : MagicString). Cover source (m .chunks)) same (formed-spans w) in
+    let g : Did (update-past a b text o) source t p s t' P S' r =
+    subst (λ (u : List ℕ). Did (update-past a b text o) source t p s t' u S' r) (take-append-drop (l .row * 2) P)
+    (x .leave no source p s y z ln (lv .readable) sp (sym (take-append-drop (l .byte) S)) (length-take-le (l .byte) S (lv .byte))) in
+    ran-in-place w h
+    (record { readable = g .readable; result = update-is a b text o (magicStringOf source t P S) ab ∙ ap (update-past a b text o) same ∙ g .result })
+    (x .writes no)
+    (record { chunks = lt ∙ w .sized .chunks; pieces = w .sized .pieces; store = ls ∙ w .sized .store })
+    (x .replaced .each (w .each))
+    (replaced-apart t t' P S (l .row) (l .byte) (length text) (lv .readable) (lv .row) (lv .byte) (x .replaced) (w .disjoint))
+    (replaced-within t t' P S S' l (length text) (countOf t + 2) lv rm (x .replaced) (x .below (lv .byte)) (omega (arith, x .count, rm .chunks)))

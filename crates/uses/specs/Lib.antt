@@ -1,0 +1,3 @@
+pub mod Counted
+pub mod Kept
+pub mod Steps

@@ -1,0 +1,138 @@
+/* A paper in C: a script is opened and edits are filed on it, with the running
+ * text after each, refusals in words, and the desk chunk by chunk at the end.
+ *
+ *   rt staticlib magic_string
+ *   gcc -Iinclude examples/c/paper.c target/staticlib/libmagic_string.a -o
+ * paper
+ */
+#include "magic_string.h"
+
+#include <stdio.h>
+#include <string.h>
+
+static const char script[] = "Here is Ålesund Radio.\n"
+                             "  Wind north, 12 knots.\n"
+                             "  Air 7 °C, sea calm.\n"
+                             "Good night – over.\n";
+
+/* What is lent to the calls. */
+static uint32_t chunks[MAGIC_STRING_CHUNKS_LEN];
+static uint32_t pieces[MAGIC_STRING_PIECES_LEN];
+static uint8_t store[MAGIC_STRING_STORE_LEN];
+static uint8_t out[MAGIC_STRING_SOURCE_BYTES + MAGIC_STRING_STORE_BYTES];
+
+#define TEXT(t) (const uint8_t *)(t), strlen(t)
+#define DESK                                                                   \
+  TEXT(script), chunks, MAGIC_STRING_CHUNKS_LEN, pieces,                       \
+      MAGIC_STRING_PIECES_LEN, store, MAGIC_STRING_STORE_LEN
+
+static const char *const words[16] = {
+    "done",
+    "text not UTF-8",
+    "desk not well formed",
+    "position inside a character",
+    "end before start",
+    "replace zero width",
+    "cut inside a non-empty replacement",
+    "replace across a moved edge",
+    "move into itself",
+    "moved range not together",
+    "end past source",
+    "slice starts inside a replaced chunk",
+    "slice ends inside a replaced chunk",
+    "the desk would break a limit",
+    "output buffer too short",
+    "pattern above 1, or an exclude list of odd count"};
+
+/* The place of a text in the script: its first byte, and the first behind. */
+static uint32_t start(const char *text) {
+  return (uint32_t)(strstr(script, text) - script);
+}
+
+static uint32_t end(const char *text) {
+  return start(text) + (uint32_t)strlen(text);
+}
+
+/* Says what a call answered, and shows the running text if it was done. */
+static void file(const char *call, magic_string_answer answer) {
+  printf("%s: %u, %s\n", call, (unsigned)answer.number, words[answer.number]);
+  if (answer.number == 0) {
+    uint32_t n = magic_string_to_string(DESK, out, sizeof out).value;
+    fwrite(out, 1, n, stdout);
+  }
+  putchar('\n');
+}
+
+/* Prints bytes between quotes, line feeds as \n. */
+static void quote(const uint8_t *text, uint32_t n) {
+  putchar('"');
+  for (uint32_t i = 0; i < n; i++) {
+    if (text[i] == '\n')
+      fputs("\\n", stdout);
+    else
+      putchar(text[i]);
+  }
+  putchar('"');
+}
+
+/* Prints a piece list, if it has any: n rows of pieces from row `at`, each of
+ * two words, where its text begins in the store and how many bytes it has. */
+static void list(const char *name, uint32_t at, uint32_t n) {
+  if (n == 0)
+    return;
+  printf("  %10s ", name);
+  for (uint32_t i = at; i < at + n; i++) {
+    putchar(' ');
+    quote(store + pieces[2 * i], pieces[2 * i + 1]);
+  }
+  putchar('\n');
+}
+
+/* Prints the desk, following the list from row 0 until it comes back there. */
+static void draw(void) {
+  const uint32_t *row = chunks;
+  printf("\nThe desk, chunk by chunk:\n");
+  list("head", row[MAGIC_STRING_INTRO_AT], row[MAGIC_STRING_INTRO_N]);
+  while (row[MAGIC_STRING_NEXT] != 0) {
+    row = chunks + row[MAGIC_STRING_NEXT] * MAGIC_STRING_ROW;
+    uint32_t from = row[MAGIC_STRING_START], to = row[MAGIC_STRING_END];
+    list("intro", row[MAGIC_STRING_INTRO_AT], row[MAGIC_STRING_INTRO_N]);
+    printf("  %3u to %-3u  ", (unsigned)from, (unsigned)to);
+    quote((const uint8_t *)script + from, to - from);
+    if (row[MAGIC_STRING_TEXT_AT] != MAGIC_STRING_NONE) {
+      printf(" is replaced by ");
+      quote(store + row[MAGIC_STRING_TEXT_AT], row[MAGIC_STRING_TEXT_N]);
+    }
+    putchar('\n');
+    list("outro", row[MAGIC_STRING_OUTRO_AT], row[MAGIC_STRING_OUTRO_N]);
+  }
+  list("tail", chunks[MAGIC_STRING_OUTRO_AT], chunks[MAGIC_STRING_OUTRO_N]);
+}
+
+int main(void) {
+  file("open", magic_string_open(DESK));
+  file("replace north",
+       magic_string_update_with(DESK, start("north"), end("north"),
+                                TEXT("north-west"), 0));
+  file("add behind 12",
+       magic_string_append_left(DESK, end("12"), TEXT(" to 15")));
+  file("add before over",
+       magic_string_append_right(DESK, start("over"), TEXT("and ")));
+  file("remove the sea",
+       magic_string_remove(DESK, start(", sea"), end("calm")));
+  file("move the air before the wind",
+       magic_string_relocate(DESK, start("  Air"), start("Good"),
+                             start("  Wind")));
+  file("remove from inside the Å",
+       magic_string_remove(DESK, start("Å") + 1, end("Å")));
+  file("add inside a replaced word",
+       magic_string_append_left(DESK, start("north") + 1, TEXT("?")));
+  file("replace across the moved line",
+       magic_string_update_with(DESK, start("Radio"), end("Wind"), TEXT("?"),
+                                0));
+  file("reset past the source", magic_string_reset(DESK, 0, UINT32_MAX));
+  file("append", magic_string_append(DESK, TEXT("73 \n\n")));
+  file("trim the end", magic_string_trim_end(DESK, 0));
+  draw();
+  return 0;
+}
