@@ -3,8 +3,6 @@
 // number, its value, the bytes that it wrote and the tables that it left are compared with the
 // record. A line that differs is printed with its number; at the end, how many calls of each kind
 // and of each number were replayed, and how many of them differ.
-mod calls;
-mod judge;
 mod record;
 mod tell;
 
@@ -75,11 +73,11 @@ fn lines(
 
 // Tables, a source and counts, all zeros at first.
 fn replay(input: &[u8], tally: &mut [u32]) {
-    let most = 16384usize;
+    let most = 20480usize;
     let words = 6156usize;
     let rows = 4096usize;
     let size = 32768usize;
-    let mut source = [0u8; 16384];
+    let mut source = [0u8; 20480];
     let mut chunks = [0u32; 6156];
     let mut pieces = [0u32; 4096];
     let mut store = [0u8; 32768];

@@ -2,10 +2,10 @@
 ghost use mathlib.Core.Path.{_≡_};
 ghost use Prim.Native.Nat.{_≤_};
 ghost use lib.ListN.{length};
-ghost use Rattle.replay.specs.Agreed.{Inside};
-use crate::calls::Call;
-use crate::judge::Expected;
+ghost use Rattle.replay_judge.specs.Agreed.{Inside};
 use crate::tell::Told;
+use replay_calls::Call;
+use replay_judge::Expected;
 use replay_read::Read;
 
 // The columns of a line, if it is a record: the kind, how far the buffers are filled, and numbers.
@@ -124,10 +124,14 @@ fn no_record(n: usize) -> Told
     }
 }
 
-// The source in use after an opening, and how long it is.
-fn use_source(text: &[u8], source: &mut [u8]) -> usize
+// How long the source in use is: an opening has its text as the source.
+fn use_source(kind: u32, text: &[u8], source: &mut [u8], n: usize) -> usize
+    requires { ⌜ n ≤ length (now source) ⌝ }
     ensures { λ r. ⌜ r ≤ length (now (source .exit)) ⌝ }
 {
+    if kind != 0 {
+        return n;
+    }
     if source.len() < text.len() {
         return 0;
     }
@@ -135,90 +139,21 @@ fn use_source(text: &[u8], source: &mut [u8]) -> usize
     text.len()
 }
 
-// An opening: the text is the source, and stays in use if it is accepted.
-fn opening(
-    k: Call,
-    e: Expected,
-    source: &mut [u8],
-    n: usize,
-    chunks: &mut [u32],
-    pieces: &mut [u32],
-    store: &mut [u8],
-    text: &[u8],
-    bytes: &[u8],
-    out: &mut [u8],
-) -> Told
-    requires { ⌜ n ≤ length (now source) ⌝ }
-    ensures { λ r. ⌜ r .source ≤ length (now (source .exit)) ⌝ }
+// Where the excluded positions of an indent begin among n numbers.
+fn behind_first(n: usize) -> usize
+    ensures { λ r. ⌜ (r ≤ n) × (r ≤ 1) ⌝ }
 {
-    let o = crate::judge::play(k, e, text, chunks, pieces, store, b"", bytes, out);
-    let mut m = n;
-    if o.number == 0 {
-        m = use_source(text, source);
+    if n == 0 {
+        return 0;
     }
-    Told {
-        kind: k.kind,
-        expected: e.number,
-        number: o.number,
-        value: o.value,
-        agrees: o.agrees,
-        source: m,
-    }
+    1
 }
 
-// Any other call, on the source in use.
-fn calling(
-    k: Call,
-    e: Expected,
-    source: &[u8],
-    chunks: &mut [u32],
-    pieces: &mut [u32],
-    store: &mut [u8],
-    text: &[u8],
-    bytes: &[u8],
-    out: &mut [u8],
-) -> Told
-    ensures { λ r. ⌜ r .source ≡ length (now (source .entry)) ⌝ }
-{
-    let o = crate::judge::play(k, e, source, chunks, pieces, store, text, bytes, out);
-    Told {
-        kind: k.kind,
-        expected: e.number,
-        number: o.number,
-        value: o.value,
-        agrees: o.agrees,
-        source: source.len(),
-    }
-}
-
-// An opening or another call, with its texts cut out of their buffers.
-fn turn(
-    k: Call,
-    e: Expected,
-    source: &mut [u8],
-    n: usize,
-    chunks: &mut [u32],
-    pieces: &mut [u32],
-    store: &mut [u8],
-    text: &[u8],
-    bytes: &[u8],
-    out: &mut [u8],
-) -> Told
-    requires { ⌜ n ≤ length (now source) ⌝ }
-    ensures { λ r. ⌜ r .source ≤ length (now (source .exit)) ⌝ }
-{
-    if k.kind == 0 {
-        return opening(k, e, source, n, chunks, pieces, store, text, bytes, out);
-    }
-    calling(k, e, &source[..n], chunks, pieces, store, text, bytes, out)
-}
-
-// The columns' parts of the buffers, and a buffer to lend with 24 bytes behind it.
+// The call, on the source in use and the columns' parts of the buffers. The buffer to lend has 24 bytes behind it.
 fn cut(
     c: Columns,
     a: Answered,
-    source: &mut [u8],
-    n: usize,
+    source: &[u8],
     chunks: &mut [u32],
     pieces: &mut [u32],
     store: &mut [u8],
@@ -227,10 +162,10 @@ fn cut(
     bytes: &[u8],
     out: &mut [u8],
 ) -> Told
-    requires { ⌜ n ≤ length (now source) ⌝ }
     requires { ⌜ Inside (c .numbers) (now numbers) × Inside (c .text) (now text) × Inside (c .bytes) (now bytes) ⌝ }
-    ensures { λ r. ⌜ r .source ≤ length (now (source .exit)) ⌝ }
+    ensures { λ r. ⌜ r .source ≡ length (now (source .entry)) ⌝ }
 {
+    let n = source.len();
     let width = a.room as usize + 24;
     if out.len() < width {
         return no_record(n);
@@ -238,20 +173,29 @@ fn cut(
     let named = c.numbers;
     let texts = c.text;
     let written = c.bytes;
+    let from = behind_first(named);
     let k = call_of(c.kind, a.room, &numbers[..named]);
     let e = a.expected;
-    turn(
+    let o = replay_judge::play(
         k,
         e,
         source,
-        n,
         chunks,
         pieces,
         store,
         &text[..texts],
+        &numbers[from..named],
         &bytes[..written],
         &mut out[..width],
-    )
+    );
+    Told {
+        kind: c.kind,
+        expected: e.number,
+        number: o.number,
+        value: o.value,
+        agrees: o.agrees,
+        source: n,
+    }
 }
 
 // A line, with buffers lent.
@@ -273,11 +217,12 @@ fn record_by(
     let c = read_columns(line, numbers, text, bytes);
     let a = answer_of(line);
     if both(c.good, a.good) {
+        let k = c.text;
+        let m = use_source(c.kind, &text[..k], source, n);
         return cut(
             c,
             a,
-            source,
-            n,
+            &source[..m],
             chunks,
             pieces,
             store,

@@ -5,7 +5,8 @@ use libc::STDOUT_FILENO;
 pub const UNKNOWN: u32 = 29;
 
 // The names, in the order of their numbers.
-const NAMES: [u8; 303] = *b"open remove reset relocate append_left append_right prepend_left prepend_right append prepend update_with trim trim_start trim_end trim_lines indent_with slice to_string last_line get_indent_string len len_utf16 line_count is_empty has_changed is_range_within_edited_chunk last_char well_formed set_word";
+const NAMES: [u8; 303] =
+    *b"open remove reset relocate append_left append_right prepend_left prepend_right append prepend update_with trim trim_start trim_end trim_lines indent_with slice to_string last_line get_indent_string len len_utf16 line_count is_empty has_changed is_range_within_edited_chunk last_char well_formed set_word";
 
 fn is_named(kind: u32, s: &[u8]) -> bool {
     replay_compare::same(crate::column(&NAMES, kind as usize), s)

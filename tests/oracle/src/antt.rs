@@ -7,7 +7,13 @@ use crate::{Answer, Call};
 
 /// One line of a table: a call with its answer.
 pub fn step(call: &Call, answer: &Answer) -> String {
-  format!("gives ({}) {} {} {}", call_term(call), answer.number, answer.value, text(&answer.bytes))
+  format!(
+    "gives ({}) {} {} {}",
+    call_term(call),
+    answer.number,
+    answer.value,
+    text(&answer.bytes)
+  )
 }
 
 /// One line of a table: the desk as it then stands.

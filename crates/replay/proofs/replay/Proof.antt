@@ -9,7 +9,7 @@ array-borrow-prefix-source : tie.Need-array-borrow-prefix-source
 array-borrow-prefix-source c = search needs
 
 slice-aggregate-lines : tie.Need-slice-aggregate-lines
-slice-aggregate-lines c = sym (zeros-length 16384 16384 (omega arith))
+slice-aggregate-lines c = sym (zeros-length 20480 20480 (omega arith))
 
 array-borrow-prefix-chunks : tie.Need-array-borrow-prefix-chunks
 array-borrow-prefix-chunks c = search needs

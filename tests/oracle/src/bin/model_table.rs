@@ -30,8 +30,7 @@ fn table(seed: u64, count: usize) -> String {
     }
     let Some(lines) = lines(paper) else { continue };
     let lines = lines.join(" ∷\n    ");
-    statements +=
-      &format!("\npaper{papers} : Right (\n    {lines} ∷ [])\nUNFOLDING\npaper{papers} = refl\n");
+    statements += &format!("\npaper{papers} : Right (\n    {lines} ∷ [])\nUNFOLDING\npaper{papers} = refl\n");
     papers += 1;
     calls += paper.len();
   }

@@ -13,7 +13,7 @@ pub fn papers(writer: &mut Writer) {
 /// Sources of the longest length and one byte more.
 fn sources(writer: &mut Writer) {
   for character in ["a", "é", "😀"] {
-    for len in [16_384, 16_385, 16_388] {
+    for len in [16_388, 16_385, 16_384] {
       let mut source = character.repeat(len / character.len()).into_bytes();
       source.resize(len, b'a');
       writer.call(&Call::Open { source });
@@ -47,18 +47,23 @@ fn bytes(writer: &mut Writer) {
       writer.call(&Call::TrimStart { pattern: 1 });
       writer.call(&Call::TrimEnd { pattern: 1 });
       writer.call(&Call::TrimLines);
+      writer.call(&indent(b"\t"));
       writer.call(&Call::LineCount);
       writer.call(&Call::LastChar);
     }
   }
 }
 
-/// 512 chunks or nearly, and calls that cut further: at most two cuts.
+/// An indent of every line.
+fn indent(indentor: &[u8]) -> Call {
+  Call::IndentWith { indentor: Some(indentor.to_vec()), exclude: Vec::new() }
+}
+
+/// 511 chunks by an indent of every line, and calls that cut further: at most
+/// two cuts. Then as many lines as there may be chunks, and one more.
 fn chunks(writer: &mut Writer) {
-  writer.call(&Call::Open { source: b"abcd".repeat(300) });
-  for start in (0..255).map(|count| 4 * count + 1) {
-    writer.call(&Call::Remove { start, end: start + 1 });
-  }
+  writer.call(&Call::Open { source: b"a\nbc".repeat(510) });
+  writer.call(&indent(b"\t"));
   let text = b"t".to_vec();
   for _ in 0..2 {
     for (start, end) in [(1_101, 1_103), (1_103, 1_105), (1_200, 1_300)] {
@@ -78,12 +83,21 @@ fn chunks(writer: &mut Writer) {
     writer.call(&Call::Relocate { start: 4, end: 8, to: 0 });
     writer.call(&Call::Relocate { start: 0, end: 12, to: 20 });
   }
+  for lines in [512, 513] {
+    writer.call(&Call::Open { source: b"x\n".repeat(lines) });
+    writer.call(&indent(b"\t"));
+    writer.call(&Call::LineCount);
+  }
 }
 
-/// 1,024 pieces, and one more by every call that adds one.
+/// 1,024 pieces, and one more by every call that adds one: indents of 200 lines
+/// for most.
 fn pieces(writer: &mut Writer) {
-  writer.call(&Call::Open { source: "éa".into() });
-  for count in 0..1_022 {
+  writer.call(&Call::Open { source: ["éa", &"\nx".repeat(199)].concat().into_bytes() });
+  for _ in 0..5 {
+    writer.call(&indent(b" "));
+  }
+  for count in 0..22 {
     let text = if count % 3 == 0 { b"p".to_vec() } else { Vec::new() };
     writer.call(&match count % 6 {
       0 => Call::Append { text },
@@ -103,6 +117,7 @@ fn pieces(writer: &mut Writer) {
       writer.call(&Call::Append { text: text.clone() });
       writer.call(&Call::Prepend { text });
     }
+    writer.call(&indent(b"."));
     writer.call(&Call::UpdateWith { start: 0, end: 2, overwrite: 1, text: Vec::new() });
     writer.call(&Call::Reset { start: 0, end: 3 });
     writer.call(&Call::Len);

@@ -54,7 +54,7 @@ pub fn papers(writer: &mut Writer) {
   writer.well_formed(number::ACCEPTED);
 }
 
-/// An opening on a chunk table that lacks a word; the desk of before is kept.
+/// Openings on a chunk table that lacks words.
 fn short_table(writer: &mut Writer) {
   desk(writer);
   let call = Call::Open { source: b"abc".to_vec() };
@@ -63,7 +63,6 @@ fn short_table(writer: &mut Writer) {
     record.numbers = vec![lacks];
     writer.count(&record);
   }
-  writer.call(&Call::ToString { room: None });
 }
 
 /// A desk of one chunk, so that row 1 is that chunk's.

@@ -13,10 +13,6 @@ use std::collections::BTreeMap;
 use crate::{Answer, Call, Limits, Script, keeps, number};
 use record::{Record, Tables};
 
-/// Whether the exported calls have it. An indent that they do not have is left
-/// out of every paper.
-const INDENT_WITH: bool = false;
-
 /// The whole file.
 pub fn file() -> String {
   let mut writer = Writer::new();
@@ -36,6 +32,8 @@ struct Writer {
   script: Script,
   lines: String,
   calls: usize,
+  /// Whether the last opening was accepted.
+  opened: bool,
   /// How often each call had each number.
   met: BTreeMap<(String, u32), usize>,
 }
@@ -43,15 +41,17 @@ struct Writer {
 impl Writer {
   fn new() -> Self {
     let script = Script::new(Limits::FULL);
-    Self { script, lines: String::new(), calls: 0, met: BTreeMap::new() }
+    Self { script, lines: String::new(), calls: 0, opened: false, met: BTreeMap::new() }
   }
 
   /// Makes the call, and writes it with its answer and the tables after it.
   fn call(&mut self, call: &Call) {
-    if !has(call) {
-      return;
-    }
     let answer = self.script.call(call).expect("papers begin with an opening");
+    if matches!(call, Call::Open { .. }) {
+      self.opened = answer.number == number::ACCEPTED;
+    } else {
+      assert!(self.opened, "{call} follows a refused opening, whose source is in use");
+    }
     let tables = match self.script.desk() {
       Some(desk) if !keeps::every_byte(call, answer.number) => {
         Tables::Digest(digest::digest(&desk.data()))
@@ -63,9 +63,7 @@ impl Writer {
 
   /// Writes the call as one that finds no desk: 2, and every byte kept.
   fn no_desk(&mut self, call: &Call) {
-    if has(call) {
-      self.count(&Record::of(call, &Answer::number(number::NOT_WELL_FORMED), Tables::Kept));
-    }
+    self.count(&Record::of(call, &Answer::number(number::NOT_WELL_FORMED), Tables::Kept));
   }
 
   /// The exported check by itself.
@@ -83,14 +81,5 @@ impl Writer {
   fn record(&mut self, record: &Record) {
     self.lines += &record.to_string();
     self.lines.push('\n');
-  }
-}
-
-/// Whether the call can stand in the file.
-fn has(call: &Call) -> bool {
-  match call {
-    Call::Dump => false,
-    Call::IndentWith { .. } => INDENT_WITH,
-    _ => true,
   }
 }

@@ -1,7 +1,7 @@
 //! Random papers: the first that are short, and then those that have a number
 //! which their call has seldom had so far.
 
-use super::{Writer, has, record, text};
+use super::{Writer, record, text};
 use crate::{Call, Limits, Script, generate::generate};
 
 const SEED: u64 = 2;
@@ -32,7 +32,7 @@ pub fn papers(writer: &mut Writer) {
 fn short(paper: &[Call]) -> Vec<Call> {
   let mut script = Script::new(Limits::FULL);
   let mut kept = Vec::new();
-  for call in paper.iter().filter(|call| has(call)) {
+  for call in paper.iter().filter(|call| **call != Call::Dump) {
     let mut after = script.clone();
     let Some(answer) = after.call(call) else { break };
     let record = record::Record::of(call, &answer, record::Tables::Kept);
@@ -60,7 +60,7 @@ fn write(writer: &mut Writer, paper: &[Call]) {
   for call in paper {
     writer.call(call);
   }
-  if let Some(desk) = writer.script.desk() {
+  if let Some(desk) = writer.script.desk().filter(|_| writer.opened) {
     let output = desk.magic_string().to_string();
     if text::encode(output.as_bytes()).len() <= LONGEST {
       writer.call(&Call::ToString { room: None });

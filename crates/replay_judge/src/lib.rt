@@ -3,8 +3,8 @@ ghost use mathlib.Core.Path.{_≡_};
 ghost use mathlib.Core.Bool.{true, false};
 ghost use Rattle.counts.specs.Counts.{Decides};
 ghost use Rattle.replay_compare.specs.Compare.{Kept};
-ghost use Rattle.replay.specs.Agreed.{Answered, HasDigest, TablesAre, Agreed};
-use crate::calls::Call;
+ghost use Rattle.replay_judge.specs.Agreed.{Answered, HasDigest, TablesAre, Agreed};
+use replay_calls::Call;
 use texts::Answer;
 
 // What the file says of an answer. `mode` is 0 where every byte of the tables is kept, 1 where the
@@ -134,6 +134,7 @@ fn play_by(
     was_pieces: &mut [u32],
     was_store: &mut [u8],
     text: &[u8],
+    exclude: &[u32],
     bytes: &[u8],
     out: &mut [u8],
 ) -> Outcome
@@ -143,7 +144,7 @@ fn play_by(
 {
     if copy_tables(chunks, pieces, store, was_chunks, was_pieces, was_store) {
         replay_compare::fill(out);
-        let got = crate::calls::make(k, source, chunks, pieces, store, text, out);
+        let got = replay_calls::make(k, source, chunks, pieces, store, text, exclude, out);
         let agrees = agrees(
             got,
             e,
@@ -175,6 +176,7 @@ pub fn play(
     pieces: &mut [u32],
     store: &mut [u8],
     text: &[u8],
+    exclude: &[u32],
     bytes: &[u8],
     out: &mut [u8],
 ) -> Outcome
@@ -199,6 +201,7 @@ pub fn play(
         &mut was_pieces[..rows],
         &mut was_store[..size],
         text,
+        exclude,
         bytes,
         out,
     )

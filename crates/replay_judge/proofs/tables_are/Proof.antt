@@ -1,7 +1,7 @@
-use Rattle.replay.proofs.Laws.{tables-kept, tables-digest, tables-any}
+use Rattle.replay_judge.proofs.Laws.{tables-kept, tables-digest, tables-any}
 use borrow.Author.Needs.{needs}
-use Rattle.replay.proofs.judge.tables_are.Statement.{statement}
-use Rattle.replay.proofs.judge.tables_are.Tie as tie
+use Rattle.replay_judge.proofs.tables_are.Statement.{statement}
+use Rattle.replay_judge.proofs.tables_are.Tie as tie
 
 kept-requires : tie.Need-kept-requires
 kept-requires c κs = search needs

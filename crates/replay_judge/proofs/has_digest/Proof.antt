@@ -2,8 +2,8 @@ use Rattle.counts.specs.Sums.{is-yes, is-no}
 use borrow.Author.Tests.{eqb-true, eqb-false}
 use mathlib.Core.Path.{sym, _∙_}
 use borrow.Author.Needs.{needs}
-use Rattle.replay.proofs.judge.has_digest.Statement.{statement}
-use Rattle.replay.proofs.judge.has_digest.Tie as tie
+use Rattle.replay_judge.proofs.has_digest.Statement.{statement}
+use Rattle.replay_judge.proofs.has_digest.Tie as tie
 
 well-formed-requires : tie.Need-well-formed-requires
 well-formed-requires c κs = search needs

@@ -6,7 +6,7 @@ use Prim.Native.Nat.{ℕ, zero, suc}
 use Rattle.counts.specs.Counts.{Decides}
 use Rattle.counts.specs.Sums.{is-yes}
 use Rattle.replay_compare.specs.Compare.{Kept}
-use Rattle.replay.specs.Agreed.{HasDigest, TablesAre, Agreed}
+use Rattle.replay_judge.specs.Agreed.{HasDigest, TablesAre, Agreed}
 
 -- ---- the last column
 module _ (m d : ℕ) (source t p s t₀ p₀ s₀ : List ℕ) where

@@ -1,10 +1,10 @@
-// One call of the file, made. Kinds are numbered as in src/names.rt.
+// One call of the file, made through the exported functions. Kinds are numbered as in crates/replay_read/src/names.rt.
 use magic_string::exported_desk;
 use magic_string::exported_edits;
 use magic_string::exported_reports;
 use texts::Answer;
 
-// What the file says of a call: its kind, and its first three numbers.
+// What the file says of a call: its kind, its first three numbers, and how long a buffer is lent.
 pub struct Call {
     pub kind: u32,
     pub a: u32,
@@ -110,25 +110,6 @@ fn trim(
         12 => exported_edits::magic_string_trim_start(source, chunks, pieces, store, k.a),
         13 => exported_edits::magic_string_trim_end(source, chunks, pieces, store, k.a),
         14 => exported_edits::magic_string_trim_lines(source, chunks, pieces, store),
-        _ => no_call(),
-    }
-}
-
-fn edit(
-    k: Call,
-    source: &[u8],
-    chunks: &mut [u32],
-    pieces: &mut [u32],
-    store: &mut [u8],
-    text: &[u8],
-) -> Answer {
-    let kind = k.kind;
-    match kind {
-        0 => open(k.a, source, chunks, pieces, store),
-        1..=3 => edit_range(k, source, chunks, pieces, store),
-        4..=7 => edit_at(k, source, chunks, pieces, store, text),
-        8..=10 => edit_text(k, source, chunks, pieces, store, text),
-        11..=14 => trim(k, source, chunks, pieces, store),
         _ => no_call(),
     }
 }
@@ -241,13 +222,26 @@ pub fn make(
     pieces: &mut [u32],
     store: &mut [u8],
     text: &[u8],
+    exclude: &[u32],
     out: &mut [u8],
 ) -> Answer {
-    if k.kind < 16 {
-        return edit(k, source, chunks, pieces, store, text);
+    let kind = k.kind;
+    match kind {
+        0 => open(k.a, source, chunks, pieces, store),
+        1..=3 => edit_range(k, source, chunks, pieces, store),
+        4..=7 => edit_at(k, source, chunks, pieces, store, text),
+        8..=10 => edit_text(k, source, chunks, pieces, store, text),
+        11..=14 => trim(k, source, chunks, pieces, store),
+        15 => exported_edits::magic_string_indent_with(
+            source,
+            chunks,
+            pieces,
+            store,
+            k.a,
+            text,
+            exclude,
+        ),
+        16..=27 => report(k, source, chunks, pieces, store, out),
+        _ => set_word(k, chunks, pieces, store),
     }
-    if k.kind < 28 {
-        return report(k, source, chunks, pieces, store, out);
-    }
-    set_word(k, chunks, pieces, store)
 }

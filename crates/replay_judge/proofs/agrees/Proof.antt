@@ -1,7 +1,7 @@
 use Rattle.counts.specs.Sums.{not-both}
 use borrow.Author.Needs.{needs}
-use Rattle.replay.proofs.judge.agrees.Statement.{statement}
-use Rattle.replay.proofs.judge.agrees.Tie as tie
+use Rattle.replay_judge.proofs.agrees.Statement.{statement}
+use Rattle.replay_judge.proofs.agrees.Tie as tie
 
 answered-requires : tie.Need-answered-requires
 answered-requires c κs = search needs

@@ -1,9 +1,9 @@
-use Rattle.counts.specs.Sums.{zeros-length}
-use native.Mathlib.Omega.{arith}
 use mathlib.Core.Path.{sym}
+use native.Mathlib.Omega.{arith}
+use Rattle.counts.specs.Sums.{zeros-length}
 use borrow.Author.Needs.{needs}
-use Rattle.replay.proofs.judge.play.Statement.{statement}
-use Rattle.replay.proofs.judge.play.Tie as tie
+use Rattle.replay_judge.proofs.play.Statement.{statement}
+use Rattle.replay_judge.proofs.play.Tie as tie
 
 array-borrow-prefix-was-chunks : tie.Need-array-borrow-prefix-was-chunks
 array-borrow-prefix-was-chunks c = search needs
@@ -39,7 +39,7 @@ same-length-4 : tie.Need-same-length-4
 same-length-4 c = search needs
 
 returns : tie.Need-returns
-returns c = c .before .before .before .before .before .before .before .before .before .before .before .play-by .ensures
+returns c = search needs
 
 pub play-spec : {M : Type 1} → statement M
 play-spec =

@@ -1,8 +1,8 @@
 use Rattle.counts.specs.Sums.{is-yes, is-no}
 use borrow.Author.Tests.{eqb-true, eqb-false}
 use borrow.Author.Needs.{needs}
-use Rattle.replay.proofs.judge.answered.Statement.{statement}
-use Rattle.replay.proofs.judge.answered.Tie as tie
+use Rattle.replay_judge.proofs.answered.Statement.{statement}
+use Rattle.replay_judge.proofs.answered.Tie as tie
 
 returns : tie.Need-returns
 returns c = record { yes = λ e. record { number-is = c .before .before .if1 .taken; value-is = eqb-true _ _ e }; no = λ e k. eqb-false _ _ e (k .value-is) }
