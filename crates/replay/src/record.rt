@@ -52,13 +52,21 @@ fn digest_of(s: &[u8]) -> Read {
     }
 }
 
+// Whether "=" stands between the call and its answer, and nothing behind the ninth column.
+fn is_whole(line: &[u8]) -> bool {
+    if replay_read::is_only(replay_read::column(line, 4), b'=') {
+        return replay_read::column(line, 9).len() == 0;
+    }
+    false
+}
+
 fn answer_of(line: &[u8]) -> Answered {
     let room = replay_read::number(replay_read::column(line, 3));
     let number = replay_read::number(replay_read::column(line, 5));
     let value = replay_read::number(replay_read::column(line, 6));
     let d = digest_of(replay_read::column(line, 8));
     let good = both(
-        both(room.good, number.good),
+        both(is_whole(line), both(room.good, number.good)),
         both(value.good, both(d.good, number.value < 16)),
     );
     let expected = Expected {
