@@ -1,23 +1,20 @@
 -- Laws of the walks over a desk's fragments. Assumes nothing.
 use mathlib.Core.Path.{_≡_, refl, ap, sym, _∙_, subst}
-use mathlib.Core.Bool.{Bool, true, false, _&&_, cond}
 use mathlib.Core.Logic.{⊎-elim, _⊎_, inl, inr}
 use mathlib.Core.List.{List, [], _∷_, _++_, append-nil, append-assoc}
 use Prim.Native.Nat.{ℕ, zero, suc, _+_, _*_, _-_, _≤_, _<_}
 use native.Mathlib.Omega.{arith}
 use native.Mathlib.Numerals.{add-one}
-use lib.Dec.{eqb, leb}
 use lib.ListN.{length, getD, take, drop, length-append, take-append-drop}
 use lib.Seq.{drop-append-seam}
-use borrow.Author.Tests.{eq-eqb, ne-eqb, le-leb, lt-leb}
 use Rattle.utf8.specs.Rfc3629.{utf8}
 use Rattle.utf8.specs.Chars.{All, nil, cons, concat}
 use Rattle.utf8.specs.CharLaws.{concat-append}
 use Rattle.table.specs.declared.Row.{Row}
 use Rattle.table.specs.Order.{Entry, entryOf, entryAt, entries, countOf, nextOf, Linked}
-use Rattle.model.specs.Text.{Text, sum, all, is-nil, line-feeds, trim-white-space}
-use Rattle.model.specs.MagicString.{MagicString, fragments, chunk-fragments, to-string, len, len-utf16, line-count, is-empty, utf16-len}
-use Rattle.model.specs.Call.{show, value-of, bit, to-string as ToString, len as Len, len-utf16 as LenUtf16, line-count as LineCount, is-empty as IsEmpty}
+use Rattle.model.specs.Text.{Text, sum}
+use Rattle.model.specs.MagicString.{MagicString, fragments, chunk-fragments, to-string, len, len-utf16, line-count}
+use Rattle.model.specs.Call.{show, value-of, to-string as ToString, len as Len, len-utf16 as LenUtf16, line-count as LineCount}
 use Rattle.model.specs.WellFormed.{Valid}
 use Rattle.memory.specs.Layout.{magicStringOf, runOf, tabulate}
 use Rattle.memory.specs.WellFormed.{WellFormed, EntryIn}
@@ -25,8 +22,8 @@ use Rattle.memory.specs.Calls.{Told}
 use Rattle.texts.specs.Texts.{SpanIn, chunkText, concat-nil}
 use Rattle.texts.specs.Over.{Wrote}
 use Rattle.measures.specs.declared.Measure.{Measure}
-use Rattle.measures.specs.declared.Measure.the-variants.{Bytes, Utf16, LineFeeds, Filled}
-use Rattle.measures.specs.Measures.{measureOf, filledOf}
+use Rattle.measures.specs.declared.Measure.the-variants.{Bytes, Utf16, LineFeeds}
+use Rattle.measures.specs.Measures.{measureOf}
 use Rattle.measures.specs.Laws.{measure-le, measure-nil, feeds-concat}
 use Rattle.fragments.specs.Sections.{On, Went, rest, rest-first, SectionRow, sectionAt, rest-went, rest-cons, rest-end, section, sections, sections-are, sections-drop, sections-end, fragmentsOf, fragmentsAll, size, headOf, tailOf, rowNo, row-edge, row-first}
 use Rattle.fragments.specs.Output.{ready, output-bound, all-append, sum-append, sum-sections, concat-sections, sum-length}
