@@ -8,7 +8,6 @@ mod every_call;
 #[cfg(feature = "archive")]
 mod ffi;
 pub mod image;
-pub mod keeps;
 pub mod layout;
 mod lent;
 pub mod made;
@@ -26,6 +25,7 @@ mod well_formed;
 pub use cores::{Core, Unseen};
 pub use image::Image;
 pub use lent::{Answer, Lent};
+pub use oracle::keeps;
 pub use paper::{Made, Paper, Start};
 pub use tally::Tally;
 pub use well_formed::well_formed;

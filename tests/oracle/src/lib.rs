@@ -12,9 +12,11 @@ pub mod desk;
 pub mod dump;
 pub mod generate;
 pub mod hex;
+pub mod keeps;
 pub mod number;
 pub mod parse;
 pub mod random;
+pub mod replay;
 pub mod script;
 
 pub use answer::Answer;

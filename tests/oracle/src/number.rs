@@ -2,6 +2,8 @@
 
 pub const ACCEPTED: u32 = 0;
 pub const NOT_UTF8: u32 = 1;
+/// Memory that is not a desk: no answer of the Rust's.
+pub const NOT_WELL_FORMED: u32 = 2;
 pub const INSIDE_CHARACTER: u32 = 3;
 pub const END_BEFORE_START: u32 = 4;
 pub const ZERO_WIDTH: u32 = 5;

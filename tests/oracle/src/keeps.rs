@@ -1,6 +1,6 @@
 //! Which answers leave every byte of the lent tables.
 
-use oracle::{Call, number::*};
+use crate::{Call, number::*};
 
 /// Refusals other than 6, 7, 9 and an update's 10, reports, and accepted edits
 /// that do nothing.
