@@ -255,7 +255,7 @@ fn write_indented(
     }
     Written {
         fits: true,
-        mark: indent_text::mark_after(mark, text),
+        mark: indent_text::mark_text(mark, text),
         end: f.end as u32,
     }
 }

@@ -1,13 +1,13 @@
 -- A piece more on top of the lent tables: the run's rows are copied above all rows in use, the text goes above all bytes in use, and the row names the copy.
-use mathlib.Core.Path.{_≡_, refl, sym, ap, ap₂, _∙_, subst}
-use mathlib.Core.Bool.{Bool, true, false, not, cond}
+use mathlib.Core.Path.{_≡_, refl, sym, ap, _∙_, subst}
+use mathlib.Core.Bool.{Bool, true, false}
 use mathlib.Core.List.{List, [], _∷_, _++_, map}
-use Prim.Native.Nat.{ℕ, zero, suc, _+_, _*_, _-_, _≤_, _<_}
+use Prim.Native.Nat.{ℕ, suc, _+_, _*_, _-_, _≤_, _<_}
 use native.Mathlib.Omega.{arith}
 use native.Mathlib.Numerals.{add-one}
 use lib.ListN.{length, take, drop, take-append-drop}
 use lib.Seq.{length-take-le}
-use Rattle.utf8.specs.Chars.{All, nil, cons}
+use Rattle.utf8.specs.Chars.{All}
 use Rattle.utf8.specs.CharLaws.{all-front, all-back}
 use Rattle.table.specs.declared.Row.{Row}
 use Rattle.table.specs.declared.Piece.{Piece}

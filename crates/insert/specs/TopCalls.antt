@@ -1,10 +1,9 @@
 -- The insertions on top of the lent tables: the limits that they keep, and the calls that they make.
-use mathlib.Core.Path.{_≡_, refl, sym, ap, ap₂, _∙_, subst}
-use mathlib.Core.Bool.{Bool, true, false, _&&_, not, cond}
-use mathlib.Core.List.{List, [], _∷_, _++_, map}
+use mathlib.Core.Path.{_≡_, refl, sym, ap, _∙_, subst}
+use mathlib.Core.Bool.{Bool, true, false, not, cond}
+use mathlib.Core.List.{List, [], _∷_}
 use mathlib.Core.Option.{Option, none, some}
-use mathlib.Core.Logic.{_⊎_, inl, inr, ⊎-elim}
-use Prim.Native.Nat.{ℕ, zero, suc, _+_, _*_, _≤_, _<_}
+use Prim.Native.Nat.{ℕ, suc, _+_, _*_, _≤_}
 use native.Mathlib.Omega.{arith}
 use lib.Dec.{leb, eqb}
 use lib.ListN.{length, take, length-map}
@@ -15,10 +14,9 @@ use Rattle.model.specs.Text.{Text, sum}
 use Rattle.model.specs.Chunk.{Chunk, Texts, with-texts, start-of, end-of}
 use Rattle.model.specs.MagicString.{MagicString, Result, ok, err, and-then, with-chunks, with-intro, with-outro, by-start, by-end, at-start, at-end}
 use Rattle.model.specs.Limits.{full, within, chunk-pieces, chunk-bytes, byte-count, piece-count}
-use Rattle.model.specs.Call.{Edit, steps, refused-before}
 use Rattle.memory.specs.Layout.{chunkOf, magicStringOf}
-use Rattle.memory.specs.WellFormed.{Sized, Readable, WellFormed}
-use Rattle.memory.specs.Calls.{idle, may-write, Ran}
+use Rattle.memory.specs.WellFormed.{Readable, WellFormed}
+use Rattle.memory.specs.Calls.{may-write}
 use Rattle.texts.specs.Carry.{withText}
 use Rattle.rows.specs.Find.{meets, First}
 use Rattle.rows.specs.Split.{count-entries}
@@ -89,9 +87,6 @@ whole-more false front t m = record { pieces = omega (arith, with-length front t
 pub step-more : (left front : Bool) (q : ℕ) (t : Text) (m : MagicString) → OneMore t m (insert-step left front q t m .desk)
 step-more true front q t m = go (by-end q (m .chunks))
   where
-    f : Texts → Texts
-    f = add-to true front t
-
     here : OneMore t m (with-chunks m (at-end q (add-to true front t) (m .chunks)))
     here =
         record {

@@ -23,7 +23,7 @@ use Rattle.model.specs.Text.{Text, LF, is-nil, all, sum, skip-while, line-feeds
 use Rattle.model.specs.MagicString.{utf16-len}
 use Rattle.measures.specs.Measures.{measureOf, filledOf, unitsOf}
 use Rattle.measures.specs.declared.Measure.{Measure}
-use Rattle.measures.specs.declared.Measure.the-variants.{Bytes, Utf16, LineFeeds, Filled}
+use Rattle.measures.specs.declared.Measure.the-variants.{Bytes, Utf16, LineFeeds}
 
 -- ---- line feeds
 pub feeds-append : (s t : Text) → line-feeds (s ++ t) ≡ line-feeds s + line-feeds t
@@ -207,28 +207,13 @@ unfolding filledOf
 filled-is s h = ap (λ (b : Bool). cond b 0 1) (trimmed-nil s h)
 
 -- ---- of the empty text, and at most the length
-trim-nil : trim-white-space [] ≡ []
-unfolding trim-white-space trim-start-matches trim-end-matches chars flatten
-trim-nil = refl
-
 pub measure-nil : (m : Measure) → measureOf m [] ≡ 0
-unfolding chars filledOf
+unfolding chars
 measure-nil Bytes = refl
 measure-nil Utf16 = refl
 measure-nil LineFeeds = refl
-measure-nil Filled = ap (λ (t : Text). cond (is-nil t) 0 1) trim-nil
-
-filled-le : (s : Text) → filledOf s ≤ length s
-unfolding filledOf
-filled-le [] = rw trim-nil (omega arith)
-filled-le (a ∷ s) = omega (arith, one (is-nil (trim-white-space (a ∷ s))))
-  where
-    one : (b : Bool) → cond b 0 1 ≤ 1
-    one true = omega arith
-    one false = omega arith
 
 pub measure-le : (m : Measure) (s : Text) → utf8 s ≡ true → measureOf m s ≤ length s
 measure-le Bytes s h = omega arith
 measure-le Utf16 s h = utf16-le s h
 measure-le LineFeeds s h = feeds-le s
-measure-le Filled s h = filled-le s

@@ -6,7 +6,7 @@ use lib.ListN.{length}
 use Rattle.model.specs.Text.{Text, LF, is-nil, line-feeds, trim-white-space}
 use Rattle.model.specs.MagicString.{utf16-len}
 use Rattle.measures.specs.declared.Measure.{Measure}
-use Rattle.measures.specs.declared.Measure.the-variants.{Bytes, Utf16, LineFeeds, Filled}
+use Rattle.measures.specs.declared.Measure.the-variants.{Bytes, Utf16, LineFeeds}
 
 abbrev pub feedOf : ℕ → ℕ
 feedOf b = cond (eqb b LF) 1 0
@@ -23,4 +23,3 @@ abbrev pub measureOf : Measure → Text → ℕ
 measureOf Bytes t = length t
 measureOf Utf16 t = utf16-len t
 measureOf LineFeeds t = line-feeds t
-measureOf Filled t = filledOf t

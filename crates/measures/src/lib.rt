@@ -9,12 +9,11 @@ ghost use Rattle.model.specs.MagicString.{utf16-len};
 ghost use Rattle.measures.specs.Measures.{measureOf, filledOf, unitsOf, feedOf};
 use utf8::Decoded;
 
-// What is counted: bytes, UTF-16 units, line feeds, or texts that are not white space alone.
+// What is counted: bytes, UTF-16 units or line feeds.
 pub enum Measure {
     Bytes,
     Utf16,
     LineFeeds,
-    Filled,
 }
 
 // 1 for a line feed, 0 for any other byte.
@@ -102,6 +101,5 @@ pub fn count(m: Measure, t: &[u8]) -> u32
         Measure::Bytes => t.len() as u32,
         Measure::Utf16 => utf16_len(t),
         Measure::LineFeeds => line_feeds(t),
-        Measure::Filled => filled(t),
     }
 }

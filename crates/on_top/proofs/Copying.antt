@@ -1,19 +1,19 @@
 -- Rows copied in one table, word by word, and a run with a text more; and what `has_room` decides.
 use mathlib.Core.Path.{_≡_, refl, sym, ap, ap₂, _∙_, subst}
-use mathlib.Core.Bool.{Bool, true, false}
-use mathlib.Core.List.{List, [], _∷_, _++_, append-assoc}
-use Prim.Native.Nat.{ℕ, zero, suc, _+_, _*_, _-_, _≤_, _<_}
+use mathlib.Core.Bool.{true, false}
+use mathlib.Core.List.{List, [], _∷_, append-assoc}
+use Prim.Native.Nat.{ℕ, _+_, _*_, _-_, _≤_, _<_}
 use native.Mathlib.Omega.{arith}
 use native.Mathlib.Decide.{decLt}
-use lib.ListN.{length, getD, take, drop, set, length-set, length-take, length-drop, length-append, drop-of-length-le}
+use lib.ListN.{length, getD, take, drop, set, length-set, length-take, length-drop, drop-of-length-le}
 use lib.Seq.{sets, sets-eq, length-take-le, getD-take, getD-drop, take-set-le}
 use Rattle.table.specs.Words.{sets-step}
 use Rattle.memory.specs.Layout.{Place}
-use Rattle.texts.specs.Over.{over, over-over, length-over, take-over, part-kept}
+use Rattle.texts.specs.Over.{over, over-over, take-over, part-kept}
 use Rattle.texts.specs.Carry.{Pushed, RoomFor}
 use Rattle.on_top.specs.declared.Used.{Used}
 use Rattle.on_top.specs.Live.{Room}
-use Rattle.on_top.specs.Run.{rowWords, withWords, TopRoom, Lengthened, words-length}
+use Rattle.on_top.specs.Run.{rowWords, TopRoom, Lengthened, words-length}
 
 -- k of m words are copied from a to b
 pub record Copying (p₀ p : List ℕ) (a b m k : ℕ) : Type 0 where

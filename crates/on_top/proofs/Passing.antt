@@ -1,27 +1,26 @@
 -- The pass of `live`: a run, a row, and all rows so far.
 use mathlib.Core.Path.{_≡_, refl, sym, ap, ap₂, _∙_, subst}
-use mathlib.Core.Bool.{Bool, true, false, _&&_, cond}
+use mathlib.Core.Bool.{true}
 use mathlib.Core.List.{List, [], _∷_, _++_, map, append-assoc, append-nil}
-use Prim.Native.Nat.{ℕ, zero, suc, _+_, _*_, _-_, _≤_, _<_, min, max}
+use Prim.Native.Nat.{ℕ, suc, _+_, _*_, _-_, _≤_, _<_, min, max}
 use native.Mathlib.Omega.{arith}
 use native.Mathlib.Decide.{ℕ-discrete, decLt}
 use native.Mathlib.Numerals.{add-one}
-use lib.Dec.{leb, eqb}
 use lib.ListN.{length, getD, take, drop, length-drop}
 use lib.Seq.{length-take-le, getD-take}
-use borrow.Author.Tests.{leb-true, ne-eqb, eq-eqb}
+use borrow.Author.Tests.{ne-eqb, eq-eqb}
 use Rattle.utf8.specs.Chars.{All, nil, cons}
 use Rattle.utf8.specs.CharLaws.{all-back}
 use Rattle.table.specs.Ring.{follow}
-use Rattle.table.specs.Order.{Entry, entryOf, entryAt, entries, order, nextOf, countOf, Linked, inside-at}
-use Rattle.model.specs.Text.{Text, sum}
+use Rattle.table.specs.Order.{Entry, entryAt, entries, order, nextOf, countOf, inside-at}
+use Rattle.model.specs.Text.{sum}
 use Rattle.model.specs.Chunk.{Chunk}
 use Rattle.model.specs.Limits.{full, within, chunk-pieces, chunk-bytes, piece-count, byte-count, replacement-bytes}
 use Rattle.memory.specs.Layout.{NONE, Place, bytesAt, pieceAt, tabulate, runOf, replacementOf, chunkOf, magicStringOf}
-use Rattle.memory.specs.WellFormed.{PieceIn, RunIn, ReplacementIn, RunsIn, EntryIn, Readable}
-use Rattle.texts.specs.Texts.{run-tabulate, run-length, run-piece}
+use Rattle.memory.specs.WellFormed.{RunIn, ReplacementIn, EntryIn, Readable}
+use Rattle.texts.specs.Texts.{run-length, run-piece}
 use Rattle.texts.specs.Carry.{Below}
-use Rattle.rebuild.specs.Lay.{own, ownOf, EntryBelow}
+use Rattle.rebuild.specs.Lay.{own, EntryBelow}
 use Rattle.on_top.specs.declared.Used.{Used}
 use Rattle.on_top.specs.Live.{LiveIn, TopRow, RunLive, EntryLive, LiveOf, few-uses}
 

@@ -4,13 +4,12 @@ use mathlib.Core.Bool.{Bool, true, false}
 use mathlib.Core.List.{List, [], _∷_, _++_, map}
 use Prim.Native.Nat.{ℕ, zero, suc, _+_, _*_, _-_, _^_, _≤_, _<_}
 use native.Mathlib.Omega.{arith}
-use native.Mathlib.Nat.{add-zero}
 use native.Mathlib.Decide.{decLt}
 use lib.ListN.{length, getD, take, drop, length-append, length-drop, take-append-drop, List·getD-append}
 use lib.Seq.{length-take-le, getD-take, getD-drop, getD-append-add, take-at, drop-at}
 use Rattle.model.specs.Text.{Text}
 use Rattle.memory.specs.Layout.{Place, bytesAt, pieceAt, tabulate, runOf}
-use Rattle.memory.specs.WellFormed.{PieceIn, RunIn}
+use Rattle.memory.specs.WellFormed.{RunIn}
 use Rattle.texts.specs.Over.{over, length-over}
 use Rattle.texts.specs.Texts.{tabulate-ext, tabulate-cons, run-tabulate}
 use Rattle.texts.specs.Carry.{withText}

@@ -1,23 +1,20 @@
 -- Laws of the walks over a desk's fragments. Assumes nothing.
 use mathlib.Core.Path.{_≡_, refl, ap, sym, _∙_, subst}
-use mathlib.Core.Bool.{Bool, true, false, _&&_, cond}
 use mathlib.Core.Logic.{⊎-elim, _⊎_, inl, inr}
 use mathlib.Core.List.{List, [], _∷_, _++_, append-nil, append-assoc}
 use Prim.Native.Nat.{ℕ, zero, suc, _+_, _*_, _-_, _≤_, _<_}
 use native.Mathlib.Omega.{arith}
 use native.Mathlib.Numerals.{add-one}
-use lib.Dec.{eqb, leb}
 use lib.ListN.{length, getD, take, drop, length-append, take-append-drop}
 use lib.Seq.{drop-append-seam}
-use borrow.Author.Tests.{eq-eqb, ne-eqb, le-leb, lt-leb}
 use Rattle.utf8.specs.Rfc3629.{utf8}
 use Rattle.utf8.specs.Chars.{All, nil, cons, concat}
 use Rattle.utf8.specs.CharLaws.{concat-append}
 use Rattle.table.specs.declared.Row.{Row}
 use Rattle.table.specs.Order.{Entry, entryOf, entryAt, entries, countOf, nextOf, Linked}
-use Rattle.model.specs.Text.{Text, sum, all, is-nil, line-feeds, trim-white-space}
-use Rattle.model.specs.MagicString.{MagicString, fragments, chunk-fragments, to-string, len, len-utf16, line-count, is-empty, utf16-len}
-use Rattle.model.specs.Call.{show, value-of, bit, to-string as ToString, len as Len, len-utf16 as LenUtf16, line-count as LineCount, is-empty as IsEmpty}
+use Rattle.model.specs.Text.{Text, sum}
+use Rattle.model.specs.MagicString.{MagicString, fragments, chunk-fragments, to-string, len, len-utf16, line-count}
+use Rattle.model.specs.Call.{show, value-of, to-string as ToString, len as Len, len-utf16 as LenUtf16, line-count as LineCount}
 use Rattle.model.specs.WellFormed.{Valid}
 use Rattle.memory.specs.Layout.{magicStringOf, runOf, tabulate}
 use Rattle.memory.specs.WellFormed.{WellFormed, EntryIn}
@@ -25,8 +22,8 @@ use Rattle.memory.specs.Calls.{Told}
 use Rattle.texts.specs.Texts.{SpanIn, chunkText, concat-nil}
 use Rattle.texts.specs.Over.{Wrote}
 use Rattle.measures.specs.declared.Measure.{Measure}
-use Rattle.measures.specs.declared.Measure.the-variants.{Bytes, Utf16, LineFeeds, Filled}
-use Rattle.measures.specs.Measures.{measureOf, filledOf}
+use Rattle.measures.specs.declared.Measure.the-variants.{Bytes, Utf16, LineFeeds}
+use Rattle.measures.specs.Measures.{measureOf}
 use Rattle.measures.specs.Laws.{measure-le, measure-nil, feeds-concat}
 use Rattle.fragments.specs.Sections.{On, Went, rest, rest-first, SectionRow, sectionAt, rest-went, rest-cons, rest-end, section, sections, sections-are, sections-drop, sections-end, fragmentsOf, fragmentsAll, size, headOf, tailOf, rowNo, row-edge, row-first}
 use Rattle.fragments.specs.Output.{ready, output-bound, all-append, sum-append, sum-sections, concat-sections, sum-length}
@@ -107,12 +104,10 @@ whole-is m source t p s stop n w x e =
     let a : sum (measureOf m) (rest source t p s 0 0) ≡ sum (measureOf m) (fragments (magicStringOf source t p s)) = ap (sum (measureOf m)) (rest-first source t p s) ∙ sum-sections (measureOf m) (measure-nil m) source t p s (w .readable .linked) in
     record { total = omega arith; short = omega (arith, rest-bound m source t p s 0 0 w) }
 
-pub chunks-is : (m : Measure) (source t p s : List ℕ) (stop n : ℕ) → WellFormed source t p s → stop ≡ countOf t + 1
-    → n + sum (measureOf m) (rest source t p s stop 0) ≡ sum (measureOf m) (rest source t p s 1 0) → OfChunks m (magicStringOf source t p s) n
+pub chunks-sum : (f : Text → ℕ) (source t p s : List ℕ) (stop n : ℕ) → Linked t → stop ≡ countOf t + 1
+    → n + sum f (rest source t p s stop 0) ≡ sum f (rest source t p s 1 0) → n ≡ sum f (chunk-fragments (magicStringOf source t p s .source) (magicStringOf source t p s .chunks))
 unfolding rest magicStringOf
-chunks-is m source t p s stop n w x e =
-    let f = measureOf m in
-    let l = w .readable .linked in
+chunks-sum f source t p s stop n l x e =
     let F = fragmentsAll source p s in
     let a : drop 1 (sections t) ≡ entries t ++ (tailOf t ∷ []) = ap (drop 1) (sections-are t l) in
     let b : drop stop (sections t) ≡ tailOf t ∷ [] =
@@ -120,10 +115,14 @@ chunks-is m source t p s stop n w x e =
     ∙ ap (λ (k : ℕ). drop k (entries t ++ (tailOf t ∷ []))) (sym (entries-length t)) ∙ drop-append-seam (entries t) (tailOf t ∷ []) in
     let q : sum f (F (drop 1 (sections t))) ≡ sum f (F (entries t)) + sum f (F (tailOf t ∷ [])) = ap (λ (x : List Entry). sum f (F x)) a ∙ ap (sum f) (all-append source p s (entries t) (tailOf t ∷ [])) ∙ sum-append f (F (entries t)) (F (tailOf t ∷ [])) in
     let r : sum f (F (drop stop (sections t))) ≡ sum f (F (tailOf t ∷ [])) = ap (λ (x : List Entry). sum f (F x)) b in
-    record { total = omega arith }
+    omega arith
   where
     entries-length : (t : List ℕ) → length (entries t) ≡ countOf t
     entries-length t = lib.ListN.length-map (Rattle.table.specs.Order.order t) (entryAt t) ∙ Rattle.fragments.specs.Sections.order-length t
+
+pub chunks-is : (m : Measure) (source t p s : List ℕ) (stop n : ℕ) → WellFormed source t p s → stop ≡ countOf t + 1
+    → n + sum (measureOf m) (rest source t p s stop 0) ≡ sum (measureOf m) (rest source t p s 1 0) → OfChunks m (magicStringOf source t p s) n
+chunks-is m source t p s stop n w x e = record { total = chunks-sum (measureOf m) source t p s stop n (w .readable .linked) x e }
 
 -- ---- the places where the walks begin
 pub on-first : (t : List ℕ) → On t 0 0 0
@@ -149,28 +148,6 @@ module _ (d : MagicString) (n : ℕ) where
   pub told-line-count : Whole LineFeeds d n → Told LineCount d [] [] 0 (n + 1)
   unfolding show line-count to-string
   told-line-count h = told-value LineCount d (n + 1) (ap (λ (k : ℕ). value-of (k + 1)) (feeds-concat (fragments d) ∙ sym (h .total)))
-
-filled-cond : (b : Bool) (k : ℕ) → (b && eqb k 0) ≡ eqb (cond b 0 1 + k) 0
-filled-cond true k = let e : 0 + k ≡ k = omega arith in rw e
-filled-cond false k = sym (ne-eqb (1 + k) 0 (omega arith))
-
-all-filled : (ts : List Text) → all (λ f. is-nil (trim-white-space f)) ts ≡ eqb (sum filledOf ts) 0
-unfolding filledOf
-all-filled [] = refl
-all-filled (t ∷ ts) = ap (λ (b : Bool). is-nil (trim-white-space t) && b) (all-filled ts) ∙ filled-cond (is-nil (trim-white-space t)) (sum filledOf ts)
-
-module _ (d : MagicString) (n : ℕ) (h : OfChunks Filled d n) where
-  empty-is : is-empty d ≡ eqb n 0
-  unfolding is-empty
-  empty-is = all-filled (chunk-fragments (d .source) (d .chunks)) ∙ ap (λ (k : ℕ). eqb k 0) (sym (h .total))
-
-  pub told-empty : n ≡ 0 → Told IsEmpty d [] [] 0 1
-  unfolding show
-  told-empty z = told-value IsEmpty d 1 (ap (λ (b : Bool). value-of (bit b)) (empty-is ∙ eq-eqb n 0 z))
-
-  pub told-not-empty : (n ≡ 0 → ⊥) → Told IsEmpty d [] [] 0 0
-  unfolding show
-  told-not-empty z = told-value IsEmpty d 0 (ap (λ (b : Bool). value-of (bit b)) (empty-is ∙ ne-eqb n 0 z))
 
 module _ (d : MagicString) (n : ℕ) (h : Whole Bytes d n) where
   pub output-length : n ≡ length (to-string d)

@@ -166,21 +166,31 @@ pub fn line_count<'a>(source: &'a [u8], chunks: &[u32], pieces: &[u32], store: &
     }
 }
 
-// `is_empty`: whether no fragment of a chunk has more than white space.
+// `is_empty`: whether no fragment of a chunk has more than white space. Stops at the first that has.
 pub fn is_empty<'a>(source: &'a [u8], chunks: &[u32], pieces: &[u32], store: &'a [u8]) -> Answer
     requires { ⌜ WellFormed (now source) (now chunks) (now pieces) (now store) ⌝ }
     ensures { λ r. ⌜ Told IsEmpty (magicStringOf (now (source .entry)) (now (chunks .entry)) (now (pieces .entry)) (now (store .entry))) [] [] (r .number) (r .value) ⌝ }
 {
-    let n = chunks_total(Measure::Filled, source, chunks, pieces, store);
-    if n == 0 {
-        return Answer {
-            number: 0,
-            value: 1,
-        };
+    let z = table::get_row(chunks, 0);
+    let stop = z.start + 1;
+    let mut c = Cursor {
+        section: 1,
+        row: z.next,
+        item: 0,
+    };
+    while c.section < stop {
+        let t = fragments::fragment(source, chunks, pieces, store, c);
+        if measures::filled(t) == 1 {
+            return Answer {
+                number: 0,
+                value: 0,
+            };
+        }
+        c = fragments::next(chunks, c);
     }
     Answer {
         number: 0,
-        value: 0,
+        value: 1,
     }
 }
 

@@ -1,23 +1,22 @@
 -- `update_with` on the lent tables themselves: the cuts and clears of their rows, and the replacement above all texts in use.
 use mathlib.Core.Path.{_≡_, refl, sym, ap, ap₂, _∙_, subst}
-use mathlib.Core.Bool.{Bool, true, false, _&&_, cond}
-use mathlib.Core.List.{List, [], _∷_, _++_}
+use mathlib.Core.Bool.{Bool, true}
+use mathlib.Core.List.{List, [], _++_}
 use Prim.Native.Nat.{ℕ, _+_, _*_, _≤_, _<_}
 use native.Mathlib.Omega.{arith}
 use lib.Dec.{leb, eqb}
 use lib.ListN.{length, take, drop, length-take, length-map, take-append-drop}
 use lib.Seq.{length-take-le}
 use borrow.Author.Tests.{le-leb}
-use Rattle.table.specs.Order.{entryAt, entries, countOf}
-use Rattle.model.specs.Text.{sum}
-use Rattle.model.specs.MagicString.{MagicString, Result}
+use Rattle.table.specs.Order.{entries, countOf}
+use Rattle.model.specs.MagicString.{MagicString}
 use Rattle.model.specs.Limits.{full, within, piece-count, byte-count, replacement-bytes}
 use Rattle.model.specs.Call.{update-with, refused-before}
-use Rattle.memory.specs.Layout.{NONE, Place, bytesAt, replacementOf, chunkOf, magicStringOf}
-use Rattle.memory.specs.WellFormed.{Sized, Readable, WellFormed, Disjoint, among, pieceUses, runUses, replacementUses}
+use Rattle.memory.specs.Layout.{NONE, Place, replacementOf, chunkOf, magicStringOf}
+use Rattle.memory.specs.WellFormed.{Readable, WellFormed, Disjoint, among, runUses, replacementUses}
 use Rattle.memory.specs.Calls.{Ran}
 use Rattle.rows.specs.Split.{count-entries}
-use Rattle.uses.specs.Counted.{countIn, nothing, counts-rows, counts-store, sum-lists}
+use Rattle.uses.specs.Counted.{nothing, counts-rows, counts-store, sum-lists}
 use Rattle.closed_forms.specs.Spans.{Cover}
 use Rattle.frame.specs.Front.{bool-elim, desk-front}
 use Rattle.frame.specs.Frame.{Did}

@@ -1,13 +1,12 @@
 -- What the walk and the edit keep of a well-formed desk: every row stands in the list once, and of what the rows name only the replacement is new.
-use mathlib.Core.Path.{_≡_, refl, sym, ap, _∙_}
+use mathlib.Core.Path.{_≡_, sym, ap, _∙_}
 use mathlib.Core.Bool.{Bool, true, false, cond}
-use mathlib.Core.List.{List, [], _∷_, _++_, map}
-use Prim.Native.Nat.{ℕ, zero, suc, _+_, _≤_}
+use mathlib.Core.List.{List, [], _∷_, map}
+use Prim.Native.Nat.{ℕ, _+_, _≤_}
 use native.Mathlib.Omega.{arith}
 use lib.Dec.{eqb}
 use lib.ListN.{length}
-use Rattle.table.specs.declared.Row.{Row}
-use Rattle.table.specs.Table.{rowAt, Put}
+use Rattle.table.specs.Table.{rowAt}
 use Rattle.table.specs.Order.{Entry, entryOf, entryAt, entries, order, countOf, Linked}
 use Rattle.model.specs.Text.{sum}
 use Rattle.model.specs.Limits.{piece-count, byte-count, replacement-bytes}
@@ -19,8 +18,8 @@ use Rattle.rows.specs.Split.{RowSet, row-set, entries-at}
 use Rattle.closed_forms.specs.Lists.{sum-append}
 use Rattle.uses.specs.Counted.{countIn, Counts, nothing, counts-pieces, counts-bytes, sum-pieces, sum-bytes}
 use Rattle.uses.specs.Kept.{Kept}
-use Rattle.update_rows.specs.Walk.{RunWalk, onto, emptied, runs, walkFrom, Walked, order-length}
-use Rattle.update_rows.specs.Steps.{editedEntry, EditedRow, FirstEdited}
+use Rattle.update_rows.specs.Walk.{onto, emptied, runs, walkFrom, Walked, order-length}
+use Rattle.update_rows.specs.Steps.{editedEntry, FirstEdited}
 
 -- as `Kept`, with a replacement more, at the place x
 pub record Replaced (t t' : List ℕ) (x : Place) : Type 0 where

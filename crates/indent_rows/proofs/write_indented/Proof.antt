@@ -36,8 +36,8 @@ returns c =
     let z : a .at + a .n - a .at ≡ a .n = omega arith in
     written-short (a .indentor .now) (a .mark) (bytesAt (a .store .now) (a .at, a .n)) _ (ap (λ (k : ℕ). take k (drop (a .at) (a .store .now))) z) (c .before .before .before .before .indent-into .ensures) (not-true _ (c .if1 .taken))
 
-mark-after-requires : tie.Need-mark-after-requires
-mark-after-requires c κs = search needs
+mark-text-requires : tie.Need-mark-text-requires
+mark-text-requires c κs = search needs
 
 cast-t18 : tie.Need-cast-t18
 cast-t18 c =
@@ -52,7 +52,7 @@ returns-2 : tie.Need-returns-2
 returns-2 c =
     let a = c .before .before .before .before .before .before .before .before .before .before .before .before .args in
     let z : a .at + a .n - a .at ≡ a .n = omega arith in
-    written-fits (a .indentor .now) (a .mark) (bytesAt (a .store .now) (a .at, a .n)) _ (ap (λ (k : ℕ). take k (drop (a .at) (a .store .now))) z) (c .before .before .before .before .before .before .before .before .before .before .before .before .pre .1 .0) (c .before .before .before .before .before .before .indent-into .ensures) (not-false _ (c .before .before .if1 .left)) (c .before .mark-after .ensures)
+    written-fits (a .indentor .now) (a .mark) (bytesAt (a .store .now) (a .at, a .n)) _ (ap (λ (k : ℕ). take k (drop (a .at) (a .store .now))) z) (c .before .before .before .before .before .before .before .before .before .before .before .before .pre .1 .0) (c .before .before .before .before .before .before .indent-into .ensures) (not-false _ (c .before .before .if1 .left)) (c .before .mark-text .ensures)
 
 pub write-indented-spec : {M : Type 1} → statement M
 write-indented-spec =
@@ -65,7 +65,7 @@ write-indented-spec =
     indent-into-requires
     same-length
     returns
-    mark-after-requires
+    mark-text-requires
     cast-t18
     same-length-2
     returns-2)

@@ -24,12 +24,6 @@ enum-told-3 c = search needs
 line-feeds-requires : tie.Need-line-feeds-requires
 line-feeds-requires c κs = search needs
 
-enum-told-4 : tie.Need-enum-told-4
-enum-told-4 c = search needs
-
-filled-requires : tie.Need-filled-requires
-filled-requires c κs = search needs
-
 returns : tie.Need-returns
 returns c = sym (ap (λ (m : Measure). measureOf m (c .before .before .before .args .t .now)) (c .enum-told .given .1))
 
@@ -38,9 +32,6 @@ returns-2 c = c .utf16-len .ensures ∙ sym (ap (λ (m : Measure). measureOf m (
 
 returns-3 : tie.Need-returns-3
 returns-3 c = c .line-feeds .ensures ∙ sym (ap (λ (m : Measure). measureOf m (c .before .before .before .before .args .t .now)) (c .before .enum-told3 .given .1))
-
-returns-4 : tie.Need-returns-4
-returns-4 c = c .filled .ensures ∙ sym (ap (λ (m : Measure). measureOf m (c .before .before .before .before .args .t .now)) (c .before .enum-told4 .given .1))
 
 pub count-spec : {M : Type 1} → statement M
 count-spec =
@@ -52,9 +43,6 @@ count-spec =
     utf16-len-requires
     enum-told-3
     line-feeds-requires
-    enum-told-4
-    filled-requires
     returns
     returns-2
-    returns-3
-    returns-4)
+    returns-3)

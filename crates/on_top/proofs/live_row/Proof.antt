@@ -1,4 +1,4 @@
-use mathlib.Core.Path.{_≡_, refl, sym, ap, _∙_}
+use mathlib.Core.Path.{_≡_, refl, sym, ap, ap₂, _∙_}
 use Prim.Native.Nat.{ℕ, _+_, _≤_, max, min}
 use native.Mathlib.Omega.{arith}
 use Rattle.table.specs.Order.{entryOf}
@@ -65,7 +65,7 @@ returns-2 c =
     let e = entryOf (start .args .r) in
     entry-some e (live-run .ensures) (live-run2 .ensures) (add-capped .result) (larger .result) (if1 .left) (start .pre .0 .replacement)
     (add-capped .ensures ∙ ap (λ (x : ℕ). min (live-run2 .result .bytes + x) 32769) (wide .ensures .0))
-    (larger .ensures ∙ omega (arith, wide .ensures .0, wide2 .ensures .0))
+    (larger .ensures ∙ ap₂ (λ (x y : ℕ). max (live-run2 .result .byte) (x + y)) (wide2 .ensures .0) (wide .ensures .0))
 
 pub live-row-spec : {M : Type 1} → statement M
 live-row-spec =
