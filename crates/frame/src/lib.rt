@@ -1,4 +1,4 @@
-// What every edit shares: the lent tables are copied into scratch tables, the edit's steps run there, and the desk that they leave is written back if it keeps the limits.
+// What calls on scratch tables share: the lent tables are copied into them, the steps run there, and the desk that they leave is written back if it keeps the limits.
 ghost use mathlib.Core.Path.{_≡_};
 ghost use mathlib.Core.Bool.{true};
 ghost use mathlib.Core.List.{[], _∷_};
@@ -132,7 +132,7 @@ pub fn keeps(t: &[u32], p: &[u32], s: &[u8]) -> bool
     bytes <= 32768
 }
 
-// The end of every edit: the desk of the scratch tables written into the lent tables with the answer r; or 13, and nothing written.
+// The end of such a call: the desk of the scratch tables written into the lent tables with the answer r; or 13, and nothing written.
 pub fn finish(
     t: &[u32],
     p: &[u32],

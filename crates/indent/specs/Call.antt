@@ -1,4 +1,4 @@
--- `indent_with` as a call: the tests before it, the indentor given or guessed, and the steps between loading and the end of every edit.
+-- `indent_with` as a call: the tests before it, the indentor given or guessed, and the steps between loading the scratch tables and writing them back.
 -- Assumes nothing.
 use mathlib.Core.Path.{_≡_, refl, sym, ap, _∙_, subst}
 use mathlib.Core.Bool.{Bool, true, false, _&&_, cond}

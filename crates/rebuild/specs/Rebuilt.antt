@@ -1,4 +1,4 @@
--- What the end of every edit promises: the scratch desk is written into the lent tables if it keeps the limits.
+-- What the end of a call on scratch tables promises: the scratch desk is written into the lent tables if it keeps the limits.
 use mathlib.Core.Path.{_≡_}
 use mathlib.Core.Bool.{true, false}
 use mathlib.Core.List.{List, []}

@@ -1,4 +1,4 @@
-// The end of every edit: the limits counted on the scratch tables, and the desk laid out anew in the lent tables.
+// The desk of scratch tables, laid out anew in the lent tables.
 ghost use mathlib.Core.Path.{_≡_};
 ghost use mathlib.Core.List.{[]};
 ghost use mathlib.Core.Bool.{true};

@@ -1,4 +1,4 @@
--- The trims as calls: the desk loaded into scratch tables, one side or both, and the end of every edit.
+-- The trims as calls: the desk loaded into scratch tables, one side or both, and the desk written back.
 -- Assumes nothing.
 use mathlib.Core.Path.{_≡_, refl, sym, ap, ap₂, _∙_, subst}
 use mathlib.Core.Bool.{Bool, true, false, _&&_}
