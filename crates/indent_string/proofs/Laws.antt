@@ -2,7 +2,7 @@
 use mathlib.Core.Path.{_≡_, refl, ap, sym, _∙_, subst}
 use mathlib.Core.Bool.{Bool, true, false, _&&_, cond, false≢true}
 use mathlib.Core.List.{List, [], _∷_, _++_, append-assoc}
-use Prim.Native.Nat.{ℕ, suc, _+_, _-_, _^_, _≤_, _<_, min}
+use Prim.Native.Nat.{ℕ, zero, suc, _+_, _-_, _^_, _≤_, _<_, min}
 use native.Mathlib.Omega.{arith}
 use native.Mathlib.Numerals.{add-one}
 use native.Mathlib.Decide.{decLt}
@@ -18,10 +18,11 @@ use Rattle.model.specs.Call.{show, get-indent-string as GetIndentString}
 use Rattle.memory.specs.Layout.{magicStringOf}
 use Rattle.memory.specs.WellFormed.{WellFormed}
 use Rattle.memory.specs.Calls.{Told}
+use Rattle.measures.specs.Measures.{feedOf}
 use Rattle.fragments.specs.Telling.{told-short, told-text}
 use Rattle.indent_string.specs.declared.Indentor.{Indentor}
 use Rattle.indent_string.specs.declared.Tally.{Tally}
-use Rattle.indent_string.specs.Lines.{behind-line, NextLine, Counts}
+use Rattle.indent_string.specs.Lines.{behind-line, NoFeeds, Seeking, NextLine, Counts}
 use Rattle.indent_string.specs.Guess.{indentor-text, Guessed}
 
 -- a test with its two cases
@@ -172,9 +173,6 @@ module _ (s : Text) (at i : ℕ) (c : Spacing s at i) where
   pub spacing-done : length s ≤ i → i ≡ at + leading-spaces (drop at s)
   spacing-done h = omega (arith, c .2, ap leading-spaces (drop-of-length-le s {i = i} h))
 
-abbrev pub Seeking : Text → ℕ → ℕ → Type 0
-Seeking s at i = (at ≤ i) × (i ≤ length s) × (behind-line (drop i s) ≡ behind-line (drop at s))
-
 module _ (s : Text) (at i : ℕ) (c : Seeking s at i) where
   pub seeking-met : i < length s → getD s i 0 ≡ LF → NextLine s at (i + 1)
   seeking-met h n = record {
@@ -191,6 +189,31 @@ module _ (s : Text) (at i : ℕ) (c : Seeking s at i) where
   seeking-done h =
       let e : drop i s ≡ [] = drop-of-length-le s {i = i} h in
       record { left = e ∙ sym (ap behind-line e) ∙ c .2; inside = c .1; from = c .0; ahead = λ k. omega arith }
+
+-- a block without a line feed
+pub feed-most : (b f : ℕ) → f ≡ feedOf b → f ≤ 1
+feed-most b f e = let h = by-test (λ x. cond x 1 0 ≤ 1) (eqb b LF) (λ _. omega arith) (λ _. omega arith) in omega (arith, e)
+
+pub no-feeds-more : (s : Text) (i j found f : ℕ) → (found ≡ 0 → NoFeeds s i j) → f ≡ feedOf (getD s (i + j) 0) → found + f ≡ 0 → NoFeeds s i (j + 1)
+no-feeds-more s i j found f h e z k l q =
+    elim (decLt k j) [
+      | yes m ↦ h (omega arith) k m q
+      | no m ↦
+          let a : k ≡ j = omega arith in
+          let b : getD s (i + j) 0 ≡ LF = ap (λ (x : ℕ). getD s (i + x) 0) (sym a) ∙ q in
+          let d : f ≡ 1 = e ∙ rw (eq-eqb (getD s (i + j) 0) LF b) in
+          omega arith
+    ]
+
+pub seeking-from : (s : Text) (at i k : ℕ) → Seeking s at i → Seeking s i k → Seeking s at k
+seeking-from s at i k c d = (omega (arith, c .0, d .0), d .1, d .2 ∙ c .2)
+
+pub seeking-block : (s : Text) (i n : ℕ) → i + n ≤ length s → NoFeeds s i n → Seeking s i (i + n)
+seeking-block s i zero h f = let z : i + 0 ≡ i = omega arith in rw z (omega arith, omega arith, refl)
+seeking-block s i (suc n) h f =
+    let a = seeking-block s i n (omega arith) (λ j l. f j (omega arith)) in
+    let z : i + n + 1 ≡ i + suc n = omega arith in
+    rw z at (seeking-more s i (i + n) a (omega arith) (f n (omega arith)))
 
 -- ---- the tally over the lines passed, and what is left
 least-more : (k n : ℕ) (ls : List Text) → least-spaces (min k n) ls ≡ min k (least-spaces n ls)

@@ -4,7 +4,7 @@ use mathlib.Core.Path.{_≡_}
 use mathlib.Core.Bool.{cond}
 use mathlib.Core.List.{[], _∷_}
 use lib.Dec.{eqb}
-use lib.ListN.{length, drop}
+use lib.ListN.{length, getD, drop}
 use Rattle.model.specs.Text.{Text, TAB, LF}
 use Rattle.model.specs.Indent.{tabbed, spaced, leading-spaces}
 use Rattle.indent_string.specs.declared.Tally.{Tally}
@@ -13,6 +13,14 @@ use Rattle.indent_string.specs.declared.Tally.{Tally}
 abbrev pub behind-line : Text → Text
 behind-line [] = []
 behind-line (a ∷ s) = let r : Text = behind-line s in cond (eqb a LF) s r
+
+-- no line feed stands in the n bytes of s from i on
+abbrev pub NoFeeds : Text → ℕ → ℕ → Type 0
+NoFeeds s i n = (j : ℕ) → j < n → getD s (i + j) 0 ≡ LF → ⊥
+
+-- the line that goes on at `at` goes on at i
+abbrev pub Seeking : Text → ℕ → ℕ → Type 0
+Seeking s at i = (at ≤ i) × (i ≤ length s) × (behind-line (drop i s) ≡ behind-line (drop at s))
 
 -- r is where the next line begins in s, or the end
 pub record NextLine (s : Text) (at r : ℕ) : Type 0 where

@@ -8,7 +8,7 @@ ghost use Rattle.model.specs.Call.{get-indent-string as GetIndentString};
 ghost use Rattle.memory.specs.Layout.{magicStringOf};
 ghost use Rattle.memory.specs.WellFormed.{WellFormed};
 ghost use Rattle.memory.specs.Calls.{Told};
-ghost use Rattle.indent_string.specs.Lines.{NextLine, Counts};
+ghost use Rattle.indent_string.specs.Lines.{NoFeeds, Seeking, NextLine, Counts};
 ghost use Rattle.indent_string.specs.Guess.{indentor-text, Guessed};
 use texts::Answer;
 
@@ -40,12 +40,41 @@ fn behind_spaces(s: &[u8], at: usize) -> usize
     i
 }
 
+// 0 if no line feed stands in the n bytes from `i` on: no branch per byte.
+fn feeds(s: &[u8], i: usize, n: usize) -> u32
+    requires { ⌜ (i + n ≤ length (now s)) × (n < 2 ^ 32) ⌝ }
+    ensures { λ r. ⌜ (r ≡ 0 → NoFeeds (now (s .entry)) i n) ⌝ }
+{
+    let mut found: u32 = 0;
+    let mut j: usize = 0;
+    while j < n {
+        found += measures::feed(s[i + j]);
+        j += 1;
+    }
+    found
+}
+
+// Passes blocks of n bytes without a line feed.
+fn past_blocks(s: &[u8], at: usize, n: usize) -> usize
+    requires { ⌜ (at ≤ length (now s)) × (0 < n) × (n < 2 ^ 32) ⌝ }
+    ensures { λ r. ⌜ Seeking (now (s .entry)) at r ⌝ }
+{
+    let mut i = at;
+    while n <= s.len() - i {
+        if feeds(s, i, n) != 0 {
+            return i;
+        }
+        i += n;
+    }
+    i
+}
+
 // The place where the next line begins, or the end.
 fn next_line(s: &[u8], at: usize) -> usize
     requires { ⌜ at ≤ length (now s) ⌝ }
     ensures { λ r. ⌜ NextLine (now (s .entry)) at r ⌝ }
 {
-    let mut i = at;
+    let mut i = past_blocks(s, past_blocks(s, at, 32), 8);
     while i < s.len() {
         if s[i] == 10 {
             return i + 1;

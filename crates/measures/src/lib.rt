@@ -17,7 +17,7 @@ pub enum Measure {
 }
 
 // 1 for a line feed, 0 for any other byte.
-fn feed(b: u8) -> u32
+pub fn feed(b: u8) -> u32
     ensures { λ r. ⌜ r ≡ feedOf b ⌝ }
 {
     if b == 10 { 1 } else { 0 }

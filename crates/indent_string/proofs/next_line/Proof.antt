@@ -1,9 +1,9 @@
 -- `indent_string::next_line` meets its contract. Assumes nothing.
-use mathlib.Core.Path.{refl}
 use Prim.Native.Nat.{_-_}
 use native.Mathlib.Omega.{arith}
 use lib.ListN.{length}
-use Rattle.indent_string.proofs.Laws.{Seeking, seeking-met, seeking-more, seeking-done}
+use Rattle.indent_string.specs.Lines.{Seeking}
+use Rattle.indent_string.proofs.Laws.{seeking-from, seeking-met, seeking-more, seeking-done}
 use borrow.Author.Needs.{needs}
 use Rattle.indent_string.proofs.next_line.Statement.{statement}
 use Rattle.indent_string.proofs.next_line.Tie as tie
@@ -15,7 +15,15 @@ abbrev μ-loop : tie.MeasureT-loop
 μ-loop s at i₀ i = length s - i
 
 loop-holds : tie.Need-loop-holds Inv-loop μ-loop
-loop-holds c = (omega arith, c .pre, refl)
+loop-holds c =
+    let x = c .before .before .before .args in
+    seeking-from (x .s .now) (x .at) (c .before .past-blocks .result) (c .past-blocks2 .result) (c .before .past-blocks .ensures) (c .past-blocks2 .ensures)
+
+past-blocks-requires : tie.Need-past-blocks-requires Inv-loop μ-loop
+past-blocks-requires c κs = search needs
+
+past-blocks-requires-2 : tie.Need-past-blocks-requires-2 Inv-loop μ-loop
+past-blocks-requires-2 c κs = search needs
 
 shared-slice-read-if1 : tie.Need-shared-slice-read-if1 Inv-loop μ-loop
 shared-slice-read-if1 c = search needs
@@ -41,4 +49,4 @@ returns-2 c = seeking-done _ _ _ (c .before .loop .inv) (c .loop-test .left)
 pub next-line-spec : {M : Type 1} → statement M
 next-line-spec =
     tie.close
-    (tie.spec Inv-loop μ-loop loop-holds shared-slice-read-if1 add-result returns add-i loop-less loop-again returns-2)
+    (tie.spec Inv-loop μ-loop past-blocks-requires past-blocks-requires-2 loop-holds shared-slice-read-if1 add-result returns add-i loop-less loop-again returns-2)
