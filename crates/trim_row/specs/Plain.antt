@@ -31,6 +31,9 @@ plain-bytes m = sum plain (m .chunks)
 abbrev pub plainOf : Entry → ℕ
 plainOf e = cond (eqb (e .text .0) NONE) (e .end - e .start) 0
 
+pub plain-width : (e : Entry) → e .text .0 ≡ NONE → plainOf e ≡ e .end - e .start
+plain-width e n = rw (eq-eqb (e .text .0) NONE n)
+
 pub plain-row : (p s : List ℕ) (e : Entry) → plain (chunkOf p s e) ≡ plainOf e
 unfolding replacementOf
 plain-row p s e = go (eqb (e .text .0) NONE)
