@@ -18,7 +18,7 @@ use Rattle.preservation.specs.Trim.{trim-start-keeps, trim-end-keeps}
 use Rattle.trim_text.specs.Sides.{blank}
 use Rattle.trim_run.specs.Deque.{trim-deque, deque-nil, all-nil-deque}
 use Rattle.trim_row.specs.Sides.{trim-chunk}
-use Rattle.trim_chunks.specs.Walk.{way}
+use Rattle.trim_chunks.specs.Sums.{way, sum-reverse}
 
 -- `trim_start` (from the front) or `trim_end`
 abbrev pub trim-side : Bool → ℕ → MagicString → MagicString
@@ -101,14 +101,6 @@ chunks-le : (f : Chunk → Trimmed) → ((c : Chunk) → chunk-pieces (f c .chun
 chunks-le f g [] = omega arith
 chunks-le f g (c ∷ cs) =
     of-cond (λ (l : List Chunk). sum chunk-pieces (f c .chunk ∷ l) ≤ sum chunk-pieces (c ∷ cs)) (f c .goes-on) (λ _. omega (arith, g c, chunks-le f g cs)) (λ _. omega (arith, g c))
-
-sum-snoc : (f : Chunk → ℕ) (xs : List Chunk) (c : Chunk) → sum f (xs ++ (c ∷ [])) ≡ sum f xs + f c
-sum-snoc f [] c = omega arith
-sum-snoc f (x ∷ xs) c = omega (arith, sum-snoc f xs c)
-
-sum-reverse : (f : Chunk → ℕ) (cs : List Chunk) → sum f (reverse cs) ≡ sum f cs
-sum-reverse f [] = refl
-sum-reverse f (c ∷ cs) = ap (sum f) (reverse-cons c cs) ∙ sum-snoc f (reverse cs) c ∙ omega (arith, sum-reverse f cs)
 
 pub side-pieces : (front : Bool) (p : ℕ) (m : MagicString) → piece-count (trim-side front p m) ≤ piece-count m
 unfolding trim-start trim-end
