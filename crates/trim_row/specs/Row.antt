@@ -273,7 +273,7 @@ pub clear-fewer : (p p' : List ℕ) (e : Entry) → Fewer p p' e (clearOf e)
 clear-fewer p p' e =
     record {
       rows = λ j. omega (arith, among-none 0 j);
-      bytes = λ b. omega (arith, no-more-none p p' 0 (e .intro) .bytes b, no-more-none p p' 0 (e .outro) .bytes b, cleared-uses e b);
+      bytes = λ b. omega (arith, no-more-none p p' 0 (0, 0) (e .intro) refl .bytes b, no-more-none p p' 0 (0, 0) (e .outro) refl .bytes b, cleared-uses e b);
     }
 
 cleared-low : (e : Entry) (byte byte' : ℕ) → byte ≤ byte' → TextLow byte (e .text) → TextLow byte' (clearedText e)
@@ -432,7 +432,7 @@ module _ (front : Bool) (pattern : ℕ) (source p s : List ℕ) (e : Entry) (top
         text = sides-text front (0, 0) (farOf front e) x (d .low (h .low .text));
         spent = sides-spent front e byte (0, 0) (farOf front e) x (d .plain) (d .low (h .low .text));
         apart =
-            sides-apart front p p top byte e (0, 0) (farOf front e) x (h .low .runs) (no-more-none p p top (nearOf front e)) (far-same p (rows-same top p))
+            sides-apart front p p top byte e (0, 0) (farOf front e) x (h .low .runs) (no-more-none p p top (0, 0) (nearOf front e) refl) (far-same p (rows-same top p))
             (λ j l. omega (arith, among-none 0 j, far-above j l)) (d .uses);
       }
 
@@ -455,7 +455,7 @@ module _ (front : Bool) (pattern : ℕ) (source p s : List ℕ) (e : Entry) (top
         text = sides-text front (0, 0) q (clearedText e) (cleared-low e byte (byte + plainOf e) (omega arith) (h .low .text));
         spent = sides-spent front e byte (0, 0) q (clearedText e) (cleared-plain e) (cleared-low e byte (byte + plainOf e) (omega arith) (h .low .text));
         apart =
-            sides-apart front p p' top byte e (0, 0) q (clearedText e) (h .low .runs) (no-more-none p p' top (nearOf front e)) (no-more-trimmed p p' top front pattern s (farOf front e) q d)
+            sides-apart front p p' top byte e (0, 0) q (clearedText e) (h .low .runs) (no-more-none p p' top (0, 0) (nearOf front e) refl) (no-more-trimmed p p' top front pattern s (farOf front e) q d)
             (λ j l. omega (arith, among-none 0 j, among-most q j)) (λ b l. cleared-uses e b);
       }
 

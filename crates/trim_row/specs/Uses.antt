@@ -99,8 +99,12 @@ pub record NoMore (p p' : List ℕ) (top : ℕ) (n r : Place) : Type 0 where
 
 module _ (p p' : List ℕ) (top : ℕ) where
   -- an empty one
-  pub no-more-none : (r : Place) → NoMore p p' top (0, 0) r
-  no-more-none r = record { rows = λ j h. omega (arith, among-none 0 j); bytes = λ b. omega (arith, run-sum p' b (0, 0)) }
+  pub no-more-none : (n r : Place) → n .1 ≡ 0 → NoMore p p' top n r
+  no-more-none n r e =
+      record {
+        rows = λ j h. omega (arith, among-out (n .0) (n .1) j (λ u v. omega arith));
+        bytes = λ b. omega (arith, run-sum p' b n ∙ ap (sum-to (λ k. among (pieceAt p' (n .0 + k)) b)) e);
+      }
 
   -- the same, below what was written
   pub no-more-same : (byte : ℕ) (r : Place) → RowsKept top p p' → Below p byte top r → NoMore p p' top r r
