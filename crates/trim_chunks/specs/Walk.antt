@@ -19,7 +19,9 @@ use Rattle.memory.specs.Layout.{chunkOf}
 use Rattle.trim_run.specs.Low.{RowsKept, BytesKept, rows-same, bytes-same, TextLow, EntryLow, entry-same, runs-still, entry-still}
 use Rattle.trim_row.specs.Sides.{trim-chunk}
 use Rattle.trim_row.specs.Plain.{plainOf, Behind}
-use Rattle.trim_row.specs.Row.{clearOf, blankRow, Rewritten, RowReady, RowFits, RowTrimmed, RowDone, piecesOf, row-blank, clear-low, clear-spent}
+use Rattle.trim_row.specs.Row.{clearOf, blankRow, Rewritten, RowReady, RowFits, RowTrimmed, RowDone, piecesOf, row-blank, clear-low, clear-spent, clear-fewer}
+use Rattle.trim_row.specs.Uses.{Fewer, RowApart, same-fewer}
+use Rattle.trim_chunks.specs.Apart.{ChunksApart, all-apart, one-apart}
 use Rattle.trim_chunks.specs.Sums.{way, each-sum, but-one, entries-sum}
 
 -- the next row in that direction
@@ -256,6 +258,7 @@ pub record ChunksTrimmed (front : Bool) (pattern : ℕ) (source p s : List ℕ) 
   pub least : byte ≤ b
   pub low : All (EntryLow p' (top + wide) b) (entries t')
   pub spent : b + sum plainOf (entries t') ≤ byte + sum plainOf (entries t)
+  pub apart : ChunksApart p p' top byte t t'
   pub chunks : map (chunkOf p' s') (entries t') ≡ way front (trim-chunks (trim-chunk front pattern source) (way front (map (chunkOf p s) (entries t))))
 
 module _ (f : Chunk → Trimmed) (G H : ℕ → Chunk) where
@@ -299,6 +302,9 @@ module _ (front : Bool) (pattern : ℕ) (source p s : List ℕ) (top wide byte :
   ready-us : Each (ReadyAt source p s top wide byte t) us
   ready-us = each-left (ReadyAt source p s top wide byte t) us (w .at .rest) ready-way
 
+  low-each : (xs : List ℕ) → Each (ReadyAt source p s top wide byte t) xs → Each (λ x. EntryLow p top byte (entryAt t x)) xs
+  low-each = each-map (ReadyAt source p s top wide byte t) (λ x. EntryLow p top byte (entryAt t x)) (λ x h. h .1 .0 .low)
+
   same-order : (t' : List ℕ) → ((x : ℕ) → nextOf t' x ≡ nextOf t1 x) → ((x : ℕ) → prevOf t' x ≡ prevOf t1 x) → rowAt t' 0 ≡ rowAt t1 0 → length t' ≡ length t1 → (order t' ≡ order t) × Linked t'
   same-order t' nx pv d m =
       same-links t t' (λ x. nx x ∙ w .at .next x) (λ x. pv x ∙ w .at .prev x) (ap (λ (r : Row). r .start) (d ∙ w .at .desk)) (m ∙ w .at .len) (ready .linked)
@@ -340,6 +346,11 @@ module _ (front : Bool) (pattern : ℕ) (source p s : List ℕ) (top wide byte :
     cleared-spent [] c = tt
     cleared-spent (x ∷ xs) c = (omega (arith, ap plainOf (c .0), clear-spent (entryAt t x)), cleared-spent xs (c .1))
 
+    cleared-fewer : (xs : List ℕ) → Each Clear xs → Each (λ x. Fewer p p' (entryAt t x) (entryAt t' x)) xs
+    unfolding Clear
+    cleared-fewer [] c = tt
+    cleared-fewer (x ∷ xs) c = (subst (Fewer p p' (entryAt t x)) (sym (c .0)) (clear-fewer p p' (entryAt t x)), cleared-fewer xs (c .1))
+
     Same : ℕ → Type 0
     Same x = entryAt t' x ≡ entryAt t x
 
@@ -361,6 +372,11 @@ module _ (front : Bool) (pattern : ℕ) (source p s : List ℕ) (top wide byte :
     unfolding Same Spent
     stays-spent [] c = tt
     stays-spent (x ∷ xs) c = (omega (arith, ap plainOf (c .0)), stays-spent xs (c .1))
+
+    stays-fewer : (xs : List ℕ) → Each (ReadyAt source p s top wide byte t) xs → Each Same xs → Each (λ x. Fewer p p' (entryAt t x) (entryAt t' x)) xs
+    unfolding Same
+    stays-fewer [] r c = tt
+    stays-fewer (x ∷ xs) r c = (subst (Fewer p p' (entryAt t x)) (sym (c .0)) (same-fewer p p' top byte (entryAt t x) kp (r .0 .1 .0 .low .runs)), stays-fewer xs (r .1) (c .1))
 
     -- from the rows in the direction of the trim to the table
     together : order t' ≡ order t → Each Low (way front (order t)) → trim-chunks (trim-chunk front pattern source) (map (λ x. chunkOf p s (entryAt t x)) (way front (order t))) ≡ map (λ x. chunkOf p' s' (entryAt t' x)) (way front (order t))
@@ -400,6 +416,7 @@ module _ (front : Bool) (pattern : ℕ) (source p s : List ℕ) (top wide byte :
         least = kb;
         low = x .0;
         spent = omega (arith, e .0, e .1, c);
+        apart = all-apart front p p top byte t t1 (o .0) us q (low-each us ready-us) (cleared-fewer t1 p s kp ks byte kb us (w .at .done));
         chunks = x .1;
       }
 
@@ -474,6 +491,11 @@ module _ (front : Bool) (pattern : ℕ) (source p s : List ℕ) (top wide byte :
                 least = kb;
                 low = y .0;
                 spent = omega (arith, e .0, e .1, x);
+                apart =
+                    one-apart front p p' top byte t t2 (o .0) us i bs W (subst (λ (l : List ℕ). Each (λ a. EntryLow p top byte (entryAt t a)) (us ++ l)) (stop .rest-is) (low-each (us ++ w .at .rest) ready-way))
+                    (cleared-fewer t2 p' s' kp ks b kb us c)
+                    (subst (RowApart p p' top byte (entryAt t i)) (sym n) (subst (λ (y : Row). RowApart p p' top byte (entryOf y) (entryOf q)) row-was (d .trimmed .apart)))
+                    (stays-fewer t2 p' s' kp ks b kb bs (ready-rest .1) k);
                 chunks = y .1;
               }
 

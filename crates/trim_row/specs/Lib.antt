@@ -1,3 +1,4 @@
 pub mod Sides
 pub mod Plain
+pub mod Uses
 pub mod Row

@@ -21,7 +21,7 @@ use Rattle.model.specs.Chunk.{Chunk, Texts, content}
 use Rattle.model.specs.Trim.{Trimmed}
 use Rattle.model.specs.WellFormed.{Valid, ValidTexts}
 use Rattle.memory.specs.Layout.{NONE, Place, bytesAt, runOf, replacementOf, textsOf, chunkOf}
-use Rattle.memory.specs.WellFormed.{RunIn, ReplacementIn, EntryIn}
+use Rattle.memory.specs.WellFormed.{RunIn, ReplacementIn, EntryIn, among, replacementUses}
 use Rattle.texts.specs.Over.{over, length-over, take-over, over-part}
 use Rattle.texts.specs.Texts.{SpanIn, contentAt, run-tabulate}
 use Rattle.texts.specs.Carry.{Below}
@@ -29,6 +29,8 @@ use Rattle.trim_text.specs.Sides.{trim-text, blank, PlaceTrimmed}
 use Rattle.trim_run.specs.Deque.{trim-deque, all-nil-deque, deque-nil}
 use Rattle.trim_run.specs.Low.{RowsKept, BytesKept, rows-same, bytes-same, TextLow, RunsLow, EntryLow, run-same, run-still, run-in}
 use Rattle.trim_run.specs.Run.{RunReady, RowRoom, RunTrimmed}
+use Rattle.counts.specs.Places.{among-none}
+use Rattle.trim_row.specs.Uses.{NoMore, no-more-none, no-more-same, no-more-trimmed, rows-above, among-most, text-before, text-within, text-empty, Fewer, RowApart, row-apart}
 use Rattle.trim_row.specs.Plain.{plainOf, plain-width, Behind, spent-of}
 use Rattle.trim_row.specs.Sides.{trim-chunk, near, far, sides, with-sides, near-left, content-left, content-blank}
 
@@ -110,6 +112,7 @@ pub record ContentTrimmed (front : Bool) (pattern : ℕ) (source s : List ℕ) (
       ≡ cond (eqb (length (trim-text front pattern (contentOf source s e))) (length (contentOf source s e))) (replacementOf s (e .text)) (some (trim-text front pattern (contentOf source s e)))
   pub low : TextLow byte (e .text) → TextLow (byte + plainOf e) x
   pub plain : x .0 ≡ NONE → e .text .0 ≡ NONE
+  pub uses : (b : ℕ) → b < byte → replacementUses b x ≤ replacementUses b (e .text)
 
 -- the row of a chunk that is not blank, trimmed
 pub record RowTrimmed (front : Bool) (pattern : ℕ) (source p s : List ℕ) (e : Entry) (top byte : ℕ) (p' s' : List ℕ) (e' : Entry) : Type 0 where
@@ -119,6 +122,7 @@ pub record RowTrimmed (front : Bool) (pattern : ℕ) (source p s : List ℕ) (e 
   pub runs : RunsLow p' (top + piecesOf e) byte e'
   pub text : TextLow (byte + plainOf e) (e' .text)
   pub spent : (b : ℕ) → Behind byte (e' .text) b → b + plainOf e' ≤ byte + plainOf e
+  pub apart : RowApart p p' top byte e e'
 
 -- the row q, in the place of r
 pub record RowDone (front : Bool) (pattern : ℕ) (source p s : List ℕ) (r : Row) (top byte : ℕ) (p' s' : List ℕ) (q : Row) : Type 0 where
@@ -164,6 +168,12 @@ few-near false e = omega arith
 few-far : (front : Bool) (e : Entry) → farOf front e .1 ≤ piecesOf e
 few-far true e = omega arith
 few-far false e = omega arith
+
+-- a row with other sides, of which one stands above at most
+sides-apart : (front : Bool) (p p' : List ℕ) (top byte : ℕ) (e : Entry) (n f x : Place) → RunsLow p top byte e → NoMore p p' top n (nearOf front e) → NoMore p p' top f (farOf front e)
+    → ((j : ℕ) → top ≤ j → among n j + among f j ≤ 1) → ((b : ℕ) → b < byte → replacementUses b x ≤ replacementUses b (e .text)) → RowApart p p' top byte e (withSides front e n f x)
+sides-apart true p p' top byte e n f x h i o a t = row-apart p top byte e h p' (withSides true e n f x) i o a t
+sides-apart false p p' top byte e n f x h i o a t = row-apart p top byte e h p' (withSides false e n f x) o i (λ j l. omega (arith, a j l)) t
 
 -- a row with other sides and a replacement where it had one
 sides-spent : (front : Bool) (e : Entry) (byte : ℕ) (n f x : Place) → (x .0 ≡ NONE → e .text .0 ≡ NONE) → TextLow (byte + plainOf e) x
@@ -251,6 +261,21 @@ clear-spent e = go (eqb (cond (eqb (e .text .0) NONE) (e .end - e .start) (e .te
     go true = omega arith
     go false = omega arith
 
+cleared-uses : (e : Entry) (b : ℕ) → replacementUses b (clearedText e) ≤ replacementUses b (e .text)
+cleared-uses e b = go (eqb (cond (eqb (e .text .0) NONE) (e .end - e .start) (e .text .1)) 0)
+  where
+    go : (c : Bool) → replacementUses b (cond c (e .text) (0, 0)) ≤ replacementUses b (e .text)
+    go true = omega arith
+    go false = omega (arith, text-empty b 0)
+
+-- and uses no more
+pub clear-fewer : (p p' : List ℕ) (e : Entry) → Fewer p p' e (clearOf e)
+clear-fewer p p' e =
+    record {
+      rows = λ j. omega (arith, among-none 0 j);
+      bytes = λ b. omega (arith, no-more-none p p' 0 (0, 0) (e .intro) refl .bytes b, no-more-none p p' 0 (0, 0) (e .outro) refl .bytes b, cleared-uses e b);
+    }
+
 cleared-low : (e : Entry) (byte byte' : ℕ) → byte ≤ byte' → TextLow byte (e .text) → TextLow byte' (clearedText e)
 cleared-low e byte byte' h i = go (eqb (cond (eqb (e .text .0) NONE) (e .end - e .start) (e .text .1)) 0)
   where
@@ -290,6 +315,7 @@ module _ (front : Bool) (pattern : ℕ) (source s : List ℕ) (e : Entry) (byte 
             ]);
         low = λ h z. omega (arith, h n, w .last);
         plain = λ q. absurd (omega (arith, w .last, r .small));
+        uses = λ b h. text-within b (a, k) (e .text) n (record { first = w .first; last = w .last });
       }
 
   module _ (n : e .text .0 ≡ NONE) (a k : ℕ) (w : PlaceTrimmed front pattern source (e .start) (e .end - e .start) a k) where
@@ -318,6 +344,7 @@ module _ (front : Bool) (pattern : ℕ) (source s : List ℕ) (e : Entry) (byte 
           text = none-text s (NONE, 0) refl ∙ rw (eq-eqb (length t) (length (contentOf source s e)) (sym (ap length d) ∙ size ∙ q ∙ sym full)) (sym (none-text s (e .text) n));
           low = λ h z. absurd (z refl);
           plain = λ _. n;
+          uses = λ b h. omega (arith, text-empty b NONE);
         }
 
     pub content-copied : (k ≡ e .end - e .start → ⊥) → (s' : List ℕ) → s' ≡ over s byte (take k (drop a source)) → ContentTrimmed front pattern source s e byte s' (byte, k)
@@ -333,6 +360,7 @@ module _ (front : Bool) (pattern : ℕ) (source s : List ℕ) (e : Entry) (byte 
               ∙ sym (rw (ne-eqb (length t) (length (contentOf source s e)) (λ y. q (sym size ∙ ap length d ∙ y ∙ full))));
           low = λ h y. omega (arith, width, w .first, w .last);
           plain = λ _. n;
+          uses = λ b h. omega (arith, text-before b (byte, k) h);
         }
 
 -- ---- the three ways in which a chunk stops a trim
@@ -354,6 +382,12 @@ module _ (front : Bool) (pattern : ℕ) (source p s : List ℕ) (e : Entry) (top
 
   below-run : (q' : List ℕ) (n : ℕ) (q : Place) → n ≤ piecesOf e → Below q' byte (top + n) q → Below q' byte (top + piecesOf e) q
   below-run q' n q m b k g = (omega (arith, b k g .0), b k g .1)
+
+  far-above : (j : ℕ) → top ≤ j → among (farOf front e) j ≡ 0
+  far-above = rows-above p top byte (farOf front e) (far-low p s e front top byte (h .low))
+
+  far-same : (p' : List ℕ) → RowsKept top p p' → NoMore p p' top (farOf front e) (farOf front e)
+  far-same p' k = no-more-same p p' top byte (farOf front e) k (far-low p s e front top byte (h .low))
 
   far-still : (p' : List ℕ) → RowsKept top p p' → Below p' byte (top + piecesOf e) (farOf front e)
   far-still p' k = run-still top byte p p' k (top + piecesOf e) byte (omega arith) (omega arith) (farOf front e) (far-low p s e front top byte (h .low))
@@ -378,6 +412,9 @@ module _ (front : Bool) (pattern : ℕ) (source p s : List ℕ) (e : Entry) (top
             (far-still p' (d .kept));
         text = sides-text front q (farOf front e) (e .text) (λ z. omega (arith, h .low .text z));
         spent = sides-spent front e byte q (farOf front e) (e .text) (λ z. z) (λ z. omega (arith, h .low .text z));
+        apart =
+            sides-apart front p p' top byte e q (farOf front e) (e .text) (h .low .runs) (no-more-trimmed p p' top front pattern s (nearOf front e) q d) (far-same p' (d .kept))
+            (λ j l. omega (arith, among-most q j, far-above j l)) (λ b l. omega arith);
       }
 
   stopped-content : all (blank pattern) (runOf p s (nearOf front e)) ≡ true → blank pattern (contentOf source s e) ≡ false → (s' : List ℕ) (x : Place)
@@ -394,6 +431,9 @@ module _ (front : Bool) (pattern : ℕ) (source p s : List ℕ) (e : Entry) (top
         runs = sides-low p s' e front (top + piecesOf e) byte (0, 0) (farOf front e) x (none-below p byte (top + piecesOf e) 0) (far-still p (rows-same top p));
         text = sides-text front (0, 0) (farOf front e) x (d .low (h .low .text));
         spent = sides-spent front e byte (0, 0) (farOf front e) x (d .plain) (d .low (h .low .text));
+        apart =
+            sides-apart front p p top byte e (0, 0) (farOf front e) x (h .low .runs) (no-more-none p p top (0, 0) (nearOf front e) refl) (far-same p (rows-same top p))
+            (λ j l. omega (arith, among-none 0 j, far-above j l)) (d .uses);
       }
 
   stopped-far : all (blank pattern) (runOf p s (nearOf front e)) ≡ true → blank pattern (contentOf source s e) ≡ true → all (blank pattern) (runOf p s (farOf front e)) ≡ false
@@ -414,6 +454,9 @@ module _ (front : Bool) (pattern : ℕ) (source p s : List ℕ) (e : Entry) (top
             (below-run p' (farOf front e .1) q (few-far front e) (d .low byte (far-low p s e front top byte (h .low))));
         text = sides-text front (0, 0) q (clearedText e) (cleared-low e byte (byte + plainOf e) (omega arith) (h .low .text));
         spent = sides-spent front e byte (0, 0) q (clearedText e) (cleared-plain e) (cleared-low e byte (byte + plainOf e) (omega arith) (h .low .text));
+        apart =
+            sides-apart front p p' top byte e (0, 0) q (clearedText e) (h .low .runs) (no-more-none p p' top (0, 0) (nearOf front e) refl) (no-more-trimmed p p' top front pattern s (farOf front e) q d)
+            (λ j l. omega (arith, among-none 0 j, among-most q j)) (λ b l. cleared-uses e b);
       }
 
   -- at the place that `part` tells

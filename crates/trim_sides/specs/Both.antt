@@ -12,7 +12,8 @@ use Rattle.model.specs.Limits.{piece-count}
 use Rattle.model.specs.Trim as trim-rs
 use Rattle.model.specs.WellFormed as model
 use Rattle.memory.specs.Layout.{magicStringOf}
-use Rattle.memory.specs.WellFormed.{Readable}
+use Rattle.memory.specs.WellFormed.{Readable, HoldsEach, Disjoint}
+use Rattle.counts.specs.Once.{linked-once}
 use Rattle.preservation.specs.Desk.{FormedOf}
 use Rattle.trim_run.specs.Low.{DeskLow, rows-same, runs-still, entries-still, desk-in}
 use Rattle.trim_row.specs.Plain.{plain-bytes}
@@ -25,6 +26,8 @@ pub record SidesTrimmed (both front : Bool) (pattern : ℕ) (source t p s t' p' 
   pub rows-len : length t' ≡ length t
   pub pieces-len : length p' ≡ length p
   pub store-len : length s' ≡ length s
+  pub each : HoldsEach t → HoldsEach t'
+  pub apart : Disjoint t p → Disjoint t' p'
 
 source-of : (source t p s : List ℕ) → magicStringOf source t p s .source ≡ source
 unfolding magicStringOf
@@ -69,6 +72,8 @@ module _ (front : Bool) (pattern : ℕ) (source t p s : List ℕ) (top wide byte
           rows-len = d .len;
           pieces-len = d .pieces;
           store-len = d .store;
+          each = λ _. linked-once t1 (d .low .linked) .each;
+          apart = d .apart;
         })
 
     -- ready for the other
@@ -97,4 +102,6 @@ module _ (front : Bool) (pattern : ℕ) (source t p s : List ℕ) (top wide byte
           rows-len = e .len ∙ d .len;
           pieces-len = e .pieces ∙ d .pieces;
           store-len = e .store ∙ d .store;
+          each = λ _. linked-once t2 (e .low .linked) .each;
+          apart = λ k. e .apart (d .apart k);
         })

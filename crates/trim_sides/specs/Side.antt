@@ -18,6 +18,7 @@ use Rattle.model.specs.Limits.{chunk-pieces, piece-count}
 use Rattle.model.specs.Trim.{trim-chunks}
 use Rattle.model.specs.WellFormed.{Valid, ValidTexts, Formed}
 use Rattle.memory.specs.Layout.{Place, runOf, chunkOf, magicStringOf}
+use Rattle.memory.specs.WellFormed.{Disjoint}
 use Rattle.texts.specs.Texts.{run-length}
 use Rattle.texts.specs.Carry.{Below}
 use Rattle.preservation.specs.Lists.{sum-each}
@@ -31,8 +32,10 @@ use Rattle.trim_run.specs.Run.{RunReady, RowRoom, RunTrimmed}
 use Rattle.trim_row.specs.Sides.{trim-chunk}
 use Rattle.trim_row.specs.Plain.{plain-bytes, plainOf, plain-rows}
 use Rattle.trim_row.specs.Row.{nearOf, farOf, withSides, Rewritten, RowReady, RowFits, piecesOf, run-at}
+use Rattle.trim_row.specs.Uses.{NoMore, no-more-none, no-more-trimmed}
 use Rattle.trim_chunks.specs.Sums.{way}
 use Rattle.trim_chunks.specs.Walk.{ReadyAt, ChunksReady, ChunksTrimmed, chunkRows}
+use Rattle.trim_sides.specs.Apart.{own-apart, chunks-apart}
 use Rattle.trim_sides.specs.Model.{trim-side, near-pieces, with-near, side-stops, side-goes-on}
 
 -- all pieces of a desk
@@ -58,6 +61,7 @@ pub record SideTrimmed (front : Bool) (pattern : ℕ) (source t p s : List ℕ) 
   pub len : length t' ≡ length t
   pub pieces : length p' ≡ length p
   pub store : length s' ≡ length s
+  pub apart : Disjoint t p → Disjoint t' p'
 
 -- the head or the tail alone
 pub record OwnReady (front : Bool) (p s : List ℕ) (top : ℕ) (t : List ℕ) : Type 0 where
@@ -78,6 +82,7 @@ pub record OwnTrimmed (front : Bool) (pattern : ℕ) (p s : List ℕ) (top : ℕ
   pub rows : RowsKept top p p'
   pub text : runOf p' s near ≡ trim-deque front pattern (runOf p s (nearOf front (entryAt t 0)))
   pub low : (byte : ℕ) → Below p byte top (nearOf front (entryAt t 0)) → Below p' byte (top + nearOf front (entryAt t 0) .1) near
+  pub no-more : NoMore p p' top near (nearOf front (entryAt t 0))
   pub gone-is : gone ≡ all (blank pattern) (runOf p s (nearOf front (entryAt t 0)))
   pub same : gone ≡ true → p' ≡ p
 
@@ -145,6 +150,7 @@ module _ (front : Bool) (pattern : ℕ) (p s : List ℕ) (top : ℕ) (t : List �
         rows = rows-same top p;
         text = run-none p s 0 ∙ sym (all-nil-deque front pattern (runOf p s (nearOf front (entryAt t 0))) e);
         low = λ byte g j i. absurd (omega arith);
+        no-more = no-more-none p p top (0, 0) (nearOf front (entryAt t 0)) refl;
         gone-is = sym e;
         same = λ _. refl;
       }
@@ -164,6 +170,7 @@ module _ (front : Bool) (pattern : ℕ) (p s : List ℕ) (top : ℕ) (t : List �
         rows = d .kept;
         text = d .text;
         low = d .low;
+        no-more = no-more-trimmed p p' top front pattern s (nearOf front (entryAt t 0)) n d;
         gone-is = sym (ap (λ (x : Place). all (blank pattern) (runOf p s x)) (sym near-is) ∙ b);
         same = λ e. let y : _≡_ {A = ℕ} 0 1 = cc in absurd (omega arith);
       }
@@ -304,6 +311,7 @@ module _ (front : Bool) (pattern : ℕ) (source t p s : List ℕ) (top wide byte
           len = d .len;
           pieces = d .rows .len;
           store = refl;
+          apart = λ k. own-apart front t t1 p p1 top byte (d .near) _ (h .low) (d .rows) (d .no-more) (d .row) k (d .entries-are);
         }
 
     -- the chunks are next
@@ -343,6 +351,8 @@ module _ (front : Bool) (pattern : ℕ) (source t p s : List ℕ) (top wide byte
           len = c .len ∙ d .len;
           pieces = c .rows .len;
           store = c .bytes .len;
+          apart = λ k.
+              chunks-apart front t t2 p p2 top byte (d .near) _ (h .low) (c .rows) (no-more-none p p2 top (d .near) (nearOf front (entryAt t 0)) zero-n) e k zero-n t1 (d .entries-are) (c .apart);
         }
       where
         none-text : (p' s' : List ℕ) (n : Place) → n .1 ≡ 0 → runOf p' s' n ≡ []
