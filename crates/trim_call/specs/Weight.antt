@@ -1,14 +1,14 @@
--- What the trims leave of a desk's counts: no more pieces, as many chunks, and at most the bytes of source that it showed more bytes in the store. That is at most the source.
+-- What the trims leave of a desk's counts: as many chunks, no more pieces, and in the store at most as many bytes more as the desk showed of the source, which is at most the source.
 -- Assumes nothing.
-use mathlib.Core.Path.{_≡_, refl, sym, ap, _∙_}
+use mathlib.Core.Path.{_≡_, refl, ap, _∙_}
 use mathlib.Core.Bool.{Bool, true, false}
 use mathlib.Core.List.{List, [], _∷_, reverse}
 use mathlib.Core.Option.{Option, none, some}
 use Prim.Native.Nat.{ℕ, _+_, _-_, _≤_, _<_}
 use native.Mathlib.Omega.{arith}
 use lib.Dec.{eqb}
-use lib.ListN.{length, drop, length-append, length-take, length-reverse}
-use Rattle.utf8.specs.Chars.{All, nil, cons, chars, concat, code}
+use lib.ListN.{length, drop, length-take, length-reverse}
+use Rattle.utf8.specs.Chars.{chars, concat, code}
 use Rattle.utf8.specs.CharLaws.{concat-chars}
 use Rattle.model.specs.Text.{Text, is-nil, sum, skip-while, trim-start-matches, trim-end-matches}
 use Rattle.model.specs.Chunk.{Chunk, start-of, end-of, span-text, content-or, content}
@@ -19,7 +19,7 @@ use Rattle.model.specs.Trim.{matches, trim-start-pattern, trim-end-pattern, tri
 use Rattle.counts.specs.Counts.{sum-to, indicator}
 use Rattle.counts.specs.Sums.{sum-ones, sum-indicator}
 use Rattle.counts.specs.Lists.{sum-same-list, sum-swap}
-use Rattle.texts.specs.Texts.{concat-cons, concat-nil}
+use Rattle.fragments.specs.Output.{sum-length}
 use Rattle.preservation.specs.Lists.{of-cond, of-either, all-imp, all-every, sum-le}
 use Rattle.preservation.specs.Spans.{Inside, spans-inside, covered-once}
 use Rattle.trim_row.specs.Plain.{plain-or, plain, plain-bytes}
@@ -27,23 +27,19 @@ use Rattle.trim_chunks.specs.Sums.{sum-reverse}
 use Rattle.trim_sides.specs.Model.{trim-side, trim-sides, chunks-le, side-pieces}
 
 -- ---- a text gets no longer
-concat-sum : (l : List Text) → length (concat l) ≡ sum length l
-concat-sum [] = ap length concat-nil
-concat-sum (t ∷ l) = ap length (concat-cons t l) ∙ length-append t (concat l) ∙ omega (arith, concat-sum l)
-
 skip-le : (f : Text → Bool) (l : List Text) → sum length (skip-while f l) ≤ sum length l
 skip-le f [] = omega arith
 skip-le f (t ∷ l) = of-cond (λ (x : List Text). sum length x ≤ sum length (t ∷ l)) (f t) (λ _. omega (arith, skip-le f l)) (λ _. omega arith)
 
 chars-sum : (s : Text) → sum length (chars s) ≡ length s
-chars-sum s = sym (concat-sum (chars s)) ∙ ap length (concat-chars s)
+chars-sum s = sum-length (chars s) ∙ ap length (concat-chars s)
 
 module _ (p : ℕ) where
   text-start-le : (s : Text) → length (trim-start-pattern p s) ≤ length s
   unfolding trim-start-matches
   text-start-le s =
       let f : Text → Bool = λ c. matches p (code c) in
-      omega (arith, concat-sum (skip-while f (chars s)), skip-le f (chars s), chars-sum s)
+      omega (arith, sum-length (skip-while f (chars s)), skip-le f (chars s), chars-sum s)
 
   text-end-le : (s : Text) → length (trim-end-pattern p s) ≤ length s
   unfolding trim-end-matches
@@ -51,7 +47,7 @@ module _ (p : ℕ) where
       let f : Text → Bool = λ c. matches p (code c) in
       omega (
         arith,
-        concat-sum (reverse (skip-while f (reverse (chars s)))),
+        sum-length (reverse (skip-while f (reverse (chars s)))),
         sum-reverse length (skip-while f (reverse (chars s))),
         skip-le f (reverse (chars s)),
         sum-reverse length (chars s),

@@ -1,37 +1,19 @@
-use mathlib.Core.Path.{sym}
-use native.Mathlib.Omega.{arith}
-use Rattle.frame.specs.Frame.{zeros-length, zeros-at}
+use Rattle.on_top.specs.Live.{live-small}
+use Rattle.trim_call.specs.OnTop.{bare-within}
 use borrow.Author.Needs.{needs}
 use Rattle.trim_call.proofs.trim_with.Statement.{statement}
 use Rattle.trim_call.proofs.trim_with.Tie as tie
 
-array-borrow-prefix-t : tie.Need-array-borrow-prefix-t
-array-borrow-prefix-t c = search needs
+live-requires : tie.Need-live-requires
+live-requires c κs =
+    let w = c .before .before .before .before .before .before .before .pre in
+    (w .readable, bare-within w)
 
-slice-aggregate-trim-by : tie.Need-slice-aggregate-trim-by
-slice-aggregate-trim-by c = sym (zeros-length 6192 6192 (omega arith))
+has-room-requires : tie.Need-has-room-requires
+has-room-requires c κs = live-small (c .before .before .before .before .before .before .before .before .pre) (c .live .ensures)
 
-array-borrow-prefix-p : tie.Need-array-borrow-prefix-p
-array-borrow-prefix-p c = search needs
-
-slice-aggregate-trim-by-2 : tie.Need-slice-aggregate-trim-by-2
-slice-aggregate-trim-by-2 c = sym (zeros-length 8192 8192 (omega arith))
-
-array-borrow-prefix-s : tie.Need-array-borrow-prefix-s
-array-borrow-prefix-s c = search needs
-
-slice-aggregate-trim-by-3 : tie.Need-slice-aggregate-trim-by-3
-slice-aggregate-trim-by-3 c = sym (zeros-length 49152 49152 (omega arith))
-
-trim-by-requires : tie.Need-trim-by-requires
-trim-by-requires c κs =
-    let start = c .before .before .before .before .before .before .before .before .before .before in (
-      start .pre,
-      (
-        record { chunks = zeros-length 6192 6192 (omega arith); clear = zeros-at 6192 6192; pieces = rw (zeros-length 8192 8192 (omega arith)) (omega arith); store = rw (zeros-length 49152 49152 (omega arith)) (omega arith) },
-        record { pieces = zeros-length 8192 8192 (omega arith); store = zeros-length 49152 49152 (omega arith) },
-      ),
-    )
+trim-on-top-requires : tie.Need-trim-on-top-requires
+trim-on-top-requires c κs = (c .before .before .before .before .before .before .before .before .before .before .before .before .before .pre, (c .before .before .before .before .before .live .ensures, c .before .before .before .before .has-room .ensures .yes (c .before .before .before .if1 .taken)))
 
 same-length : tie.Need-same-length
 same-length c = search needs
@@ -45,18 +27,34 @@ same-length-3 c = search needs
 returns : tie.Need-returns
 returns c = search needs
 
+trim-scratch-requires : tie.Need-trim-scratch-requires
+trim-scratch-requires c κs = search needs
+
+same-length-4 : tie.Need-same-length-4
+same-length-4 c = search needs
+
+same-length-5 : tie.Need-same-length-5
+same-length-5 c = search needs
+
+same-length-6 : tie.Need-same-length-6
+same-length-6 c = search needs
+
+returns-2 : tie.Need-returns-2
+returns-2 c = search needs
+
 pub trim-with-spec : {M : Type 1} → statement M
 trim-with-spec =
     tie.close
     (tie.spec
-    array-borrow-prefix-t
-    slice-aggregate-trim-by
-    array-borrow-prefix-p
-    slice-aggregate-trim-by-2
-    array-borrow-prefix-s
-    slice-aggregate-trim-by-3
-    trim-by-requires
+    live-requires
+    has-room-requires
+    trim-on-top-requires
     same-length
     same-length-2
     same-length-3
-    returns)
+    returns
+    trim-scratch-requires
+    same-length-4
+    same-length-5
+    same-length-6
+    returns-2)
