@@ -1,3 +1,1 @@
-pub mod Model
-pub mod Side
 pub mod Call

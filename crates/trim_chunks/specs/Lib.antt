@@ -1,1 +1,3 @@
+pub mod Sums
+pub mod Apart
 pub mod Walk

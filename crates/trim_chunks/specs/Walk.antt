@@ -12,17 +12,17 @@ use Rattle.table.specs.declared.Row.{Row}
 use Rattle.table.specs.Ring.{Each, each-append, each-left, each-right, each-map, Not, follow, length-follow, Edge, Links, links-left, links-right}
 use Rattle.table.specs.Table.{rowAt, Put}
 use Rattle.table.specs.Order.{Entry, entryOf, entryAt, entries, order, nextOf, prevOf, countOf, Linked, put-keep, same-links, inside-at, others}
+use Rattle.model.specs.Text.{sum}
 use Rattle.model.specs.Chunk.{Chunk}
 use Rattle.model.specs.Trim.{Trimmed, trim-chunks}
 use Rattle.memory.specs.Layout.{chunkOf}
-use Rattle.trim_run.specs.Low.{RowsKept, BytesKept, rows-same, bytes-same, EntryLow, entry-same, entry-still}
+use Rattle.trim_run.specs.Low.{RowsKept, BytesKept, rows-same, bytes-same, TextLow, EntryLow, entry-same, runs-still, entry-still}
 use Rattle.trim_row.specs.Sides.{trim-chunk}
-use Rattle.trim_row.specs.Row.{clearOf, blankRow, Rewritten, RowReady, RowFits, RowTrimmed, RowDone, row-blank, clear-low}
-
--- the list in the direction of the trim
-abbrev pub way : {A : Type 0} → Bool → List A → List A
-way true l = l
-way false l = reverse l
+use Rattle.trim_row.specs.Plain.{plainOf, Behind}
+use Rattle.trim_row.specs.Row.{clearOf, blankRow, Rewritten, RowReady, RowFits, RowTrimmed, RowDone, piecesOf, row-blank, clear-low, clear-spent, clear-fewer}
+use Rattle.trim_row.specs.Uses.{Fewer, RowApart, same-fewer}
+use Rattle.trim_chunks.specs.Apart.{ChunksApart, all-apart, one-apart}
+use Rattle.trim_chunks.specs.Sums.{way, each-sum, but-one, entries-sum}
 
 -- the next row in that direction
 abbrev pub stepOf : Bool → Row → ℕ
@@ -235,20 +235,30 @@ module _ (front : Bool) (pattern : ℕ) (source p s t₀ t : List ℕ) (n k cur 
       }
 
 -- ---- the chunks, trimmed
--- what is asked of every row
-abbrev pub ReadyAt : List ℕ → List ℕ → List ℕ → ℕ → ℕ → List ℕ → ℕ → Type 0
-ReadyAt source p s top byte t x = RowReady source p s (entryAt t x) × RowFits source p s top byte (entryAt t x)
+-- what is asked of every row: wide is a bound of its pieces
+abbrev pub ReadyAt : List ℕ → List ℕ → List ℕ → ℕ → ℕ → ℕ → List ℕ → ℕ → Type 0
+ReadyAt source p s top wide byte t x = RowReady source p s (entryAt t x) × (RowFits p s top byte (entryAt t x) × (piecesOf (entryAt t x) ≤ wide))
 
-pub record ChunksReady (source p s : List ℕ) (top byte : ℕ) (t : List ℕ) : Type 0 where
+pub record ChunksReady (source p s : List ℕ) (top wide byte : ℕ) (t : List ℕ) : Type 0 where
   pub linked : Linked t
-  pub each : Each (ReadyAt source p s top byte t) (order t)
+  pub each : Each (ReadyAt source p s top wide byte t) (order t)
 
-pub record ChunksTrimmed (front : Bool) (pattern : ℕ) (source p s : List ℕ) (top byte : ℕ) (t p' s' t' : List ℕ) : Type 0 where
+-- all pieces of the chunks
+abbrev pub chunkRows : List ℕ → ℕ
+chunkRows t = sum piecesOf (entries t)
+
+-- the byte b is behind all that the chunks use; what it lies further on is no longer plain
+pub record ChunksTrimmed (front : Bool) (pattern : ℕ) (source p s : List ℕ) (top wide byte : ℕ) (t p' s' t' : List ℕ) (b : ℕ) : Type 0 where
   pub linked : Linked t'
+  pub place : order t' ≡ order t
   pub desk : rowAt t' 0 ≡ rowAt t 0
+  pub len : length t' ≡ length t
   pub rows : RowsKept top p p'
   pub bytes : BytesKept byte s s'
-  pub low : All (EntryLow p' (top + 1024) (byte + length source)) (entries t')
+  pub least : byte ≤ b
+  pub low : All (EntryLow p' (top + wide) b) (entries t')
+  pub spent : b + sum plainOf (entries t') ≤ byte + sum plainOf (entries t)
+  pub apart : ChunksApart p p' top byte t t'
   pub chunks : map (chunkOf p' s') (entries t') ≡ way front (trim-chunks (trim-chunk front pattern source) (way front (map (chunkOf p s) (entries t))))
 
 module _ (f : Chunk → Trimmed) (G H : ℕ → Chunk) where
@@ -282,69 +292,95 @@ all-map f (x ∷ l) h = cons (h .0) (all-map f l (h .1))
 chunks-way : (front : Bool) (p s t : List ℕ) → map (λ x. chunkOf p s (entryAt t x)) (way front (order t)) ≡ way front (map (chunkOf p s) (entries t))
 chunks-way front p s t = map-way front (λ x. chunkOf p s (entryAt t x)) (order t) ∙ ap (way front) (sym (map-map (chunkOf p s) (entryAt t) (order t)))
 
-module _ (front : Bool) (pattern : ℕ) (source p s : List ℕ) (top byte : ℕ) (t : List ℕ) (ready : ChunksReady source p s top byte t) (t1 : List ℕ) (i : ℕ) (w : Walked front pattern source p s t t1 i) where
+module _ (front : Bool) (pattern : ℕ) (source p s : List ℕ) (top wide byte : ℕ) (t : List ℕ) (ready : ChunksReady source p s top wide byte t) (t1 : List ℕ) (i : ℕ) (w : Walked front pattern source p s t t1 i) where
   abbrev us : List ℕ
   us = w .at .us
 
-  ready-way : Each (ReadyAt source p s top byte t) (us ++ w .at .rest)
-  ready-way = subst (Each (ReadyAt source p s top byte t)) (w .at .place) (each-way front (ReadyAt source p s top byte t) (order t) (ready .each))
+  ready-way : Each (ReadyAt source p s top wide byte t) (us ++ w .at .rest)
+  ready-way = subst (Each (ReadyAt source p s top wide byte t)) (w .at .place) (each-way front (ReadyAt source p s top wide byte t) (order t) (ready .each))
 
-  ready-us : Each (ReadyAt source p s top byte t) us
-  ready-us = each-left (ReadyAt source p s top byte t) us (w .at .rest) ready-way
+  ready-us : Each (ReadyAt source p s top wide byte t) us
+  ready-us = each-left (ReadyAt source p s top wide byte t) us (w .at .rest) ready-way
+
+  low-each : (xs : List ℕ) → Each (ReadyAt source p s top wide byte t) xs → Each (λ x. EntryLow p top byte (entryAt t x)) xs
+  low-each = each-map (ReadyAt source p s top wide byte t) (λ x. EntryLow p top byte (entryAt t x)) (λ x h. h .1 .0 .low)
 
   same-order : (t' : List ℕ) → ((x : ℕ) → nextOf t' x ≡ nextOf t1 x) → ((x : ℕ) → prevOf t' x ≡ prevOf t1 x) → rowAt t' 0 ≡ rowAt t1 0 → length t' ≡ length t1 → (order t' ≡ order t) × Linked t'
   same-order t' nx pv d m =
       same-links t t' (λ x. nx x ∙ w .at .next x) (λ x. pv x ∙ w .at .prev x) (ap (λ (r : Row). r .start) (d ∙ w .at .desk)) (m ∙ w .at .len) (ready .linked)
 
   -- what is the same for the cleared rows whether a row stops the walk or not
-  module _ (t' p' s' : List ℕ) (kp : RowsKept top p p') (ks : BytesKept byte s s') where
+  module _ (t' p' s' : List ℕ) (kp : RowsKept top p p') (ks : BytesKept byte s s') (b : ℕ) (kb : byte ≤ b) where
     Clear : ℕ → Type 0
     Clear x = entryAt t' x ≡ clearOf (entryAt t x)
 
     Goes-on : ℕ → Type 0
     Goes-on x = trim-chunk front pattern source (chunkOf p s (entryAt t x)) ≡ record { goes-on = true; chunk = chunkOf p' s' (entryAt t' x) }
 
-    cleared : (xs : List ℕ) → Each (ReadyAt source p s top byte t) xs → Each (λ x. blankRow pattern source p s (entryAt t x) ≡ true) xs → Each Clear xs → Each Goes-on xs
+    cleared : (xs : List ℕ) → Each (ReadyAt source p s top wide byte t) xs → Each (λ x. blankRow pattern source p s (entryAt t x) ≡ true) xs → Each Clear xs → Each Goes-on xs
     unfolding Clear Goes-on
-    cleared [] r b c = tt
-    cleared (x ∷ xs) r b c = (
-      row-blank front pattern source p s (entryAt t x) (r .0 .0) (b .0)
-          ∙ ap (λ (z : Chunk). record { goes-on = true; chunk = z }) (sym (ap (chunkOf p' s') (c .0) ∙ entry-same top byte p s p' s' kp ks (clearOf (entryAt t x)) (clear-low p top byte (entryAt t x) (r .0 .1 .low)))),
-      cleared xs (r .1) (b .1) (c .1),
+    cleared [] r g c = tt
+    cleared (x ∷ xs) r g c = (
+      row-blank front pattern source p s (entryAt t x) (r .0 .0) (g .0)
+          ∙ ap (λ (z : Chunk). record { goes-on = true; chunk = z }) (sym (ap (chunkOf p' s') (c .0) ∙ entry-same top byte p s p' s' kp ks (clearOf (entryAt t x)) (clear-low p top byte (entryAt t x) (r .0 .1 .0 .low)))),
+      cleared xs (r .1) (g .1) (c .1),
     )
 
     Low : ℕ → Type 0
-    Low x = EntryLow p' (top + 1024) (byte + length source) (entryAt t' x)
+    Low x = EntryLow p' (top + wide) b (entryAt t' x)
 
-    cleared-low : (xs : List ℕ) → Each (ReadyAt source p s top byte t) xs → Each Clear xs → Each Low xs
+    cleared-low : (xs : List ℕ) → Each (ReadyAt source p s top wide byte t) xs → Each Clear xs → Each Low xs
     unfolding Clear Low
     cleared-low [] r c = tt
     cleared-low (x ∷ xs) r c = (
-      subst (EntryLow p' (top + 1024) (byte + length source)) (sym (c .0))
-          (entry-still top byte p p' kp (top + 1024) (byte + length source) (omega arith) (omega arith) (clearOf (entryAt t x)) (clear-low p top byte (entryAt t x) (r .0 .1 .low))),
+      subst (EntryLow p' (top + wide) b) (sym (c .0))
+          (entry-still top byte p p' kp (top + wide) b (omega arith) kb (clearOf (entryAt t x)) (clear-low p top byte (entryAt t x) (r .0 .1 .0 .low))),
       cleared-low xs (r .1) (c .1),
     )
+
+    Spent : ℕ → Type 0
+    Spent x = plainOf (entryAt t' x) ≤ plainOf (entryAt t x)
+
+    cleared-spent : (xs : List ℕ) → Each Clear xs → Each Spent xs
+    unfolding Clear Spent
+    cleared-spent [] c = tt
+    cleared-spent (x ∷ xs) c = (omega (arith, ap plainOf (c .0), clear-spent (entryAt t x)), cleared-spent xs (c .1))
+
+    cleared-fewer : (xs : List ℕ) → Each Clear xs → Each (λ x. Fewer p p' (entryAt t x) (entryAt t' x)) xs
+    unfolding Clear
+    cleared-fewer [] c = tt
+    cleared-fewer (x ∷ xs) c = (subst (Fewer p p' (entryAt t x)) (sym (c .0)) (clear-fewer p p' (entryAt t x)), cleared-fewer xs (c .1))
 
     Same : ℕ → Type 0
     Same x = entryAt t' x ≡ entryAt t x
 
-    stays : (xs : List ℕ) → Each (ReadyAt source p s top byte t) xs → Each Same xs → Each (λ x. chunkOf p' s' (entryAt t' x) ≡ chunkOf p s (entryAt t x)) xs
+    stays : (xs : List ℕ) → Each (ReadyAt source p s top wide byte t) xs → Each Same xs → Each (λ x. chunkOf p' s' (entryAt t' x) ≡ chunkOf p s (entryAt t x)) xs
     unfolding Same
     stays [] r c = tt
-    stays (x ∷ xs) r c = (ap (chunkOf p' s') (c .0) ∙ entry-same top byte p s p' s' kp ks (entryAt t x) (r .0 .1 .low), stays xs (r .1) (c .1))
+    stays (x ∷ xs) r c = (ap (chunkOf p' s') (c .0) ∙ entry-same top byte p s p' s' kp ks (entryAt t x) (r .0 .1 .0 .low), stays xs (r .1) (c .1))
 
-    stays-low : (xs : List ℕ) → Each (ReadyAt source p s top byte t) xs → Each Same xs → Each Low xs
+    stays-low : (xs : List ℕ) → Each (ReadyAt source p s top wide byte t) xs → Each Same xs → Each Low xs
     unfolding Same Low
     stays-low [] r c = tt
     stays-low (x ∷ xs) r c = (
-      subst (EntryLow p' (top + 1024) (byte + length source)) (sym (c .0))
-          (entry-still top byte p p' kp (top + 1024) (byte + length source) (omega arith) (omega arith) (entryAt t x) (r .0 .1 .low)),
+      subst (EntryLow p' (top + wide) b) (sym (c .0))
+          (entry-still top byte p p' kp (top + wide) b (omega arith) kb (entryAt t x) (r .0 .1 .0 .low)),
       stays-low xs (r .1) (c .1),
     )
 
+    stays-spent : (xs : List ℕ) → Each Same xs → Each Spent xs
+    unfolding Same Spent
+    stays-spent [] c = tt
+    stays-spent (x ∷ xs) c = (omega (arith, ap plainOf (c .0)), stays-spent xs (c .1))
+
+    stays-fewer : (xs : List ℕ) → Each (ReadyAt source p s top wide byte t) xs → Each Same xs → Each (λ x. Fewer p p' (entryAt t x) (entryAt t' x)) xs
+    unfolding Same
+    stays-fewer [] r c = tt
+    stays-fewer (x ∷ xs) r c = (subst (Fewer p p' (entryAt t x)) (sym (c .0)) (same-fewer p p' top byte (entryAt t x) kp (r .0 .1 .0 .low .runs)), stays-fewer xs (r .1) (c .1))
+
     -- from the rows in the direction of the trim to the table
     together : order t' ≡ order t → Each Low (way front (order t)) → trim-chunks (trim-chunk front pattern source) (map (λ x. chunkOf p s (entryAt t x)) (way front (order t))) ≡ map (λ x. chunkOf p' s' (entryAt t' x)) (way front (order t))
-        → All (EntryLow p' (top + 1024) (byte + length source)) (entries t') × (map (chunkOf p' s') (entries t') ≡ way front (trim-chunks (trim-chunk front pattern source) (way front (map (chunkOf p s) (entries t)))))
+        → All (EntryLow p' (top + wide) b) (entries t') × (map (chunkOf p' s') (entries t') ≡ way front (trim-chunks (trim-chunk front pattern source) (way front (map (chunkOf p s) (entries t)))))
     unfolding Low
     together o h e = (
       all-map (entryAt t') (order t') (subst (Each Low) (sym o) (subst (Each Low) (way-way front (order t)) (each-way front Low (way front (order t)) h))),
@@ -352,26 +388,45 @@ module _ (front : Bool) (pattern : ℕ) (source p s : List ℕ) (top byte : ℕ)
           ∙ ap (way front) (sym (chunks-way front p' s' t') ∙ ap (λ (m : List ℕ). map (λ x. chunkOf p' s' (entryAt t' x)) (way front m)) o ∙ sym e ∙ ap (trim-chunks (trim-chunk front pattern source)) (chunks-way front p s t)),
     )
 
+  -- a sum over the rows of the two tables
+  sums : (t' : List ℕ) → order t' ≡ order t → (f : Entry → ℕ) → (sum f (entries t) ≡ sum (λ x. f (entryAt t x)) (way front (order t))) × (sum f (entries t') ≡ sum (λ x. f (entryAt t' x)) (way front (order t)))
+  sums t' o f = (entries-sum front f t, entries-sum front f t' ∙ ap (λ (m : List ℕ). sum (λ x. f (entryAt t' x)) (way front m)) o)
+
   -- every chunk is blank
-  pub all-blank : i ≡ 0 → ChunksTrimmed front pattern source p s top byte t p s t1
-  unfolding Clear Goes-on Low Goes
+  pub all-blank : i ≡ 0 → ChunksTrimmed front pattern source p s top wide byte t p s t1 byte
+  unfolding Clear Goes-on Low Goes Spent
   all-blank z =
       let kp = rows-same top p in
       let ks = bytes-same byte s in
+      let kb : byte ≤ byte = omega arith in
       let q : way front (order t) ≡ us = w .at .place ∙ ap (λ (m : List ℕ). us ++ m) (w .ended z) ∙ append-nil us in
       let o = same-order t1 (λ x. refl) (λ x. refl) refl refl in
-      let g = cleared t1 p s kp ks us ready-us (w .at .blanks) (w .at .done) in
-      let x = together t1 p s kp ks (o .0) (rw q (cleared-low t1 p s kp ks us ready-us (w .at .done)))
+      let g = cleared t1 p s kp ks byte kb us ready-us (w .at .blanks) (w .at .done) in
+      let x = together t1 p s kp ks byte kb (o .0) (rw q (cleared-low t1 p s kp ks byte kb us ready-us (w .at .done)))
       (rw q (trim-all (trim-chunk front pattern source) (λ x. chunkOf p s (entryAt t x)) (λ x. chunkOf p s (entryAt t1 x)) us g)) in
-      record { linked = o .1; desk = w .at .desk; rows = kp; bytes = ks; low = x .0; chunks = x .1 }
+      let e = sums t1 (o .0) plainOf in
+      let c = each-sum (λ x. plainOf (entryAt t1 x)) (λ x. plainOf (entryAt t x)) (way front (order t)) (rw q (cleared-spent t1 p s kp ks byte kb us (w .at .done))) in
+      record {
+        linked = o .1;
+        place = o .0;
+        desk = w .at .desk;
+        len = w .at .len;
+        rows = kp;
+        bytes = ks;
+        least = kb;
+        low = x .0;
+        spent = omega (arith, e .0, e .1, c);
+        apart = all-apart front p p top byte t t1 (o .0) us q (low-each us ready-us) (cleared-fewer t1 p s kp ks byte kb us (w .at .done));
+        chunks = x .1;
+      }
 
   -- row i stops the walk
   module _ (nz : i ≡ 0 → ⊥) where
     stop : NextRow front t t1 us (w .at .rest) i
     stop = w .stopped nz .0
 
-    ready-rest : Each (ReadyAt source p s top byte t) (i ∷ stop .bs)
-    ready-rest = subst (Each (ReadyAt source p s top byte t)) (stop .rest-is) (each-right (ReadyAt source p s top byte t) us (w .at .rest) ready-way)
+    ready-rest : Each (ReadyAt source p s top wide byte t) (i ∷ stop .bs)
+    ready-rest = subst (Each (ReadyAt source p s top wide byte t)) (stop .rest-is) (each-right (ReadyAt source p s top wide byte t) us (w .at .rest) ready-way)
 
     pub stop-row : i * 12 + 12 ≤ length t1
     stop-row = omega (arith, stop .stands .most, ready .linked .room, w .at .len)
@@ -380,37 +435,69 @@ module _ (front : Bool) (pattern : ℕ) (source p s : List ℕ) (top byte : ℕ)
       row-was : r ≡ rowAt t i
       row-was = er ∙ stop .row-is
 
-      pub stop-ready : RowReady source p s (entryOf r) × (RowFits source p s top byte (entryOf r) × (blankRow pattern source p s (entryOf r) ≡ false))
+      pub stop-ready : RowReady source p s (entryOf r) × (RowFits p s top byte (entryOf r) × (blankRow pattern source p s (entryOf r) ≡ false))
       stop-ready =
-          subst (λ (y : Row). RowReady source p s (entryOf y) × (RowFits source p s top byte (entryOf y) × (blankRow pattern source p s (entryOf y) ≡ false))) (sym row-was)
-          (ready-rest .0 .0, (ready-rest .0 .1, w .stopped nz .1))
+          subst (λ (y : Row). RowReady source p s (entryOf y) × (RowFits p s top byte (entryOf y) × (blankRow pattern source p s (entryOf y) ≡ false))) (sym row-was)
+          (ready-rest .0 .0, (ready-rest .0 .1 .0, w .stopped nz .1))
 
-      module _ (t2 p' s' : List ℕ) (q : Row) (d : RowDone front pattern source p s r top byte p' s' q) (u : Put t1 t2 i q) (m : length t2 ≡ length t1) where
-        keep-off : (P Q : ℕ → Type 0) → ((a : ℕ) → Not i a → P a → Q a) → (xs : List ℕ) → Each (Not i) xs → Each P xs → Each Q xs
-        keep-off P Q f [] a h = tt
-        keep-off P Q f (y ∷ ys) a h = (f y (a .0) (h .0), keep-off P Q f ys (a .1) (h .1))
+      module _ (p' s' : List ℕ) (q : Row) (d : RowDone front pattern source p s r top byte p' s' q) where
+        -- what is asked for the byte behind it
+        pub text-short : TextLow 65536 (entryOf q .text)
+        text-short n = omega (arith, d .trimmed .text n, stop-ready .1 .0 .bytes, stop-ready .1 .0 .small)
 
-        pub one-stops : ChunksTrimmed front pattern source p s top byte t p' s' t2
-        unfolding Clear Goes-on Low Goes Same
-        one-stops =
-            let kp = d .trimmed .rows in
-            let ks = d .trimmed .bytes in
-            let bs = stop .bs in
-            let W : way front (order t) ≡ us ++ i ∷ bs = w .at .place ∙ ap (λ (l : List ℕ). us ++ l) (stop .rest-is) in
-            let z : rowAt t2 0 ≡ rowAt t1 0 = u .off 0 (λ y. omega (arith, stop .stands .positive)) in
-            let o = same-order t2 (put-keep (λ (y : Row). y .next) t1 t2 i q u (d .next ∙ ap (λ (y : Row). y .next) er)) (put-keep (λ (y : Row). y .prev) t1 t2 i q u (d .prev ∙ ap (λ (y : Row). y .prev) er)) z m in
-            let c = keep-off (λ a. entryAt t1 a ≡ clearOf (entryAt t a)) (λ a. entryAt t2 a ≡ clearOf (entryAt t a)) (λ a y h. ap entryOf (u .off a y) ∙ h) us (stop .stands .apart-before) (w .at .done) in
-            let k = keep-off (λ a. rowAt t1 a ≡ rowAt t a) (λ a. entryAt t2 a ≡ entryAt t a) (λ a y h. ap entryOf (u .off a y ∙ h)) bs (stop .stands .apart-behind) (stop .later) in
-            let n : entryAt t2 i ≡ entryOf q = ap entryOf (u .at) in
-            let g = cleared t2 p' s' kp ks us ready-us (w .at .blanks) c in
-            let b = stays t2 p' s' kp ks bs (ready-rest .1) k in
-            let j : trim-chunk front pattern source (chunkOf p s (entryAt t i)) ≡ record { goes-on = false; chunk = chunkOf p' s' (entryAt t2 i) } =
-            ap (λ (y : Row). trim-chunk front pattern source (chunkOf p s (entryOf y))) (sym row-was) ∙ d .trimmed .chunk ∙ ap (λ (y : Entry). record { goes-on = false; chunk = chunkOf p' s' y }) (sym n) in
-            let y = together t2 p' s' kp ks (o .0)
-            (rw W (each-append (Low t2 p' s' kp ks) us (i ∷ bs) (cleared-low t2 p' s' kp ks us ready-us c)
-            (subst (EntryLow p' (top + 1024) (byte + length source)) (sym n) (d .trimmed .low), stays-low t2 p' s' kp ks bs (ready-rest .1) k)))
-            (rw W (trim-to (trim-chunk front pattern source) (λ a. chunkOf p s (entryAt t a)) (λ a. chunkOf p' s' (entryAt t2 a)) us i bs g j b)) in
-            record { linked = o .1; desk = z ∙ w .at .desk; rows = kp; bytes = ks; low = y .0; chunks = y .1 }
+        module _ (t2 : List ℕ) (u : Put t1 t2 i q) (m : length t2 ≡ length t1) (b : ℕ) (v : Behind byte (entryOf q .text) b) where
+          keep-off : (P Q : ℕ → Type 0) → ((a : ℕ) → Not i a → P a → Q a) → (xs : List ℕ) → Each (Not i) xs → Each P xs → Each Q xs
+          keep-off P Q f [] a h = tt
+          keep-off P Q f (y ∷ ys) a h = (f y (a .0) (h .0), keep-off P Q f ys (a .1) (h .1))
+
+          stop-low : EntryLow p' (top + wide) b (entryOf q)
+          stop-low =
+              let e = entryOf r in
+              let k = ap (λ (y : Row). piecesOf (entryOf y)) row-was in
+              record { runs = runs-still (top + piecesOf e) byte p' p' (rows-same (top + piecesOf e) p') (top + wide) b (omega (arith, ready-rest .0 .1 .1)) (v .least) (entryOf q) (d .trimmed .runs); text = v .text }
+
+          pub one-stops : ChunksTrimmed front pattern source p s top wide byte t p' s' t2 b
+          unfolding Clear Goes-on Low Goes Same Spent
+          one-stops =
+              let kp = d .trimmed .rows in
+              let ks = d .trimmed .bytes in
+              let kb = v .least in
+              let bs = stop .bs in
+              let W : way front (order t) ≡ us ++ i ∷ bs = w .at .place ∙ ap (λ (l : List ℕ). us ++ l) (stop .rest-is) in
+              let z : rowAt t2 0 ≡ rowAt t1 0 = u .off 0 (λ y. omega (arith, stop .stands .positive)) in
+              let o = same-order t2 (put-keep (λ (y : Row). y .next) t1 t2 i q u (d .next ∙ ap (λ (y : Row). y .next) er)) (put-keep (λ (y : Row). y .prev) t1 t2 i q u (d .prev ∙ ap (λ (y : Row). y .prev) er)) z m in
+              let c = keep-off (λ a. entryAt t1 a ≡ clearOf (entryAt t a)) (λ a. entryAt t2 a ≡ clearOf (entryAt t a)) (λ a y h. ap entryOf (u .off a y) ∙ h) us (stop .stands .apart-before) (w .at .done) in
+              let k = keep-off (λ a. rowAt t1 a ≡ rowAt t a) (λ a. entryAt t2 a ≡ entryAt t a) (λ a y h. ap entryOf (u .off a y ∙ h)) bs (stop .stands .apart-behind) (stop .later) in
+              let n : entryAt t2 i ≡ entryOf q = ap entryOf (u .at) in
+              let g = cleared t2 p' s' kp ks b kb us ready-us (w .at .blanks) c in
+              let l = stays t2 p' s' kp ks b kb bs (ready-rest .1) k in
+              let j : trim-chunk front pattern source (chunkOf p s (entryAt t i)) ≡ record { goes-on = false; chunk = chunkOf p' s' (entryAt t2 i) } =
+              ap (λ (y : Row). trim-chunk front pattern source (chunkOf p s (entryOf y))) (sym row-was) ∙ d .trimmed .chunk ∙ ap (λ (y : Entry). record { goes-on = false; chunk = chunkOf p' s' y }) (sym n) in
+              let y = together t2 p' s' kp ks b kb (o .0)
+              (rw W (each-append (Low t2 p' s' kp ks b kb) us (i ∷ bs) (cleared-low t2 p' s' kp ks b kb us ready-us c)
+              (subst (EntryLow p' (top + wide) b) (sym n) stop-low, stays-low t2 p' s' kp ks b kb bs (ready-rest .1) k)))
+              (rw W (trim-to (trim-chunk front pattern source) (λ a. chunkOf p s (entryAt t a)) (λ a. chunkOf p' s' (entryAt t2 a)) us i bs g j l)) in
+              let e = sums t2 (o .0) plainOf in
+              let spent-i : b + plainOf (entryAt t2 i) ≤ byte + plainOf (entryAt t i) = omega (arith, d .trimmed .spent b v, ap plainOf n, ap (λ (y : Row). plainOf (entryOf y)) row-was) in
+              let x : b + sum (λ a. plainOf (entryAt t2 a)) (way front (order t)) ≤ byte + sum (λ a. plainOf (entryAt t a)) (way front (order t)) =
+              rw W (but-one (λ a. plainOf (entryAt t2 a)) (λ a. plainOf (entryAt t a)) b byte us i bs (cleared-spent t2 p' s' kp ks b kb us c) spent-i (stays-spent t2 p' s' kp ks b kb bs k)) in
+              record {
+                linked = o .1;
+                place = o .0;
+                desk = z ∙ w .at .desk;
+                len = m ∙ w .at .len;
+                rows = kp;
+                bytes = ks;
+                least = kb;
+                low = y .0;
+                spent = omega (arith, e .0, e .1, x);
+                apart =
+                    one-apart front p p' top byte t t2 (o .0) us i bs W (subst (λ (l : List ℕ). Each (λ a. EntryLow p top byte (entryAt t a)) (us ++ l)) (stop .rest-is) (low-each (us ++ w .at .rest) ready-way))
+                    (cleared-fewer t2 p' s' kp ks b kb us c)
+                    (subst (RowApart p p' top byte (entryAt t i)) (sym n) (subst (λ (y : Row). RowApart p p' top byte (entryOf y) (entryOf q)) row-was (d .trimmed .apart)))
+                    (stays-fewer t2 p' s' kp ks b kb bs (ready-rest .1) k);
+                chunks = y .1;
+              }
 
 -- ---- what the loop asks of the row that is next
 pub walk-ready : (front : Bool) (pattern : ℕ) (source p s : List ℕ) (t₀ t : List ℕ) (n k cur : ℕ) → Each (λ x. RowReady source p s (entryAt t₀ x)) (order t₀) → (l : Linked t₀)
@@ -421,5 +508,5 @@ walk-ready front pattern source p s t₀ t n k cur h l w g =
     let q = subst (Each P) (w .place ∙ ap (λ (m : List ℕ). w .us ++ m) (x .rest-is)) (each-way front P (order t₀) h) in
     (subst (λ (y : Row). RowReady source p s (entryOf y)) (sym (x .row-is)) (each-right P (w .us) (cur ∷ x .bs) q .0), omega (arith, x .stands .most, l .room, w .len))
 
-pub ready-each : {source p s t : List ℕ} {top byte : ℕ} → ChunksReady source p s top byte t → Each (λ x. RowReady source p s (entryAt t x)) (order t)
-ready-each {source} {p} {s} {t} {top} {byte} h = each-map (ReadyAt source p s top byte t) (λ x. RowReady source p s (entryAt t x)) (λ a k. k .0) (order t) (h .each)
+pub ready-each : {source p s t : List ℕ} {top wide byte : ℕ} → ChunksReady source p s top wide byte t → Each (λ x. RowReady source p s (entryAt t x)) (order t)
+ready-each {source} {p} {s} {t} {top} {wide} {byte} h = each-map (ReadyAt source p s top wide byte t) (λ x. RowReady source p s (entryAt t x)) (λ a k. k .0) (order t) (h .each)

@@ -1,10 +1,10 @@
-// trim.rs along the chunk list: the loops of `trim_start_aborted` and `trim_end_aborted`, on scratch tables.
+// trim.rs along the chunk list: the loops of `trim_start_aborted` and `trim_end_aborted`.
 ghost use mathlib.Core.Path.{_≡_};
 ghost use mathlib.Core.Bool.{Bool};
 ghost use Rattle.table.specs.Ring.{Each};
 ghost use Rattle.table.specs.Order.{Linked, entryAt, order};
 ghost use Rattle.trim_row.specs.Row.{RowReady};
-ghost use Rattle.trim_chunks.specs.Walk.{stepOf, Walked, ChunksReady, ChunksTrimmed};
+ghost use Rattle.trim_chunks.specs.Walk.{stepOf, Walked, ChunksReady, ChunksTrimmed, chunkRows};
 use table::Row;
 
 // The next row in the direction of the trim.
@@ -46,7 +46,7 @@ fn clear_blank<'a>(
     0
 }
 
-// The chunks, trimmed from the first on or from the last on: new piece rows from row top on, a new text from `byte` on.
+// The chunks, trimmed from the first on or from the last on: new piece rows from row top on, a new text from `byte` on. Returns the byte behind it.
 pub fn trim_chunks(
     source: &[u8],
     t: &mut [u32],
@@ -56,15 +56,16 @@ pub fn trim_chunks(
     byte: u32,
     front: bool,
     pattern: u32,
-)
-    requires { ⌜ ChunksReady (now source) (now p) (now s) top byte (now t) ⌝ }
-    ensures { λ _. ⌜ ChunksTrimmed front pattern (now (source .entry)) (now (p .entry)) (now (s .entry)) top byte (now (t .entry)) (now (p .exit)) (now (s .exit)) (now (t .exit)) ⌝ }
+) -> u32
+    requires { ⌜ ChunksReady (now source) (now p) (now s) top (chunkRows (now t)) byte (now t) ⌝ }
+    ensures { λ b. ⌜ ChunksTrimmed front pattern (now (source .entry)) (now (p .entry)) (now (s .entry)) top (chunkRows (now (t .entry))) byte (now (t .entry)) (now (p .exit)) (now (s .exit)) (now (t .exit)) b ⌝ }
 {
     let i = clear_blank(source, t, p, s, front, pattern);
     if i == 0 {
-        return;
+        return byte;
     }
     let r = table::get_row(t, i);
     let q = trim_row::trim_row(source, p, s, r, top, byte, front, pattern);
     table::put_row(t, i, q);
+    trim_row::behind(q, byte)
 }

@@ -1,2 +1,4 @@
 pub mod Sides
+pub mod Plain
+pub mod Uses
 pub mod Row

@@ -21,14 +21,17 @@ use Rattle.model.specs.Chunk.{Chunk, Texts, content}
 use Rattle.model.specs.Trim.{Trimmed}
 use Rattle.model.specs.WellFormed.{Valid, ValidTexts}
 use Rattle.memory.specs.Layout.{NONE, Place, bytesAt, runOf, replacementOf, textsOf, chunkOf}
-use Rattle.memory.specs.WellFormed.{RunIn, ReplacementIn, EntryIn}
+use Rattle.memory.specs.WellFormed.{RunIn, ReplacementIn, EntryIn, among, replacementUses}
 use Rattle.texts.specs.Over.{over, length-over, take-over, over-part}
 use Rattle.texts.specs.Texts.{SpanIn, contentAt, run-tabulate}
 use Rattle.texts.specs.Carry.{Below}
 use Rattle.trim_text.specs.Sides.{trim-text, blank, PlaceTrimmed}
 use Rattle.trim_run.specs.Deque.{trim-deque, all-nil-deque, deque-nil}
-use Rattle.trim_run.specs.Low.{RowsKept, BytesKept, rows-same, bytes-same, TextLow, EntryLow, run-same, run-still, run-in}
+use Rattle.trim_run.specs.Low.{RowsKept, BytesKept, rows-same, bytes-same, TextLow, RunsLow, EntryLow, run-same, run-still, run-in}
 use Rattle.trim_run.specs.Run.{RunReady, RowRoom, RunTrimmed}
+use Rattle.counts.specs.Places.{among-none}
+use Rattle.trim_row.specs.Uses.{NoMore, no-more-none, no-more-same, no-more-trimmed, rows-above, among-most, text-before, text-within, text-empty, Fewer, RowApart, row-apart}
+use Rattle.trim_row.specs.Plain.{plainOf, plain-width, Behind, spent-of}
 use Rattle.trim_row.specs.Sides.{trim-chunk, near, far, sides, with-sides, near-left, content-left, content-blank}
 
 -- ---- a row's runs by their side
@@ -75,21 +78,23 @@ pub record RowReady (source p s : List ℕ) (e : Entry) : Type 0 where
   pub texts : ValidTexts (textsOf p s e)
   pub content-valid : Valid (contentOf source s e)
 
--- its runs and texts lie below a row and a byte, and there is room behind them
-pub record RowFits (source p s : List ℕ) (top byte : ℕ) (e : Entry) : Type 0 where
+-- the pieces of a row's two lists
+abbrev pub piecesOf : Entry → ℕ
+piecesOf e = e .intro .1 + e .outro .1
+
+-- its runs and texts lie below a row and a byte, and there is room for them behind
+pub record RowFits (p s : List ℕ) (top byte : ℕ) (e : Entry) : Type 0 where
   pub low : EntryLow p top byte e
-  pub intro : e .intro .1 ≤ 1024
-  pub outro : e .outro .1 ≤ 1024
-  pub rows : (top + 1024) * 2 ≤ length p
+  pub rows : (top + piecesOf e) * 2 ≤ length p
   pub narrow : length p ≤ 4294967296
-  pub bytes : byte + length source ≤ length s
+  pub bytes : byte + plainOf e ≤ length s
   pub small : length s ≤ 65536
 
 pub record ContentReady (source s : List ℕ) (e : Entry) (byte : ℕ) : Type 0 where
   pub span : SpanIn source e
   pub replacement : ReplacementIn s (e .text)
   pub valid : Valid (contentOf source s e)
-  pub bytes : byte + length source ≤ length s
+  pub bytes : byte + plainOf e ≤ length s
   pub small : length s ≤ 65536
 
 -- ---- what they give
@@ -105,14 +110,19 @@ pub record ContentTrimmed (front : Bool) (pattern : ℕ) (source s : List ℕ) (
   pub kept : BytesKept byte s s'
   pub text : replacementOf s' x
       ≡ cond (eqb (length (trim-text front pattern (contentOf source s e))) (length (contentOf source s e))) (replacementOf s (e .text)) (some (trim-text front pattern (contentOf source s e)))
-  pub low : TextLow byte (e .text) → TextLow (byte + length source) x
+  pub low : TextLow byte (e .text) → TextLow (byte + plainOf e) x
+  pub plain : x .0 ≡ NONE → e .text .0 ≡ NONE
+  pub uses : (b : ℕ) → b < byte → replacementUses b x ≤ replacementUses b (e .text)
 
 -- the row of a chunk that is not blank, trimmed
 pub record RowTrimmed (front : Bool) (pattern : ℕ) (source p s : List ℕ) (e : Entry) (top byte : ℕ) (p' s' : List ℕ) (e' : Entry) : Type 0 where
   pub rows : RowsKept top p p'
   pub bytes : BytesKept byte s s'
   pub chunk : trim-chunk front pattern source (chunkOf p s e) ≡ record { goes-on = false; chunk = chunkOf p' s' e' }
-  pub low : EntryLow p' (top + 1024) (byte + length source) e'
+  pub runs : RunsLow p' (top + piecesOf e) byte e'
+  pub text : TextLow (byte + plainOf e) (e' .text)
+  pub spent : (b : ℕ) → Behind byte (e' .text) b → b + plainOf e' ≤ byte + plainOf e
+  pub apart : RowApart p p' top byte e e'
 
 -- the row q, in the place of r
 pub record RowDone (front : Bool) (pattern : ℕ) (source p s : List ℕ) (r : Row) (top byte : ℕ) (p' s' : List ℕ) (q : Row) : Type 0 where
@@ -139,9 +149,9 @@ module _ (p s : List ℕ) (e : Entry) where
   far-low true top byte h = h .runs .outro
   far-low false top byte h = h .runs .intro
 
-  sides-low : (front : Bool) (top byte : ℕ) (n f x : Place) → Below p byte top n → Below p byte top f → TextLow byte x → EntryLow p top byte (withSides front e n f x)
-  sides-low true top byte n f x a b d = record { runs = record { intro = a; outro = b }; text = d }
-  sides-low false top byte n f x a b d = record { runs = record { intro = b; outro = a }; text = d }
+  sides-low : (front : Bool) (top byte : ℕ) (n f x : Place) → Below p byte top n → Below p byte top f → RunsLow p top byte (withSides front e n f x)
+  sides-low true top byte n f x a b = record { intro = a; outro = b }
+  sides-low false top byte n f x a b = record { intro = b; outro = a }
 
   pub near-ready : (front : Bool) → EntryIn p s e → ValidTexts (textsOf p s e) → RunReady p s (nearOf front e)
   near-ready true h v = record { inside = h .runs .intro; valid = v .intro }
@@ -151,13 +161,25 @@ module _ (p s : List ℕ) (e : Entry) where
   far-ready true h v = record { inside = h .runs .outro; valid = v .outro }
   far-ready false h v = record { inside = h .runs .intro; valid = v .intro }
 
-few-near : (front : Bool) (e : Entry) → e .intro .1 ≤ 1024 → e .outro .1 ≤ 1024 → nearOf front e .1 ≤ 1024
-few-near true e a b = a
-few-near false e a b = b
+few-near : (front : Bool) (e : Entry) → nearOf front e .1 ≤ piecesOf e
+few-near true e = omega arith
+few-near false e = omega arith
 
-few-far : (front : Bool) (e : Entry) → e .intro .1 ≤ 1024 → e .outro .1 ≤ 1024 → farOf front e .1 ≤ 1024
-few-far true e a b = b
-few-far false e a b = a
+few-far : (front : Bool) (e : Entry) → farOf front e .1 ≤ piecesOf e
+few-far true e = omega arith
+few-far false e = omega arith
+
+-- a row with other sides, of which one stands above at most
+sides-apart : (front : Bool) (p p' : List ℕ) (top byte : ℕ) (e : Entry) (n f x : Place) → RunsLow p top byte e → NoMore p p' top n (nearOf front e) → NoMore p p' top f (farOf front e)
+    → ((j : ℕ) → top ≤ j → among n j + among f j ≤ 1) → ((b : ℕ) → b < byte → replacementUses b x ≤ replacementUses b (e .text)) → RowApart p p' top byte e (withSides front e n f x)
+sides-apart true p p' top byte e n f x h i o a t = row-apart p top byte e h p' (withSides true e n f x) i o a t
+sides-apart false p p' top byte e n f x h i o a t = row-apart p top byte e h p' (withSides false e n f x) o i (λ j l. omega (arith, a j l)) t
+
+-- a row with other sides and a replacement where it had one
+sides-spent : (front : Bool) (e : Entry) (byte : ℕ) (n f x : Place) → (x .0 ≡ NONE → e .text .0 ≡ NONE) → TextLow (byte + plainOf e) x
+    → (b : ℕ) → Behind byte (withSides front e n f x .text) b → b + plainOf (withSides front e n f x) ≤ byte + plainOf e
+sides-spent true e byte n f x = spent-of e (withSides true e n f x) byte refl
+sides-spent false e byte n f x = spent-of e (withSides false e n f x) byte refl
 
 run-none : (p s : List ℕ) (at : ℕ) → runOf p s (at, 0) ≡ []
 unfolding runOf
@@ -167,9 +189,9 @@ none-below : (p : List ℕ) (byte top at : ℕ) → Below p byte top (at, 0)
 none-below p byte top at k h = absurd (omega arith)
 
 -- a run that is not blank has a piece, so its rows end below
-run-room : (pattern : ℕ) (p s : List ℕ) (top byte : ℕ) (r : Place) → Below p byte top r → all (blank pattern) (runOf p s r) ≡ false → r .1 ≤ 1024 → (top + 1024) * 2 ≤ length p
+run-room : (pattern : ℕ) (p s : List ℕ) (top byte : ℕ) (r : Place) → Below p byte top r → all (blank pattern) (runOf p s r) ≡ false → (top + r .1) * 2 ≤ length p
     → length p ≤ 4294967296 → length s ≤ 65536 → RowRoom p s (r .0) (r .1) top
-run-room pattern p s top byte r h b c a n m = go (r .1) refl
+run-room pattern p s top byte r h b a n m = go (r .1) refl
   where
     go : (k : ℕ) → r .1 ≡ k → RowRoom p s (r .0) (r .1) top
     go zero e = let z : _≡_ {A = ℕ} 0 1 = cc (ap (λ (x : ℕ). all (blank pattern) (runOf p s (r .0, x))) e ∙ ap (all (blank pattern)) (run-none p s (r .0))) in absurd (omega arith)
@@ -224,6 +246,36 @@ cleared-text source s e h i = rw (nil-length (contentOf source s e), content-len
     go true = refl
     go false = no-text s
 
+cleared-plain : (e : Entry) → clearedText e .0 ≡ NONE → e .text .0 ≡ NONE
+cleared-plain e = go (eqb (cond (eqb (e .text .0) NONE) (e .end - e .start) (e .text .1)) 0)
+  where
+    go : (b : Bool) → cond {A = Place} b (e .text) (0, 0) .0 ≡ NONE → e .text .0 ≡ NONE
+    go true n = n
+    go false n = absurd (omega arith)
+
+-- a cleared row shows no more source
+pub clear-spent : (e : Entry) → plainOf (clearOf e) ≤ plainOf e
+clear-spent e = go (eqb (cond (eqb (e .text .0) NONE) (e .end - e .start) (e .text .1)) 0)
+  where
+    go : (b : Bool) → plainOf (withSides true e (0, 0) (0, 0) (cond b (e .text) (0, 0))) ≤ plainOf e
+    go true = omega arith
+    go false = omega arith
+
+cleared-uses : (e : Entry) (b : ℕ) → replacementUses b (clearedText e) ≤ replacementUses b (e .text)
+cleared-uses e b = go (eqb (cond (eqb (e .text .0) NONE) (e .end - e .start) (e .text .1)) 0)
+  where
+    go : (c : Bool) → replacementUses b (cond c (e .text) (0, 0)) ≤ replacementUses b (e .text)
+    go true = omega arith
+    go false = omega (arith, text-empty b 0)
+
+-- and uses no more
+pub clear-fewer : (p p' : List ℕ) (e : Entry) → Fewer p p' e (clearOf e)
+clear-fewer p p' e =
+    record {
+      rows = λ j. omega (arith, among-none 0 j);
+      bytes = λ b. omega (arith, no-more-none p p' 0 (0, 0) (e .intro) refl .bytes b, no-more-none p p' 0 (0, 0) (e .outro) refl .bytes b, cleared-uses e b);
+    }
+
 cleared-low : (e : Entry) (byte byte' : ℕ) → byte ≤ byte' → TextLow byte (e .text) → TextLow byte' (clearedText e)
 cleared-low e byte byte' h i = go (eqb (cond (eqb (e .text .0) NONE) (e .end - e .start) (e .text .1)) 0)
   where
@@ -262,6 +314,8 @@ module _ (front : Bool) (pattern : ℕ) (source s : List ℕ) (e : Entry) (byte 
               | no q ↦ rw (ne-eqb (length t) (length (contentOf source s e)) q)
             ]);
         low = λ h z. omega (arith, h n, w .last);
+        plain = λ q. absurd (omega (arith, w .last, r .small));
+        uses = λ b h. text-within b (a, k) (e .text) n (record { first = w .first; last = w .last });
       }
 
   module _ (n : e .text .0 ≡ NONE) (a k : ℕ) (w : PlaceTrimmed front pattern source (e .start) (e .end - e .start) a k) where
@@ -273,6 +327,9 @@ module _ (front : Bool) (pattern : ℕ) (source s : List ℕ) (e : Entry) (byte 
 
     inside : a + k ≤ length source
     inside = omega (arith, w .last, r .span .inside, r .span .ordered)
+
+    width : plainOf e ≡ e .end - e .start
+    width = plain-width e n
 
     size : length (take k (drop a source)) ≡ k
     size = length-take-le k (drop a source) (simp length-drop (omega (arith, inside)))
@@ -286,6 +343,8 @@ module _ (front : Bool) (pattern : ℕ) (source s : List ℕ) (e : Entry) (byte 
           kept = bytes-same byte s;
           text = none-text s (NONE, 0) refl ∙ rw (eq-eqb (length t) (length (contentOf source s e)) (sym (ap length d) ∙ size ∙ q ∙ sym full)) (sym (none-text s (e .text) n));
           low = λ h z. absurd (z refl);
+          plain = λ _. n;
+          uses = λ b h. omega (arith, text-empty b NONE);
         }
 
     pub content-copied : (k ≡ e .end - e .start → ⊥) → (s' : List ℕ) → s' ≡ over s byte (take k (drop a source)) → ContentTrimmed front pattern source s e byte s' (byte, k)
@@ -295,32 +354,47 @@ module _ (front : Bool) (pattern : ℕ) (source s : List ℕ) (e : Entry) (byte 
         let b : take k (drop byte s') ≡ T =
         rw (o) (ap (λ (u : ℕ). take u (drop byte (over s byte T))) (sym size) ∙ rw (z, append-nil T) at (over-part s byte [] T [] (omega (arith, r .bytes)))) in
         record {
-          kept = record { len = ap length o ∙ length-over s byte T (omega (arith, size, inside, r .bytes)); bytes = ap (take byte) o ∙ take-over s byte T (omega (arith, r .bytes)) };
+          kept = record { len = ap length o ∙ length-over s byte T (omega (arith, size, width, w .first, w .last, r .bytes)); bytes = ap (take byte) o ∙ take-over s byte T (omega (arith, r .bytes)) };
           text =
               some-text s' (byte, k) (λ y. omega (arith, r .bytes, r .small)) ∙ ap some (b ∙ d)
               ∙ sym (rw (ne-eqb (length t) (length (contentOf source s e)) (λ y. q (sym size ∙ ap length d ∙ y ∙ full))));
-          low = λ h y. omega (arith, inside);
+          low = λ h y. omega (arith, width, w .first, w .last);
+          plain = λ _. n;
+          uses = λ b h. omega (arith, text-before b (byte, k) h);
         }
 
 -- ---- the three ways in which a chunk stops a trim
-module _ (front : Bool) (pattern : ℕ) (source p s : List ℕ) (e : Entry) (top byte : ℕ) (r : RowReady source p s e) (h : RowFits source p s top byte e) where
+module _ (front : Bool) (pattern : ℕ) (source p s : List ℕ) (e : Entry) (top byte : ℕ) (r : RowReady source p s e) (h : RowFits p s top byte e) where
   pub near-asks : all (blank pattern) (runOf p s (nearOf front e)) ≡ false → RunReady p s (nearOf front e) × RowRoom p s (nearOf front e .0) (nearOf front e .1) top
   near-asks b = (
     near-ready p s e front (r .entry) (r .texts),
-    run-room pattern p s top byte (nearOf front e) (near-low p s e front top byte (h .low)) b (few-near front e (h .intro) (h .outro)) (h .rows) (h .narrow) (h .small),
+    run-room pattern p s top byte (nearOf front e) (near-low p s e front top byte (h .low)) b (omega (arith, few-near front e, h .rows)) (h .narrow) (h .small),
   )
 
   pub far-asks : all (blank pattern) (runOf p s (farOf front e)) ≡ false → RunReady p s (farOf front e) × RowRoom p s (farOf front e .0) (farOf front e .1) top
   far-asks b = (
     far-ready p s e front (r .entry) (r .texts),
-    run-room pattern p s top byte (farOf front e) (far-low p s e front top byte (h .low)) b (few-far front e (h .intro) (h .outro)) (h .rows) (h .narrow) (h .small),
+    run-room pattern p s top byte (farOf front e) (far-low p s e front top byte (h .low)) b (omega (arith, few-far front e, h .rows)) (h .narrow) (h .small),
   )
 
   pub content-asks : ContentReady source s e byte
   content-asks = record { span = r .span; replacement = r .entry .replacement; valid = r .content-valid; bytes = h .bytes; small = h .small }
 
-  below-run : (q' : List ℕ) (at n : ℕ) (q : Place) → n ≤ 1024 → Below q' byte (top + n) q → Below q' (byte + length source) (top + 1024) q
-  below-run q' at n q m b k g = (omega (arith, b k g .0), omega (arith, b k g .1))
+  below-run : (q' : List ℕ) (n : ℕ) (q : Place) → n ≤ piecesOf e → Below q' byte (top + n) q → Below q' byte (top + piecesOf e) q
+  below-run q' n q m b k g = (omega (arith, b k g .0), b k g .1)
+
+  far-above : (j : ℕ) → top ≤ j → among (farOf front e) j ≡ 0
+  far-above = rows-above p top byte (farOf front e) (far-low p s e front top byte (h .low))
+
+  far-same : (p' : List ℕ) → RowsKept top p p' → NoMore p p' top (farOf front e) (farOf front e)
+  far-same p' k = no-more-same p p' top byte (farOf front e) k (far-low p s e front top byte (h .low))
+
+  far-still : (p' : List ℕ) → RowsKept top p p' → Below p' byte (top + piecesOf e) (farOf front e)
+  far-still p' k = run-still top byte p p' k (top + piecesOf e) byte (omega arith) (omega arith) (farOf front e) (far-low p s e front top byte (h .low))
+
+  sides-text : (f : Bool) (n q x : Place) → TextLow (byte + plainOf e) x → TextLow (byte + plainOf e) (withSides f e n q x .text)
+  sides-text true n q x t = t
+  sides-text false n q x t = t
 
   stopped-near : all (blank pattern) (runOf p s (nearOf front e)) ≡ false → (p' : List ℕ) (q : Place) → RunTrimmed front pattern p s (nearOf front e .0) (nearOf front e .1) top p' q
       → RowTrimmed front pattern source p s e top byte p' s (withSides front e q (farOf front e) (e .text))
@@ -333,11 +407,14 @@ module _ (front : Bool) (pattern : ℕ) (source p s : List ℕ) (e : Entry) (top
         chunk =
             sides-are front pattern source p s p' s e q (farOf front e) (e .text) k (d .text ∙ ap (trim-deque front pattern) (sym (near-run p s e front)))
             (run-same top byte p s p' s (d .kept) (bytes-same byte s) (farOf front e) (far-low p s e front top byte (h .low)) ∙ sym (far-run p s e front)) refl;
-        low =
-            sides-low p' s e front (top + 1024) (byte + length source) q (farOf front e) (e .text)
-            (below-run p' 0 (nearOf front e .1) q (few-near front e (h .intro) (h .outro)) (d .low byte (near-low p s e front top byte (h .low))))
-            (run-still top byte p p' (d .kept) (top + 1024) (byte + length source) (omega arith) (omega arith) (farOf front e) (far-low p s e front top byte (h .low)))
-            (λ z. omega (arith, h .low .text z));
+        runs =
+            sides-low p' s e front (top + piecesOf e) byte q (farOf front e) (e .text) (below-run p' (nearOf front e .1) q (few-near front e) (d .low byte (near-low p s e front top byte (h .low))))
+            (far-still p' (d .kept));
+        text = sides-text front q (farOf front e) (e .text) (λ z. omega (arith, h .low .text z));
+        spent = sides-spent front e byte q (farOf front e) (e .text) (λ z. z) (λ z. omega (arith, h .low .text z));
+        apart =
+            sides-apart front p p' top byte e q (farOf front e) (e .text) (h .low .runs) (no-more-trimmed p p' top front pattern s (nearOf front e) q d) (far-same p' (d .kept))
+            (λ j l. omega (arith, among-most q j, far-above j l)) (λ b l. omega arith);
       }
 
   stopped-content : all (blank pattern) (runOf p s (nearOf front e)) ≡ true → blank pattern (contentOf source s e) ≡ false → (s' : List ℕ) (x : Place)
@@ -351,10 +428,12 @@ module _ (front : Bool) (pattern : ℕ) (source p s : List ℕ) (e : Entry) (top
         chunk =
             sides-are front pattern source p s p s' e (0, 0) (farOf front e) x k (run-none p s' 0)
             (run-same top byte p s p s' (rows-same top p) (d .kept) (farOf front e) (far-low p s e front top byte (h .low)) ∙ sym (far-run p s e front)) (d .text);
-        low =
-            sides-low p s' e front (top + 1024) (byte + length source) (0, 0) (farOf front e) x (none-below p (byte + length source) (top + 1024) 0)
-            (run-still top byte p p (rows-same top p) (top + 1024) (byte + length source) (omega arith) (omega arith) (farOf front e) (far-low p s e front top byte (h .low)))
-            (d .low (h .low .text));
+        runs = sides-low p s' e front (top + piecesOf e) byte (0, 0) (farOf front e) x (none-below p byte (top + piecesOf e) 0) (far-still p (rows-same top p));
+        text = sides-text front (0, 0) (farOf front e) x (d .low (h .low .text));
+        spent = sides-spent front e byte (0, 0) (farOf front e) x (d .plain) (d .low (h .low .text));
+        apart =
+            sides-apart front p p top byte e (0, 0) (farOf front e) x (h .low .runs) (no-more-none p p top (0, 0) (nearOf front e) refl) (far-same p (rows-same top p))
+            (λ j l. omega (arith, among-none 0 j, far-above j l)) (d .uses);
       }
 
   stopped-far : all (blank pattern) (runOf p s (nearOf front e)) ≡ true → blank pattern (contentOf source s e) ≡ true → all (blank pattern) (runOf p s (farOf front e)) ≡ false
@@ -370,10 +449,14 @@ module _ (front : Bool) (pattern : ℕ) (source p s : List ℕ) (e : Entry) (top
         chunk =
             sides-are front pattern source p s p' s e (0, 0) q (clearedText e) (k ∙ rw z) (run-none p' s 0) (d .text ∙ ap (trim-deque front pattern) (sym (far-run p s e front)))
             (cleared-text source s e (r .span) (r .entry .replacement));
-        low =
-            sides-low p' s e front (top + 1024) (byte + length source) (0, 0) q (clearedText e) (none-below p' (byte + length source) (top + 1024) 0)
-            (below-run p' 0 (farOf front e .1) q (few-far front e (h .intro) (h .outro)) (d .low byte (far-low p s e front top byte (h .low))))
-            (cleared-low e byte (byte + length source) (omega arith) (h .low .text));
+        runs =
+            sides-low p' s e front (top + piecesOf e) byte (0, 0) q (clearedText e) (none-below p' byte (top + piecesOf e) 0)
+            (below-run p' (farOf front e .1) q (few-far front e) (d .low byte (far-low p s e front top byte (h .low))));
+        text = sides-text front (0, 0) q (clearedText e) (cleared-low e byte (byte + plainOf e) (omega arith) (h .low .text));
+        spent = sides-spent front e byte (0, 0) q (clearedText e) (cleared-plain e) (cleared-low e byte (byte + plainOf e) (omega arith) (h .low .text));
+        apart =
+            sides-apart front p p' top byte e (0, 0) q (clearedText e) (h .low .runs) (no-more-none p p' top (0, 0) (nearOf front e) refl) (no-more-trimmed p p' top front pattern s (farOf front e) q d)
+            (λ j l. omega (arith, among-none 0 j, among-most q j)) (λ b l. cleared-uses e b);
       }
 
   -- at the place that `part` tells

@@ -6,6 +6,8 @@ ghost use lib.ListN.{length};
 ghost use Rattle.texts.specs.Over.{over};
 ghost use Rattle.table.specs.Order.{entryOf};
 ghost use Rattle.trim_text.specs.Sides.{blank};
+ghost use Rattle.trim_run.specs.Low.{TextLow};
+ghost use Rattle.trim_row.specs.Plain.{Behind};
 ghost use Rattle.trim_row.specs.Row.{nearOf, farOf, withSides, clearedText, clearOf, blankRow, contentOf, placeOf, Rewritten, RowReady, RowFits, PartIs, ContentReady, ContentTrimmed, RowDone};
 use table::Piece;
 use table::Row;
@@ -197,7 +199,7 @@ pub fn trim_row(
     pattern: u32,
 ) -> Row
     requires { ⌜ RowReady (now source) (now p) (now s) (entryOf r) ⌝ }
-    requires { ⌜ RowFits (now source) (now p) (now s) top byte (entryOf r) ⌝ }
+    requires { ⌜ RowFits (now p) (now s) top byte (entryOf r) ⌝ }
     requires { ⌜ blankRow pattern (now source) (now p) (now s) (entryOf r) ≡ false ⌝ }
     ensures { λ q. ⌜ RowDone front pattern (now (source .entry)) (now (p .entry)) (now (s .entry)) r top byte (now (p .exit)) (now (s .exit)) q ⌝ }
 {
@@ -215,4 +217,19 @@ pub fn trim_row(
     }
     let f = trim_run::trim_run(p, s, q.at, q.n, top, front, pattern);
     with_sides(r, front, none, f, cleared_text(r))
+}
+
+// The byte behind `byte` and behind a row's replacement.
+pub fn behind(r: Row, byte: u32) -> u32
+    requires { ⌜ TextLow 65536 (entryOf r .text) ⌝ }
+    ensures { λ b. ⌜ Behind byte (entryOf r .text) b ⌝ }
+{
+    if r.text_at == texts::NONE {
+        return byte;
+    }
+    let end = r.text_at + r.text_n;
+    if end < byte {
+        return byte;
+    }
+    end
 }

@@ -57,17 +57,27 @@ pub record Copied (p p' : List ℕ) (at n top : ℕ) : Type 0 where
   pub kept : RowsKept top p p'
   pub copies : (j : ℕ) → j < n → pieceAt p' (top + j) ≡ pieceAt p (at + j)
 
+-- a place that is a part of another
+pub record Within (a r : Place) : Type 0 where
+  pub first : r .0 ≤ a .0
+  pub last : a .0 + a .1 ≤ r .0 + r .1
+
 -- a copy of a run with its piece k trimmed
 pub record PutTrimmed (front : Bool) (pattern : ℕ) (p s : List ℕ) (at n k top : ℕ) (p' : List ℕ) : Type 0 where
   pub kept : RowsKept top p p'
   pub text : (m : ℕ) → n ≡ k + suc m → runOf p' s (top, n) ≡ runOf p s (at, k) ++ trim-text front pattern (textAt p s (at + k)) ∷ runOf p s (at + k + 1, m)
   pub low : (byte : ℕ) → Below p byte top (at, n) → Below p' byte (top + n) (top, n)
+  pub part : (j : ℕ) → j < n → Within (pieceAt p' (top + j)) (pieceAt p (at + j))
 
--- what is left of a run, written from row top on
+-- what is left of a run, written from row top on: each row names a part of a piece of the run, those at its front left out
 pub record RunTrimmed (front : Bool) (pattern : ℕ) (p s : List ℕ) (at n top : ℕ) (p' : List ℕ) (r : Place) : Type 0 where
   pub kept : RowsKept top p p'
   pub text : runOf p' s r ≡ trim-deque front pattern (runOf p s (at, n))
   pub low : (byte : ℕ) → Below p byte top (at, n) → Below p' byte (top + n) r
+  pub place : r .0 ≡ top
+  pub out : ℕ
+  pub inside : out + r .1 ≤ n
+  pub part : (j : ℕ) → j < r .1 → Within (pieceAt p' (top + j)) (pieceAt p (at + out + j))
 
 -- ---- runs in parts
 tabulate-split : {A : Type 0} (f : ℕ → A) (a b : ℕ) → tabulate f (a + b) ≡ tabulate f a ++ tabulate (λ k. f (a + k)) b
@@ -236,6 +246,11 @@ module _ (front : Bool) (pattern : ℕ) (p s p1 p2 : List ℕ) (at n k top : ℕ
                   (omega arith, omega (arith, t .last, h k g .1))
               | no y ↦ let x = ap (λ (z : Place). z .0 + z .1) (there j y i) in (omega arith, omega (arith, h j i .1))
             ];
+        part = λ j i.
+            elim (ℕ-discrete j k) [
+              | yes y ↦ rw y (subst (λ (z : Place). Within z (pieceAt p (at + k))) (sym here) (subst (Within (r .at, r .n)) (sym old) (record { first = t .first; last = t .last })))
+              | no y ↦ subst (Within (pieceAt p2 (top + j))) (there j y i) (record { first = omega arith; last = omega arith })
+            ];
       }
 
 below-part : (p : List ℕ) (byte top at n k m : ℕ) → k + m ≤ n → Below p byte top (at, n) → Below p byte top (at + k, m)
@@ -261,6 +276,10 @@ trimmed-front pattern p s p' at n k top b g d =
           ∙ ap (trim-deque true pattern) (run-mid p s at k m)
           ∙ deque-front pattern (runOf p s (at, k)) (textAt p s (at + k)) (runOf p s (at + k + 1, m)) (b .blanks) (b .stop g)));
       low = λ byte h. below-more p' byte (top + (n - k)) (top + n) (top, n - k) (omega arith) (d .low byte (below-part p byte top at n k (n - k) (omega (arith, b .most)) h));
+      place = refl;
+      out = k;
+      inside = omega arith;
+      part = d .part;
     }
 
 -- from the end: the last one
@@ -280,4 +299,8 @@ trimmed-back pattern p s p' at n k top b g d =
           ∙ ap (trim-deque false pattern) (run-mid p s at i m)
           ∙ deque-back pattern (runOf p s (at, i)) (textAt p s (at + i)) (runOf p s (at + i + 1, m)) (rw f (b .blanks)) (b .stop g)));
       low = λ byte h. below-more p' byte (top + k) (top + n) (top, k) (omega (arith, b .most)) (d .low byte (rw z at (below-part p byte top at n 0 k (omega (arith, b .most)) h)));
+      place = refl;
+      out = 0;
+      inside = omega (arith, b .most);
+      part = λ j i. rw z (d .part j i);
     }

@@ -83,7 +83,7 @@ pub fn is_blank(text: &[u8], pattern: u32) -> bool
 
 // The place of what stays of the text at a place.
 pub fn trim_place(s: &[u8], place: Piece, front: bool, pattern: u32) -> Piece
-    requires { ⌜ (place .at + place .n ≤ length (now s)) × (length (now s) < 2 ^ 32) ⌝ }
+    requires { ⌜ (place .at + place .n ≤ length (now s)) × (place .at + place .n < 2 ^ 32) ⌝ }
     requires { ⌜ utf8 (take (place .n) (drop (place .at) (now s))) ≡ true ⌝ }
     ensures { λ r. ⌜ PlaceTrimmed front pattern (now (s .entry)) (place .at) (place .n) (r .at) (r .n) ⌝ }
 {

@@ -1,4 +1,5 @@
 use lib.ListN.{length-take}
+use Rattle.trim_row.specs.Plain.{plain-width}
 use Rattle.trim_row.specs.Row.{replaced-asks, plain-asks, content-shorter, content-same, content-copied}
 use Rattle.texts.specs.Over.{over}
 use Rattle.table.specs.Order.{entryOf}
@@ -15,7 +16,7 @@ trim-place-requires c κs =
     let start = c .before .before .before .before .before in
     let a = start .args in
     let d = replaced-asks (a .front) (a .pattern) (a .source .now) (a .s .now) (entryOf (a .r)) (a .byte) (start .pre) (c .before .if1 .taken) in
-    ((d .0, omega (arith, start .pre .small)), d .1)
+    ((d .0, omega (arith, d .0, start .pre .small)), d .1)
 
 same-length : tie.Need-same-length
 same-length c = search needs
@@ -34,7 +35,7 @@ trim-place-requires-2 c κs =
     let start = c .before .before .before .before .before in
     let a = start .args in
     let d = plain-asks (a .front) (a .pattern) (a .source .now) (a .s .now) (entryOf (a .r)) (a .byte) (start .pre) (c .before .if1 .left) in
-    ((d .0, omega (arith, start .pre .small, start .pre .bytes)), d .1)
+    ((d .0, omega arith), d .1)
 
 returns-2 : tie.Need-returns-2
 returns-2 c =
@@ -68,7 +69,8 @@ put-at-requires c κs =
     let q = c .before .before .before .before .before .before .trim-place2 in
     let z : q .result .at + q .result .n - q .result .at ≡ q .result .n = omega arith in
     let l = length-take (q .result .n) (drop (q .result .at) (start .args .source .now)) in
-    rw z (omega (arith, q .ensures .last, start .pre .span .inside, start .pre .span .ordered, start .pre .bytes))
+    let w = plain-width (entryOf (start .args .r)) (c .before .before .before .before .before .before .before .before .if1 .left) in
+    rw z (omega (arith, q .ensures .first, q .ensures .last, w, start .pre .bytes))
 
 same-length-2 : tie.Need-same-length-2
 same-length-2 c = search needs

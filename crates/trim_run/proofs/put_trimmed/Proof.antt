@@ -19,7 +19,7 @@ trim-place-requires c κs =
     let a = start .args in
     let e = c .get-piece .ensures in
     let k = run-piece (a .p .now) (a .s .now) (a .at) (a .n) (a .k) (start .pre .0 .inside) (start .pre .1 .1) in
-    rw e ((k .text, start .pre .1 .0 .narrow-store), text-valid (a .p .now) (a .s .now) (a .at) (a .n) (a .k) (start .pre .0 .valid) (start .pre .1 .1))
+    rw e ((k .text, omega (arith, k .text, start .pre .1 .0 .narrow-store)), text-valid (a .p .now) (a .s .now) (a .at) (a .n) (a .k) (start .pre .0 .valid) (start .pre .1 .1))
 
 copy-rows-requires : tie.Need-copy-rows-requires
 copy-rows-requires c κs =

@@ -1,9 +1,9 @@
 -- `trim_start` and `trim_end` as one function of the side, and what they leave of the piece count.
 -- Assumes nothing.
-use mathlib.Core.Path.{_≡_, refl, ap, _∙_}
+use mathlib.Core.Path.{_≡_, _∙_}
 use mathlib.Core.Bool.{Bool, true, false, cond}
-use mathlib.Core.List.{List, [], _∷_, _++_, reverse, reverse-cons}
-use Prim.Native.Nat.{ℕ, _+_, _≤_}
+use mathlib.Core.List.{List, [], _∷_, reverse}
+use Prim.Native.Nat.{ℕ, _≤_}
 use native.Mathlib.Omega.{arith}
 use lib.Dec.{eqb}
 use lib.ListN.{length, length-reverse}
@@ -18,7 +18,7 @@ use Rattle.preservation.specs.Trim.{trim-start-keeps, trim-end-keeps}
 use Rattle.trim_text.specs.Sides.{blank}
 use Rattle.trim_run.specs.Deque.{trim-deque, deque-nil, all-nil-deque}
 use Rattle.trim_row.specs.Sides.{trim-chunk}
-use Rattle.trim_chunks.specs.Walk.{way}
+use Rattle.trim_chunks.specs.Sums.{way, sum-reverse}
 
 -- `trim_start` (from the front) or `trim_end`
 abbrev pub trim-side : Bool → ℕ → MagicString → MagicString
@@ -97,29 +97,22 @@ module _ (p : ℕ) where
         (of-either Fewer (is-nil s) (omega arith) (of-either Fewer (eqb (length t) (length s)) (omega arith) (of-either Fewer (is-nil t) (omega arith) (omega arith))))
         (omega arith)
 
-chunks-le : (f : Chunk → Trimmed) → ((c : Chunk) → chunk-pieces (f c .chunk) ≤ chunk-pieces c) → (cs : List Chunk) → sum chunk-pieces (trim-chunks f cs) ≤ sum chunk-pieces cs
-chunks-le f g [] = omega arith
-chunks-le f g (c ∷ cs) =
-    of-cond (λ (l : List Chunk). sum chunk-pieces (f c .chunk ∷ l) ≤ sum chunk-pieces (c ∷ cs)) (f c .goes-on) (λ _. omega (arith, g c, chunks-le f g cs)) (λ _. omega (arith, g c))
-
-sum-snoc : (f : Chunk → ℕ) (xs : List Chunk) (c : Chunk) → sum f (xs ++ (c ∷ [])) ≡ sum f xs + f c
-sum-snoc f [] c = omega arith
-sum-snoc f (x ∷ xs) c = omega (arith, sum-snoc f xs c)
-
-sum-reverse : (f : Chunk → ℕ) (cs : List Chunk) → sum f (reverse cs) ≡ sum f cs
-sum-reverse f [] = refl
-sum-reverse f (c ∷ cs) = ap (sum f) (reverse-cons c cs) ∙ sum-snoc f (reverse cs) c ∙ omega (arith, sum-reverse f cs)
+-- a weight that no chunk gains, summed over the chunks
+pub chunks-le : (w : Chunk → ℕ) (f : Chunk → Trimmed) → ((c : Chunk) → w (f c .chunk) ≤ w c) → (cs : List Chunk) → sum w (trim-chunks f cs) ≤ sum w cs
+chunks-le w f g [] = omega arith
+chunks-le w f g (c ∷ cs) =
+    of-cond (λ (l : List Chunk). sum w (f c .chunk ∷ l) ≤ sum w (c ∷ cs)) (f c .goes-on) (λ _. omega (arith, g c, chunks-le w f g cs)) (λ _. omega (arith, g c))
 
 pub side-pieces : (front : Bool) (p : ℕ) (m : MagicString) → piece-count (trim-side front p m) ≤ piece-count m
 unfolding trim-start trim-end
 side-pieces true p m =
     let a = start-le p (m .intro) in
     of-cond (λ (x : MagicString). piece-count x ≤ piece-count m) (is-nil (trim-deque-start p (m .intro)))
-    (λ _. omega (arith, a, chunks-le (trim-chunk-start p (m .source)) (chunk-start-le p (m .source)) (m .chunks)))
+    (λ _. omega (arith, a, chunks-le chunk-pieces (trim-chunk-start p (m .source)) (chunk-start-le p (m .source)) (m .chunks)))
     (λ _. omega (arith, a))
 side-pieces false p m =
     let a = end-le p (m .outro) in
     let f = trim-chunk-end p (m .source) in
     of-cond (λ (x : MagicString). piece-count x ≤ piece-count m) (is-nil (trim-deque-end p (m .outro)))
-    (λ _. omega (arith, a, sum-reverse chunk-pieces (trim-chunks f (reverse (m .chunks))), chunks-le f (chunk-end-le p (m .source)) (reverse (m .chunks)), sum-reverse chunk-pieces (m .chunks)))
+    (λ _. omega (arith, a, sum-reverse chunk-pieces (trim-chunks f (reverse (m .chunks))), chunks-le chunk-pieces f (chunk-end-le p (m .source)) (reverse (m .chunks)), sum-reverse chunk-pieces (m .chunks)))
     (λ _. omega (arith, a))

@@ -1,14 +1,14 @@
 use borrow.Author.Tests.{not-true, not-false}
-use Rattle.trim.specs.Side.{own-ready, own-stops, chunks-ready, own-goes-on}
+use Rattle.trim_sides.specs.Side.{own-ready, own-stops, chunks-ready, own-goes-on}
 use borrow.Author.Needs.{needs}
-use Rattle.trim.proofs.trim_side.Statement.{statement}
-use Rattle.trim.proofs.trim_side.Tie as tie
+use Rattle.trim_sides.proofs.trim_side.Statement.{statement}
+use Rattle.trim_sides.proofs.trim_side.Tie as tie
 
 trim-own-requires : tie.Need-trim-own-requires
 trim-own-requires c κs =
     let start = c .before .before .before .before .before .before .before in
     let a = start .args in
-    own-ready (a .front) (a .pattern) (a .source .now) (a .t .now) (a .p .now) (a .s .now) (a .top) (a .byte) (start .pre)
+    own-ready (a .front) (a .pattern) (a .source .now) (a .t .now) (a .p .now) (a .s .now) (a .top) _ (a .byte) (start .pre)
 
 same-length : tie.Need-same-length
 same-length c = search needs
@@ -23,13 +23,13 @@ returns : tie.Need-returns
 returns c =
     let start = c .before .before .before .before .before .before .before .before .before .before .before .before .before in
     let a = start .args in
-    own-stops (a .front) (a .pattern) (a .source .now) (a .t .now) (a .p .now) (a .s .now) (a .top) (a .byte) (start .pre) _ _ _ (c .before .before .before .before .before .trim-own .ensures) (not-true _ (c .if1 .taken))
+    own-stops (a .front) (a .pattern) (a .source .now) (a .t .now) (a .p .now) (a .s .now) (a .top) _ (a .byte) (start .pre) _ _ _ (c .before .before .before .before .before .trim-own .ensures) (not-true _ (c .if1 .taken))
 
 trim-chunks-requires : tie.Need-trim-chunks-requires
 trim-chunks-requires c κs =
     let start = c .before .before .before .before .before .before .before .before .before .before .before .before .before .before .before .before in
     let a = start .args in
-    chunks-ready (a .front) (a .pattern) (a .source .now) (a .t .now) (a .p .now) (a .s .now) (a .top) (a .byte) (start .pre) _ _ _ (c .before .before .before .before .before .before .before .before .trim-own .ensures) (not-false _ (c .before .before .before .if1 .left))
+    chunks-ready (a .front) (a .pattern) (a .source .now) (a .t .now) (a .p .now) (a .s .now) (a .top) _ (a .byte) (start .pre) _ _ _ (c .before .before .before .before .before .before .before .before .trim-own .ensures) (not-false _ (c .before .before .before .if1 .left))
 
 same-length-4 : tie.Need-same-length-4
 same-length-4 c = search needs
@@ -44,7 +44,7 @@ returns-2 : tie.Need-returns-2
 returns-2 c =
     let start = c .before .before .before .before .before .before .before .before .before .before .before .before .before .before .before .before .before .before .before .before .before .before .before in
     let a = start .args in
-    own-goes-on (a .front) (a .pattern) (a .source .now) (a .t .now) (a .p .now) (a .s .now) (a .top) (a .byte) (start .pre) _ _ _ (c .before .before .before .before .before .before .before .before .before .before .before .before .before .before .before .trim-own .ensures) (not-false _ (c .before .before .before .before .before .before .before .before .before .before .if1 .left)) _ _ _ (c .before .before .before .before .before .before .trim-chunks .ensures)
+    own-goes-on (a .front) (a .pattern) (a .source .now) (a .t .now) (a .p .now) (a .s .now) (a .top) _ (a .byte) (start .pre) _ _ _ (c .before .before .before .before .before .before .before .before .before .before .before .before .before .before .before .trim-own .ensures) (not-false _ (c .before .before .before .before .before .before .before .before .before .before .if1 .left)) _ _ _ _ (c .before .before .before .before .before .before .trim-chunks .ensures)
 
 pub trim-side-spec : {M : Type 1} → statement M
 trim-side-spec =

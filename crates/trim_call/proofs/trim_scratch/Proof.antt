@@ -2,8 +2,8 @@ use mathlib.Core.Path.{sym}
 use native.Mathlib.Omega.{arith}
 use Rattle.frame.specs.Frame.{zeros-length, zeros-at}
 use borrow.Author.Needs.{needs}
-use Rattle.trim.proofs.trim_with.Statement.{statement}
-use Rattle.trim.proofs.trim_with.Tie as tie
+use Rattle.trim_call.proofs.trim_scratch.Statement.{statement}
+use Rattle.trim_call.proofs.trim_scratch.Tie as tie
 
 array-borrow-prefix-t : tie.Need-array-borrow-prefix-t
 array-borrow-prefix-t c = search needs
@@ -21,15 +21,15 @@ array-borrow-prefix-s : tie.Need-array-borrow-prefix-s
 array-borrow-prefix-s c = search needs
 
 slice-aggregate-trim-by-3 : tie.Need-slice-aggregate-trim-by-3
-slice-aggregate-trim-by-3 c = sym (zeros-length 65536 65536 (omega arith))
+slice-aggregate-trim-by-3 c = sym (zeros-length 49152 49152 (omega arith))
 
 trim-by-requires : tie.Need-trim-by-requires
 trim-by-requires c κs =
     let start = c .before .before .before .before .before .before .before .before .before .before in (
       start .pre,
       (
-        record { chunks = zeros-length 6192 6192 (omega arith); clear = zeros-at 6192 6192; pieces = rw (zeros-length 8192 8192 (omega arith)) (omega arith); store = rw (zeros-length 65536 65536 (omega arith)) (omega arith) },
-        record { pieces = zeros-length 8192 8192 (omega arith); store = zeros-length 65536 65536 (omega arith) },
+        record { chunks = zeros-length 6192 6192 (omega arith); clear = zeros-at 6192 6192; pieces = rw (zeros-length 8192 8192 (omega arith)) (omega arith); store = rw (zeros-length 49152 49152 (omega arith)) (omega arith) },
+        record { pieces = zeros-length 8192 8192 (omega arith); store = zeros-length 49152 49152 (omega arith) },
       ),
     )
 
@@ -45,8 +45,8 @@ same-length-3 c = search needs
 returns : tie.Need-returns
 returns c = search needs
 
-pub trim-with-spec : {M : Type 1} → statement M
-trim-with-spec =
+pub trim-scratch-spec : {M : Type 1} → statement M
+trim-scratch-spec =
     tie.close
     (tie.spec
     array-borrow-prefix-t

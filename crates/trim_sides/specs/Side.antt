@@ -1,4 +1,4 @@
--- One side of a desk trimmed on scratch tables: the head or the tail, then the chunks.
+-- One side of a desk trimmed: the head or the tail, then the chunks.
 -- Assumes nothing.
 use mathlib.Core.Path.{_≡_, refl, sym, ap, ap₂, _∙_, subst}
 use mathlib.Core.Bool.{Bool, true, false}
@@ -18,8 +18,10 @@ use Rattle.model.specs.Limits.{chunk-pieces, piece-count}
 use Rattle.model.specs.Trim.{trim-chunks}
 use Rattle.model.specs.WellFormed.{Valid, ValidTexts, Formed}
 use Rattle.memory.specs.Layout.{Place, runOf, chunkOf, magicStringOf}
+use Rattle.memory.specs.WellFormed.{Disjoint}
 use Rattle.texts.specs.Texts.{run-length}
 use Rattle.texts.specs.Carry.{Below}
+use Rattle.preservation.specs.Lists.{sum-each}
 use Rattle.preservation.specs.Spans.{Inside, spans-inside}
 use Rattle.preservation.specs.Trim.{content-valid}
 use Rattle.frame.specs.Front.{desk-same}
@@ -28,46 +30,59 @@ use Rattle.trim_run.specs.Deque.{trim-deque, all-nil-deque}
 use Rattle.trim_run.specs.Low.{RowsKept, rows-same, bytes-same, RunsLow, EntryLow, DeskLow, run-in, entry-in, run-same, run-still, entries-same, entries-still}
 use Rattle.trim_run.specs.Run.{RunReady, RowRoom, RunTrimmed}
 use Rattle.trim_row.specs.Sides.{trim-chunk}
-use Rattle.trim_row.specs.Row.{nearOf, farOf, withSides, Rewritten, RowReady, RowFits, run-at}
-use Rattle.trim_chunks.specs.Walk.{way, ReadyAt, ChunksReady, ChunksTrimmed}
-use Rattle.trim.specs.Model.{trim-side, near-pieces, with-near, side-stops, side-goes-on}
+use Rattle.trim_row.specs.Plain.{plain-bytes, plainOf, plain-rows}
+use Rattle.trim_row.specs.Row.{nearOf, farOf, withSides, Rewritten, RowReady, RowFits, piecesOf, run-at}
+use Rattle.trim_row.specs.Uses.{NoMore, no-more-none, no-more-trimmed}
+use Rattle.trim_chunks.specs.Sums.{way}
+use Rattle.trim_chunks.specs.Walk.{ReadyAt, ChunksReady, ChunksTrimmed, chunkRows}
+use Rattle.trim_sides.specs.Apart.{own-apart, chunks-apart}
+use Rattle.trim_sides.specs.Model.{trim-side, near-pieces, with-near, side-stops, side-goes-on}
 
--- ---- what a trim asks: the desk lies below a row and a byte, with room behind them
-pub record SideReady (source t p s : List ℕ) (top byte : ℕ) : Type 0 where
+-- all pieces of a desk
+unfoldable pub deskPieces : List ℕ → List ℕ → List ℕ → List ℕ → ℕ
+deskPieces source t p s = piece-count (magicStringOf source t p s)
+
+-- ---- what a trim asks: the desk lies below a row and a byte, with room behind them for all its pieces (at most wide) and for the bytes of source that it shows
+pub record SideReady (source t p s : List ℕ) (top wide byte : ℕ) : Type 0 where
   pub low : DeskLow t p top byte
   pub formed : Formed (magicStringOf source t p s)
-  pub few : piece-count (magicStringOf source t p s) ≤ 1024
-  pub short : length source ≤ 16384
-  pub rows : (top + 1024) * 2 ≤ length p
+  pub few : piece-count (magicStringOf source t p s) ≤ wide
+  pub rows : (top + wide) * 2 ≤ length p
   pub narrow : length p ≤ 4294967296
-  pub bytes : byte + 16384 ≤ length s
+  pub bytes : byte + plain-bytes (magicStringOf source t p s) ≤ length s
   pub small : length s ≤ 65536
 
-pub record SideTrimmed (front : Bool) (pattern : ℕ) (source t p s : List ℕ) (top byte : ℕ) (t' p' s' : List ℕ) : Type 0 where
-  pub low : DeskLow t' p' (top + 1024) (byte + 16384)
+-- the byte b is behind all that the desk uses; what it lies further on is no longer plain
+pub record SideTrimmed (front : Bool) (pattern : ℕ) (source t p s : List ℕ) (top wide byte : ℕ) (t' p' s' : List ℕ) (b : ℕ) : Type 0 where
+  pub low : DeskLow t' p' (top + wide) b
   pub desk : magicStringOf source t' p' s' ≡ trim-side front pattern (magicStringOf source t p s)
+  pub least : byte ≤ b
+  pub spent : b + plain-bytes (magicStringOf source t' p' s') ≤ byte + plain-bytes (magicStringOf source t p s)
+  pub len : length t' ≡ length t
   pub pieces : length p' ≡ length p
   pub store : length s' ≡ length s
+  pub apart : Disjoint t p → Disjoint t' p'
 
 -- the head or the tail alone
 pub record OwnReady (front : Bool) (p s : List ℕ) (top : ℕ) (t : List ℕ) : Type 0 where
   pub linked : Linked t
   pub run : RunReady p s (nearOf front (entryAt t 0))
   pub below : (k : ℕ) → k < nearOf front (entryAt t 0) .1 → nearOf front (entryAt t 0) .0 + k < top
-  pub few : nearOf front (entryAt t 0) .1 ≤ 1024
-  pub rows : (top + 1024) * 2 ≤ length p
+  pub rows : (top + nearOf front (entryAt t 0) .1) * 2 ≤ length p
   pub narrow : length p ≤ 4294967296
   pub small : length s ≤ 65536
 
 -- gone: nothing is left of it
 pub record OwnTrimmed (front : Bool) (pattern : ℕ) (p s : List ℕ) (top : ℕ) (t p' t' : List ℕ) (gone : Bool) : Type 0 where
   pub linked : Linked t'
+  pub len : length t' ≡ length t
   pub entries-are : entries t' ≡ entries t
   pub near : Place
   pub row : entryAt t' 0 ≡ withSides front (entryAt t 0) near (farOf front (entryAt t 0)) (entryAt t 0 .text)
   pub rows : RowsKept top p p'
   pub text : runOf p' s near ≡ trim-deque front pattern (runOf p s (nearOf front (entryAt t 0)))
-  pub low : (byte : ℕ) → Below p byte top (nearOf front (entryAt t 0)) → Below p' byte (top + 1024) near
+  pub low : (byte : ℕ) → Below p byte top (nearOf front (entryAt t 0)) → Below p' byte (top + nearOf front (entryAt t 0) .1) near
+  pub no-more : NoMore p p' top near (nearOf front (entryAt t 0))
   pub gone-is : gone ≡ all (blank pattern) (runOf p s (nearOf front (entryAt t 0)))
   pub same : gone ≡ true → p' ≡ p
 
@@ -109,7 +124,7 @@ module _ (front : Bool) (pattern : ℕ) (p s : List ℕ) (top : ℕ) (t : List �
           ap (λ (x : ℕ). all (blank pattern) (runOf p s (nearOf front (entryAt t 0) .0, x))) e ∙ ap (all (blank pattern)) (run-none p s (nearOf front (entryAt t 0) .0)) in
           let v : all (blank pattern) (runOf p s (nearOf front (entryAt t 0))) ≡ false = ap (λ (x : Place). all (blank pattern) (runOf p s x)) (sym near-is) ∙ b in
           let y : _≡_ {A = ℕ} 0 1 = cc in absurd (omega arith)
-      go (suc k) e = record { below = omega (arith, h .below k (omega arith)); room = omega (arith, h .few, h .rows); narrow = h .narrow; narrow-store = omega (arith, h .small) }
+      go (suc k) e = record { below = omega (arith, h .below k (omega arith)); room = omega (arith, h .rows); narrow = h .narrow; narrow-store = omega (arith, h .small) }
 
   module _ (r : Row) (n : Place) (w : Rewritten z r (withSides front (entryOf z) n (farOf front (entryOf z)) (entryOf z .text))) (t' : List ℕ) (u : Put t t' 0 r) (m : length t' ≡ length t) where
     kept : Linked t' × (entries t' ≡ entries t)
@@ -128,12 +143,14 @@ module _ (front : Bool) (pattern : ℕ) (p s : List ℕ) (top : ℕ) (t : List �
       let e : all (blank pattern) (runOf p s (nearOf front (entryAt t 0))) ≡ true = ap (λ (x : Place). all (blank pattern) (runOf p s x)) (sym near-is) ∙ b in
       record {
         linked = k .0;
+        len = m;
         entries-are = k .1;
         near = (0, 0);
         row = row-is r (0, 0) w t' u m;
         rows = rows-same top p;
         text = run-none p s 0 ∙ sym (all-nil-deque front pattern (runOf p s (nearOf front (entryAt t 0))) e);
         low = λ byte g j i. absurd (omega arith);
+        no-more = no-more-none p p top (0, 0) (nearOf front (entryAt t 0)) refl;
         gone-is = sym e;
         same = λ _. refl;
       }
@@ -146,60 +163,61 @@ module _ (front : Bool) (pattern : ℕ) (p s : List ℕ) (top : ℕ) (t : List �
       let d = run-at front pattern p s top p' n near-is d₀ in
       record {
         linked = k .0;
+        len = m;
         entries-are = k .1;
         near = n;
         row = row-is r n w t' u m;
         rows = d .kept;
         text = d .text;
-        low = λ byte g j i. (omega (arith, d .low byte g j i .0, h .few), d .low byte g j i .1);
+        low = d .low;
+        no-more = no-more-trimmed p p' top front pattern s (nearOf front (entryAt t 0)) n d;
         gone-is = sym (ap (λ (x : Place). all (blank pattern) (runOf p s x)) (sym near-is) ∙ b);
         same = λ e. let y : _≡_ {A = ℕ} 0 1 = cc in absurd (omega arith);
       }
 
 -- ---- the chunk rows are ready
-module _ (source p s : List ℕ) (top byte : ℕ) where
-  Fit : Entry → Type 0
-  Fit e = RowReady source p s e × RowFits source p s top byte e
+-- pieces by their rows
+rows-pieces : (p s : List ℕ) (es : List Entry) → sum chunk-pieces (map (chunkOf p s) es) ≡ sum piecesOf es
+rows-pieces p s [] = refl
+rows-pieces p s (e ∷ es) = omega (arith, run-length p s (e .intro .0) (e .intro .1), run-length p s (e .outro .0) (e .outro .1), rows-pieces p s es)
 
-  module _ (v : Valid source) (short : length source ≤ 16384) (rows : (top + 1024) * 2 ≤ length p) (narrow : length p ≤ 4294967296) (bytes : byte + 16384 ≤ length s) (small : length s ≤ 65536) where
-    fit-one : (e : Entry) → EntryLow p top byte e → Inside source (chunkOf p s e) → ValidTexts (chunkOf p s e .texts) → chunk-pieces (chunkOf p s e) ≤ 1024 → Fit e
+module _ (source p s : List ℕ) (top byte : ℕ) where
+  Fit : ℕ → Entry → Type 0
+  Fit wide e = RowReady source p s e × (RowFits p s top byte e × (piecesOf e ≤ wide))
+
+  module _ (wide plain : ℕ) (v : Valid source) (rows : (top + wide) * 2 ≤ length p) (narrow : length p ≤ 4294967296) (bytes : byte + plain ≤ length s) (small : length s ≤ 65536) where
+    fit-one : (e : Entry) → EntryLow p top byte e → Inside source (chunkOf p s e) → ValidTexts (chunkOf p s e .texts) → piecesOf e ≤ wide → plainOf e ≤ plain → Fit wide e
     unfolding Fit
-    fit-one e l i t n = (
+    fit-one e l i t n q = (
       record {
         entry = entry-in p s top byte (omega arith) (omega arith) e l;
         span = record { ordered = i .ordered; inside = i .inside };
         texts = t;
         content-valid = content-valid source (chunkOf p s e) v i t;
       },
-      record {
-        low = l;
-        intro = omega (arith, run-length p s (e .intro .0) (e .intro .1), n);
-        outro = omega (arith, run-length p s (e .outro .0) (e .outro .1), n);
-        rows = rows;
-        narrow = narrow;
-        bytes = omega arith;
-        small = small;
-      },
+      (record { low = l; rows = omega arith; narrow = narrow; bytes = omega arith; small = small }, n),
     )
 
     fit-all : (es : List Entry) → All (EntryLow p top byte) es → All (Inside source) (map (chunkOf p s) es) → All (λ c. ValidTexts (c .texts)) (map (chunkOf p s) es)
-        → sum chunk-pieces (map (chunkOf p s) es) ≤ 1024 → All Fit es
-    fit-all [] l i t n = nil
-    fit-all (e ∷ es) (cons l ls) (cons i is) (cons t ts) n = cons (fit-one e l i t (omega arith)) (fit-all es ls is ts (omega arith))
+        → All (λ e. piecesOf e ≤ wide) es → All (λ e. plainOf e ≤ plain) es → All (Fit wide) es
+    fit-all [] l i t n q = nil
+    fit-all (e ∷ es) (cons l ls) (cons i is) (cons t ts) (cons n ns) (cons q qs) = cons (fit-one e l i t n q) (fit-all es ls is ts ns qs)
 
-  each-of : (t : List ℕ) (xs : List ℕ) → All Fit (map (entryAt t) xs) → Each (ReadyAt source p s top byte t) xs
+  each-of : (wide : ℕ) (t : List ℕ) (xs : List ℕ) → All (Fit wide) (map (entryAt t) xs) → Each (ReadyAt source p s top wide byte t) xs
   unfolding Fit
-  each-of t [] h = tt
-  each-of t (x ∷ xs) (cons h k) = (h, each-of t xs k)
+  each-of wide t [] h = tt
+  each-of wide t (x ∷ xs) (cons h k) = (h, each-of wide t xs k)
 
-  fit-desk : (t : List ℕ) → SideReady source t p s top byte → All Fit (entries t)
+  fit-desk : (t : List ℕ) (wide : ℕ) → SideReady source t p s top wide byte → All (Fit (chunkRows t)) (entries t)
   unfolding magicStringOf
-  fit-desk t h =
-      fit-all (h .formed .source) (h .short) (h .rows) (h .narrow) (h .bytes) (h .small) (entries t) (h .low .chunks)
-      (spans-inside source (map (chunkOf p s) (entries t)) (h .formed .covered)) (h .formed .texts) (omega (arith, h .few))
+  fit-desk t wide h =
+      let a = rows-pieces p s (entries t) in
+      let b = plain-rows p s (entries t) in
+      fit-all (chunkRows t) (sum plainOf (entries t)) (h .formed .source) (omega (arith, a, h .few, h .rows)) (h .narrow) (omega (arith, b, h .bytes)) (h .small) (entries t) (h .low .chunks)
+      (spans-inside source (map (chunkOf p s) (entries t)) (h .formed .covered)) (h .formed .texts) (sum-each piecesOf (entries t)) (sum-each plainOf (entries t))
 
 -- ---- one side
-module _ (front : Bool) (pattern : ℕ) (source t p s : List ℕ) (top byte : ℕ) (h : SideReady source t p s top byte) where
+module _ (front : Bool) (pattern : ℕ) (source t p s : List ℕ) (top wide byte : ℕ) (h : SideReady source t p s top wide byte) where
   abbrev m : MagicString
   m = magicStringOf source t p s
 
@@ -216,7 +234,7 @@ module _ (front : Bool) (pattern : ℕ) (source t p s : List ℕ) (top byte : �
   near-valid true = h .formed .intro
   near-valid false = h .formed .outro
 
-  near-few : (f : Bool) → nearOf f (entryAt t 0) .1 ≤ 1024
+  near-few : (f : Bool) → nearOf f (entryAt t 0) .1 ≤ wide
   unfolding magicStringOf
   near-few true = omega (arith, h .few, run-length p s (entryAt t 0 .intro .0) (entryAt t 0 .intro .1))
   near-few false = omega (arith, h .few, run-length p s (entryAt t 0 .outro .0) (entryAt t 0 .outro .1))
@@ -232,8 +250,7 @@ module _ (front : Bool) (pattern : ℕ) (source t p s : List ℕ) (top byte : �
         linked = h .low .linked;
         run = record { inside = run-in p s top byte (omega (arith, h .rows)) (omega (arith, h .bytes)) (nearOf front (entryAt t 0)) (near-below front); valid = near-valid front };
         below = λ k g. near-below front k g .0;
-        few = near-few front;
-        rows = h .rows;
+        rows = omega (arith, near-few front, h .rows);
         narrow = h .narrow;
         small = h .small;
       }
@@ -254,56 +271,72 @@ module _ (front : Bool) (pattern : ℕ) (source t p s : List ℕ) (top byte : �
   unfolding magicStringOf
   chunks-are = refl
 
+  -- plain bytes and pieces, by the rows
+  plain-desk : (t' p' s' : List ℕ) → plain-bytes (magicStringOf source t' p' s') ≡ sum plainOf (entries t')
+  unfolding magicStringOf
+  plain-desk t' p' s' = plain-rows p' s' (entries t')
+
+  chunks-few : chunkRows t ≤ wide
+  unfolding magicStringOf
+  chunks-few = omega (arith, rows-pieces p s (entries t), h .few)
+
   source-is : m .source ≡ source
   unfolding magicStringOf
   source-is = refl
 
   module _ (t1 p1 : List ℕ) (gone : Bool) (d : OwnTrimmed front pattern p s top t p1 t1 gone) where
-    far-still : Below p1 (byte + 16384) (top + 1024) (farOf front (entryAt t 0))
-    far-still = run-still top byte p p1 (d .rows) (top + 1024) (byte + 16384) (omega arith) (omega arith) (farOf front (entryAt t 0)) (far-below front)
+    far-still : (p2 : List ℕ) → RowsKept top p p2 → (b : ℕ) → byte ≤ b → Below p2 b (top + wide) (farOf front (entryAt t 0))
+    far-still p2 k b kb = run-still top byte p p2 k (top + wide) b (omega arith) kb (farOf front (entryAt t 0)) (far-below front)
 
-    near-still : Below p1 (byte + 16384) (top + 1024) (d .near)
-    near-still j i = (d .low byte (near-below front) j i .0, omega (arith, d .low byte (near-below front) j i .1))
+    near-still : Below p1 byte (top + wide) (d .near)
+    near-still j i = (omega (arith, d .low byte (near-below front) j i .0, near-few front), d .low byte (near-below front) j i .1)
 
     -- the trim stops there
-    pub own-stops : gone ≡ false → SideTrimmed front pattern source t p s top byte t1 p1 s
+    pub own-stops : gone ≡ false → SideTrimmed front pattern source t p s top wide byte t1 p1 s byte
     own-stops g =
         let b : all (blank pattern) (near-pieces front m) ≡ false = ap (all (blank pattern)) (near-desk front) ∙ sym (d .gone-is) ∙ g in
         record {
           low = record {
             linked = d .linked;
-            desk = desk-low front t1 p1 (top + 1024) (byte + 16384) (d .near) _ (d .row) near-still far-still;
-            chunks = subst (All (EntryLow p1 (top + 1024) (byte + 16384))) (sym (d .entries-are)) (entries-still top byte p p1 (d .rows) (top + 1024) (byte + 16384) (omega arith) (omega arith) (h .low .chunks));
+            desk = desk-low front t1 p1 (top + wide) byte (d .near) _ (d .row) near-still (far-still p1 (d .rows) byte (omega arith));
+            chunks = subst (All (EntryLow p1 (top + wide) byte)) (sym (d .entries-are)) (entries-still top byte p p1 (d .rows) (top + wide) byte (omega arith) (omega arith) (h .low .chunks));
           };
           desk =
               desk-with front t1 p1 s (d .near) _ (trim-deque front pattern (near-pieces front m)) (m .chunks) (d .row) (d .text ∙ ap (trim-deque front pattern) (sym (near-desk front)))
               (run-same top byte p s p1 s (d .rows) (bytes-same byte s) (farOf front (entryAt t 0)) (far-below front))
               (ap (map (chunkOf p1 s)) (d .entries-are) ∙ entries-same top byte p s p1 s (d .rows) (bytes-same byte s) (h .low .chunks) ∙ sym chunks-are)
               ∙ sym (side-stops front pattern m b);
+          least = omega arith;
+          spent = omega (arith, plain-desk t p s, plain-desk t1 p1 s, ap (sum plainOf) (d .entries-are));
+          len = d .len;
           pieces = d .rows .len;
           store = refl;
+          apart = λ k. own-apart front t t1 p p1 top byte (d .near) _ (h .low) (d .rows) (d .no-more) (d .row) k (d .entries-are);
         }
 
     -- the chunks are next
-    pub chunks-ready : gone ≡ true → ChunksReady source p1 s top byte t1
+    pub chunks-ready : gone ≡ true → ChunksReady source p1 s top (chunkRows t1) byte t1
     unfolding Fit
     chunks-ready g =
-        subst (λ (x : List ℕ). ChunksReady source x s top byte t1) (sym (d .same g))
-        (record { linked = d .linked; each = each-of source p s top byte t1 (order t1) (subst (All (Fit source p s top byte)) (sym (d .entries-are)) (fit-desk source p s top byte t h)) })
+        subst (λ (x : List ℕ). ChunksReady source x s top (chunkRows t1) byte t1) (sym (d .same g))
+        (record {
+          linked = d .linked;
+          each = each-of source p s top byte (chunkRows t1) t1 (order t1) (subst (λ (es : List Entry). All (Fit source p s top byte (sum piecesOf es)) es) (sym (d .entries-are)) (fit-desk source p s top byte t wide h));
+        })
 
-    pub own-goes-on : gone ≡ true → (t2 p2 s2 : List ℕ) → ChunksTrimmed front pattern source p1 s top byte t1 p2 s2 t2 → SideTrimmed front pattern source t p s top byte t2 p2 s2
-    own-goes-on g t2 p2 s2 c₀ =
-        let c = subst (λ (x : List ℕ). ChunksTrimmed front pattern source x s top byte t1 p2 s2 t2) (d .same g) c₀ in
-        let b : all (blank pattern) (runOf p s (nearOf front (entryAt t 0))) ≡ true = sym (d .gone-is) ∙ g in
+    pub own-goes-on : gone ≡ true → (t2 p2 s2 : List ℕ) (b : ℕ) → ChunksTrimmed front pattern source p1 s top (chunkRows t1) byte t1 p2 s2 t2 b → SideTrimmed front pattern source t p s top wide byte t2 p2 s2 b
+    own-goes-on g t2 p2 s2 b c₀ =
+        let c = subst (λ (x : List ℕ). ChunksTrimmed front pattern source x s top (chunkRows t1) byte t1 p2 s2 t2 b) (d .same g) c₀ in
+        let f : all (blank pattern) (runOf p s (nearOf front (entryAt t 0))) ≡ true = sym (d .gone-is) ∙ g in
+        let few : chunkRows t1 ≤ wide = omega (arith, ap (sum piecesOf) (d .entries-are), chunks-few) in
         let e : entryAt t2 0 ≡ withSides front (entryAt t 0) (d .near) (farOf front (entryAt t 0)) (entryAt t 0 .text) = ap entryOf (c .desk) ∙ d .row in
-        let nil-text : runOf p s (d .near) ≡ [] = ap (λ (x : List ℕ). runOf x s (d .near)) (sym (d .same g)) ∙ d .text ∙ all-nil-deque front pattern (runOf p s (nearOf front (entryAt t 0))) b in
+        let nil-text : runOf p s (d .near) ≡ [] = ap (λ (x : List ℕ). runOf x s (d .near)) (sym (d .same g)) ∙ d .text ∙ all-nil-deque front pattern (runOf p s (nearOf front (entryAt t 0))) f in
         let zero-n : d .near .1 ≡ 0 = sym (run-length p s (d .near .0) (d .near .1)) ∙ ap length nil-text in
         record {
           low = record {
             linked = c .linked;
-            desk = desk-low front t2 p2 (top + 1024) (byte + 16384) (d .near) _ e (λ j i. absurd (omega arith))
-                (run-still top byte p p2 (c .rows) (top + 1024) (byte + 16384) (omega arith) (omega arith) (farOf front (entryAt t 0)) (far-below front));
-            chunks = entries-still (top + 1024) (byte + length source) p2 p2 (rows-same (top + 1024) p2) (top + 1024) (byte + 16384) (omega arith) (omega (arith, h .short)) (c .low);
+            desk = desk-low front t2 p2 (top + wide) b (d .near) _ e (λ j i. absurd (omega arith)) (far-still p2 (c .rows) b (c .least));
+            chunks = entries-still (top + chunkRows t1) b p2 p2 (rows-same (top + chunkRows t1) p2) (top + wide) b (omega arith) (omega arith) (c .low);
           };
           desk =
               desk-with front t2 p2 s2 (d .near) _ [] (way front (trim-chunks (trim-chunk front pattern (m .source)) (way front (m .chunks)))) e
@@ -312,9 +345,14 @@ module _ (front : Bool) (pattern : ℕ) (source t p s : List ℕ) (top byte : �
               (c .chunks
               ∙ ap (λ (es : List Entry). way front (trim-chunks (trim-chunk front pattern source) (way front (map (chunkOf p s) es)))) (d .entries-are)
               ∙ ap₂ (λ (x : Text) (cs : List Chunk). way front (trim-chunks (trim-chunk front pattern x) (way front cs))) (sym source-is) (sym chunks-are))
-              ∙ sym (side-goes-on front pattern m (ap (all (blank pattern)) (near-desk front) ∙ b));
+              ∙ sym (side-goes-on front pattern m (ap (all (blank pattern)) (near-desk front) ∙ f));
+          least = c .least;
+          spent = omega (arith, plain-desk t p s, plain-desk t2 p2 s2, ap (sum plainOf) (d .entries-are), c .spent);
+          len = c .len ∙ d .len;
           pieces = c .rows .len;
           store = c .bytes .len;
+          apart = λ k.
+              chunks-apart front t t2 p p2 top byte (d .near) _ (h .low) (c .rows) (no-more-none p p2 top (d .near) (nearOf front (entryAt t 0)) zero-n) e k zero-n t1 (d .entries-are) (c .apart);
         }
       where
         none-text : (p' s' : List ℕ) (n : Place) → n .1 ≡ 0 → runOf p' s' n ≡ []

@@ -1,8 +1,8 @@
 use native.Mathlib.Omega.{arith}
-use Rattle.trim.specs.Call.{loaded-ready, loaded-wide, trim-ran}
+use Rattle.trim_call.specs.Call.{loaded-ready, loaded-rows, trim-ran}
 use borrow.Author.Needs.{needs}
-use Rattle.trim.proofs.trim_by.Statement.{statement}
-use Rattle.trim.proofs.trim_by.Tie as tie
+use Rattle.trim_call.proofs.trim_by.Statement.{statement}
+use Rattle.trim_call.proofs.trim_by.Tie as tie
 
 load-requires : tie.Need-load-requires
 load-requires c κs =
@@ -13,7 +13,7 @@ trim-sides-requires : tie.Need-trim-sides-requires
 trim-sides-requires c κs =
     let start = c .before .before .before .before .before .before .before .before .before .before .before .before .before .before .before .before .before .before .before .before .before .before .before in
     let load = c .before .before .before .before .before .before .before .before .before .load in
-    (loaded-ready (start .pre .0) (start .pre .1 .0) (start .pre .1 .1) (load .ensures), loaded-wide (start .pre .0) (start .pre .1 .0) (start .pre .1 .1) (load .ensures))
+    (loaded-ready (start .pre .0) (start .pre .1 .0) (start .pre .1 .1) (load .ensures), loaded-rows (start .pre .0) (start .pre .1 .0) (start .pre .1 .1) (load .ensures))
 
 finish-requires : tie.Need-finish-requires
 finish-requires c κs =
@@ -41,7 +41,7 @@ same-length-6 c = search needs
 returns : tie.Need-returns
 returns c =
     let start = c .before .before .before .before .before .before .before .before .before .before .before .before .before .before .before .before .before .before .before .before .before .before .before .before .before .before .before .before .before .before .before .before .before .before .before .before .before .before .before .before .before .before .before in
-    trim-ran (start .pre .0) (start .pre .1 .0) (c .before .before .before .before .before .before .before .before .before .before .before .before .before .before .before .before .before .before .before .before .before .before .before .before .before .before .before .before .before .load .ensures) (c .before .before .before .before .before .before .before .before .before .before .before .before .before .before .before .before .before .before .before .trim-sides .ensures) (c .before .before .before .before .before .before .finish .ensures)
+    trim-ran {both = start .args .both} {front = start .args .front} {pattern = start .args .pattern} (start .pre .0) (start .pre .1 .0) (c .before .before .before .before .before .before .before .before .before .before .before .before .before .before .before .before .before .before .before .before .before .before .before .before .before .before .before .before .before .load .ensures) (c .before .before .before .before .before .before .before .before .before .before .before .before .before .before .before .before .before .before .before .trim-sides .ensures) (c .before .before .before .before .before .before .finish .ensures)
 
 pub trim-by-spec : {M : Type 1} → statement M
 trim-by-spec =

@@ -1,10 +1,10 @@
 use mathlib.Core.Path.{_≡_, refl, sym, ap, _∙_}
 use native.Mathlib.Omega.{arith}
 use Rattle.trim_row.specs.Row.{placeOf}
-use Rattle.trim.specs.Side.{own-run, own-room, own-gone, own-left}
+use Rattle.trim_sides.specs.Side.{own-run, own-room, own-gone, own-left}
 use borrow.Author.Needs.{needs}
-use Rattle.trim.proofs.trim_own.Statement.{statement}
-use Rattle.trim.proofs.trim_own.Tie as tie
+use Rattle.trim_sides.proofs.trim_own.Statement.{statement}
+use Rattle.trim_sides.proofs.trim_own.Tie as tie
 
 get-row-requires : tie.Need-get-row-requires
 get-row-requires c κs = search needs

@@ -1,0 +1,4 @@
+pub mod Model
+pub mod Apart
+pub mod Side
+pub mod Both

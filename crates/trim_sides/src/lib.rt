@@ -1,0 +1,69 @@
+// trim.rs on lent tables: `trim_start`, `trim_end`, or one after the other. New rows stand from row top on and a new text from `byte` on, behind all that the desk uses.
+ghost use mathlib.Core.Bool.{Bool};
+ghost use Prim.Native.Nat.{_+_, _*_, _≤_};
+ghost use lib.ListN.{length};
+ghost use Rattle.trim_sides.specs.Side.{deskPieces, SideReady, SideTrimmed, OwnReady, OwnTrimmed};
+ghost use Rattle.trim_sides.specs.Both.{SidesTrimmed};
+use table::Piece;
+
+// The head or the tail, trimmed; whether nothing is left of it.
+fn trim_own(t: &mut [u32], p: &mut [u32], s: &[u8], top: u32, front: bool, pattern: u32) -> bool
+    requires { ⌜ OwnReady front (now p) (now s) top (now t) ⌝ }
+    ensures { λ b. ⌜ OwnTrimmed front pattern (now (p .entry)) (now (s .entry)) top (now (t .entry)) (now (p .exit)) (now (t .exit)) b ⌝ }
+{
+    let z = table::get_row(t, 0);
+    let q = trim_row::near(z, front);
+    if trim_run::is_blank(p, s, q.at, q.n, pattern) {
+        table::put_row(t, 0, trim_row::with_near(z, front, Piece { at: 0, n: 0 }));
+        return true;
+    }
+    let n = trim_run::trim_run(p, s, q.at, q.n, top, front, pattern);
+    table::put_row(t, 0, trim_row::with_near(z, front, n));
+    false
+}
+
+// One side: the head or the tail, and the chunks where nothing is left of it. Returns the byte behind what it wrote.
+fn trim_side(
+    source: &[u8],
+    t: &mut [u32],
+    p: &mut [u32],
+    s: &mut [u8],
+    top: u32,
+    byte: u32,
+    front: bool,
+    pattern: u32,
+) -> u32
+    requires { ⌜ SideReady (now source) (now t) (now p) (now s) top (deskPieces (now source) (now t) (now p) (now s)) byte ⌝ }
+    ensures { λ b. ⌜ SideTrimmed front pattern (now (source .entry)) (now (t .entry)) (now (p .entry)) (now (s .entry)) top
+        (deskPieces (now (source .entry)) (now (t .entry)) (now (p .entry)) (now (s .entry))) byte (now (t .exit)) (now (p .exit)) (now (s .exit)) b ⌝ }
+{
+    let gone = trim_own(t, p, s, top, front, pattern);
+    if !gone {
+        return byte;
+    }
+    trim_chunks::trim_chunks(source, t, p, s, top, byte, front, pattern)
+}
+
+// One side, and after it the end where both are trimmed: new rows and bytes stand behind those of the first. No piece list is longer than wide.
+pub fn trim_sides(
+    source: &[u8],
+    t: &mut [u32],
+    p: &mut [u32],
+    s: &mut [u8],
+    top: u32,
+    wide: u32,
+    byte: u32,
+    both: bool,
+    front: bool,
+    pattern: u32,
+)
+    requires { ⌜ SideReady (now source) (now t) (now p) (now s) top wide byte ⌝ }
+    requires { ⌜ (top + wide + wide) * 2 ≤ length (now p) ⌝ }
+    ensures { λ _. ⌜ SidesTrimmed both front pattern (now (source .entry)) (now (t .entry)) (now (p .entry)) (now (s .entry)) (now (t .exit)) (now (p .exit)) (now (s .exit)) ⌝ }
+{
+    let behind = trim_side(source, t, p, s, top, byte, front, pattern);
+    if !both {
+        return;
+    }
+    trim_side(source, t, p, s, top + wide, behind, false, pattern);
+}
