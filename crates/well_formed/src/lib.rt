@@ -58,9 +58,9 @@ fn pieced(chunks: &[u32], pieces: &[u32], store: &[u8]) -> bool
     ensures { λ r. ⌜ Decides r (Pieced (now (chunks .entry)) (now (pieces .entry)) (now (store .entry))) ⌝ }
 {
     let n = count(chunks);
-    if marks::pieces_within(chunks, n) {
-        if marks::runs_apart(chunks, n) {
-            return marks::texts_apart(chunks, n, pieces, store);
+    if runs_apart::pieces_within(chunks, n) {
+        if runs_apart::runs_apart(chunks, n) {
+            return texts_apart::texts_apart(chunks, n, pieces, store);
         }
     }
     false
