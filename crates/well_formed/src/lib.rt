@@ -42,10 +42,10 @@ fn chunked(source: &[u8], chunks: &[u32]) -> bool
     requires { ⌜ length (now source) ≤ 16384 ⌝ }
     ensures { λ r. ⌜ Decides r (Chunked (now (source .entry)) (now (chunks .entry))) ⌝ }
 {
-    if spans::linked(chunks) {
+    if links::linked(chunks) {
         let n = count(chunks);
         if spans::covered(chunks, n, source.len()) {
-            return spans::ends_between(source, chunks, n);
+            return edges::ends_between(source, chunks, n);
         }
     }
     false

@@ -3,10 +3,10 @@ use Prim.Native.Nat.{_-_, _≤_}
 use native.Mathlib.Omega.{arith}
 use Rattle.counts.specs.Sums.{is-yes, is-no}
 use borrow.Author.Count.{below-more}
 use Rattle.spans.specs.Spans.{Edges}
 use borrow.Author.Needs.{needs}
-use Rattle.spans.proofs.ends_between.Statement.{statement}
-use Rattle.spans.proofs.ends_between.Tie as tie
+use Rattle.edges.proofs.ends_between.Statement.{statement}
+use Rattle.edges.proofs.ends_between.Tie as tie
 
 abbrev Inv-loop : tie.InvT-loop
 Inv-loop source t n k₀ k = (k ≤ n) × Edges source t k

@@ -1,8 +1,8 @@
 use Rattle.counts.specs.Sums.{is-yes, is-no}
-use Rattle.spans.proofs.Spans.{stands, stands-not}
+use Rattle.edges.proofs.Stands.{stands, stands-not}
 use borrow.Author.Needs.{needs}
-use Rattle.spans.proofs.edged.Statement.{statement}
-use Rattle.spans.proofs.edged.Tie as tie
+use Rattle.edges.proofs.edged.Statement.{statement}
+use Rattle.edges.proofs.edged.Tie as tie
 
 start-requires : tie.Need-start-requires
 start-requires c κs = search needs

@@ -4,10 +4,10 @@ use Prim.Native.Nat.{_-_, _≤_}
 use native.Mathlib.Omega.{arith}
 use Rattle.table.specs.Order.{nextOf, prevOf}
 use Rattle.counts.specs.Sums.{is-yes, is-no}
-use Rattle.spans.proofs.Ring.{Walked, walked-none, walked-zero, walked-far, walked-back, walked-more, walked-open, walked-done, walked-not}
+use Rattle.links.proofs.Ring.{Walked, walked-none, walked-zero, walked-far, walked-back, walked-more, walked-open, walked-done, walked-not}
 use borrow.Author.Needs.{needs}
-use Rattle.spans.proofs.list_linked.Statement.{statement}
-use Rattle.spans.proofs.list_linked.Tie as tie
+use Rattle.links.proofs.list_linked.Statement.{statement}
+use Rattle.links.proofs.list_linked.Tie as tie
 
 abbrev Inv-loop : tie.InvT-loop
 Inv-loop t n a₀ k₀ a k = (k ≤ n) × Walked (nextOf t) (prevOf t) n k a

@@ -1,9 +1,9 @@
 use native.Mathlib.Omega.{arith}
 use Rattle.counts.specs.Sums.{is-no}
-use Rattle.spans.proofs.Ring.{linked-by}
+use Rattle.links.proofs.Ring.{linked-by}
 use borrow.Author.Needs.{needs}
-use Rattle.spans.proofs.linked.Statement.{statement}
-use Rattle.spans.proofs.linked.Tie as tie
+use Rattle.links.proofs.linked.Statement.{statement}
+use Rattle.links.proofs.linked.Tie as tie
 
 returns : tie.Need-returns
 returns c = is-no (λ l. omega (arith, l .room))
