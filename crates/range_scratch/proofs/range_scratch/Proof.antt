@@ -2,11 +2,11 @@ use mathlib.Core.Path.{sym}
 use native.Mathlib.Omega.{arith}
 use Rattle.frame.specs.Frame.{zeros-length, zeros-at}
 use borrow.Author.Needs.{needs}
-use Rattle.movement.proofs.range_scratch.Statement.{statement}
-use Rattle.movement.proofs.range_scratch.Tie as tie
-use Rattle.movement.proofs.range_scratch.Reads as reads
-use Rattle.movement.proofs.range_scratch.Lts as lts
-use Rattle.movement.proofs.range_by.Reads as range-by-reads
+use Rattle.range_scratch.proofs.range_scratch.Statement.{statement}
+use Rattle.range_scratch.proofs.range_scratch.Tie as tie
+use Rattle.range_scratch.proofs.range_scratch.Reads as reads
+use Rattle.range_scratch.proofs.range_scratch.Lts as lts
+use Rattle.range_scratch.proofs.range_by.Reads as range-by-reads
 
 array-borrow-prefix-t : tie.Need-array-borrow-prefix-t
 array-borrow-prefix-t c = search needs

@@ -1,14 +1,14 @@
 use native.Mathlib.Omega.{arith}
 use Rattle.frame.specs.Frame.{loaded-roomy}
-use Rattle.movement.specs.Range.{range-readable, range-ran}
+use Rattle.clear_range.specs.Range.{range-readable, range-ran}
 use borrow.Author.Needs.{needs}
-use Rattle.movement.proofs.range_by.Statement.{statement}
-use Rattle.movement.proofs.range_by.Tie as tie
-use Rattle.movement.proofs.range_by.Reads as reads
-use Rattle.movement.proofs.range_by.Lts as lts
+use Rattle.range_scratch.proofs.range_by.Statement.{statement}
+use Rattle.range_scratch.proofs.range_by.Tie as tie
+use Rattle.range_scratch.proofs.range_by.Reads as reads
+use Rattle.range_scratch.proofs.range_by.Lts as lts
 use Rattle.frame.proofs.finish.Reads as finish-reads
 use Rattle.frame.proofs.load.Reads as load-reads
-use Rattle.movement.proofs.clear_range.Reads as clear-range-reads
+use Rattle.clear_range.proofs.clear_range.Reads as clear-range-reads
 
 load-requires : tie.Need-load-requires
 load-requires c κs =

@@ -1,9 +1,9 @@
-use Rattle.movement.specs.Range.{range-refused, range-done}
+use Rattle.clear_range.specs.Range.{range-refused, range-done}
 use borrow.Author.Needs.{needs}
-use Rattle.movement.proofs.clear_range.Statement.{statement}
-use Rattle.movement.proofs.clear_range.Tie as tie
-use Rattle.movement.proofs.clear_range.Reads as reads
-use Rattle.movement.proofs.clear_range.Lts as lts
+use Rattle.clear_range.proofs.clear_range.Statement.{statement}
+use Rattle.clear_range.proofs.clear_range.Tie as tie
+use Rattle.clear_range.proofs.clear_range.Reads as reads
+use Rattle.clear_range.proofs.clear_range.Lts as lts
 use Rattle.rows.proofs.clear_rows.Reads as clear-rows-reads
 use Rattle.split.proofs.split_both.Reads as split-both-reads
 

@@ -1,32 +1,25 @@
 -- `remove` and `reset` past their tests: two cuts, then every chunk of the range is cleared.
 use mathlib.Core.Path.{_≡_, refl, sym, ap, ap₂, _∙_, subst}
-use mathlib.Core.Bool.{Bool, true, false, _&&_, cond}
-use mathlib.Core.List.{List, [], _∷_, _++_, map}
-use mathlib.Core.Option.{Option, none, some}
+use mathlib.Core.Bool.{true, false, _&&_, cond}
+use mathlib.Core.List.{List, [], _∷_, map}
+use mathlib.Core.Option.{none, some}
 use mathlib.Core.Logic.{_⊎_, inl, inr, ⊎-elim}
 use Prim.Native.Nat.{ℕ, zero, suc, _+_, _≤_, _<_}
 use native.Mathlib.Omega.{arith}
 use lib.Dec.{ltb, leb, eqb}
 use lib.ListN.{length}
-use borrow.Author.Tests.{ne-eqb, eq-eqb, le-ltb, lt-ltb}
 use Rattle.utf8.specs.Chars.{All, nil, cons}
-use Rattle.table.specs.Ring.{Each}
-use Rattle.table.specs.Table.{rowAt}
-use Rattle.table.specs.Order.{Entry, entryAt, entries, countOf}
-use Rattle.model.specs.Text.{Text}
-use Rattle.model.specs.Chunk.{Chunk, Texts, bare, start-of, edit, reset-texts}
+use Rattle.table.specs.Order.{Entry, entries, countOf}
+use Rattle.model.specs.Chunk.{Chunk, Texts, bare}
 use Rattle.model.specs.MagicString.{MagicString, Result, ok, err, and-then, with-chunks}
 use Rattle.model.specs.Movement.{change-by-position, change-range}
 use Rattle.model.specs.Call.{Edit, steps, refused-before}
 use Rattle.memory.specs.Layout.{NONE, replacementOf, chunkOf, magicStringOf}
-use Rattle.memory.specs.WellFormed.{RunIn, ReplacementIn, EntryIn, Readable, WellFormed}
+use Rattle.memory.specs.WellFormed.{ReplacementIn, EntryIn, Readable, WellFormed}
 use Rattle.memory.specs.Calls.{idle, may-write, Ran}
 use Rattle.closed_forms.specs.Lists.{first-of}
 use Rattle.closed_forms.specs.Lists as lists
-use Rattle.closed_forms.specs.Plan.{inside, cut-all}
 use Rattle.closed_forms.specs.Cuts.{Contains, cut-all-aligned}
-use Rattle.closed_forms.specs.Spans.{Cover}
-use Rattle.closed_forms.specs.SplitAt.{cuts-then}
 use Rattle.closed_forms.specs.ByPosition.{in-range, by-position}
 use Rattle.rows.specs.Insert.{runsOf, startF}
 use Rattle.rows.specs.Clear.{clearIn, ClearDone}
@@ -38,7 +31,7 @@ use Rattle.frame.specs.Loaded.{Loaded}
 use Rattle.frame.specs.Frame.{Scratch, Did, did-loaded, loaded-readable, ran-finished, may-write-0, may-write-6}
 use Rattle.in_place.specs.InPlace.{ran-rows}
 use Rattle.split.specs.Lift.{Reordered, still-readable, with-entries, chunks-of, no-run, no-run-in}
-use Rattle.split.specs.Cuts.{Spans, CutsLeave, CutsDone, cuts-spans, formed-spans, loaded-spans}
+use Rattle.split.specs.Cuts.{Spans, CutsDone, cuts-spans, formed-spans, loaded-spans}
 
 -- what the chunks of the range get: an empty replacement, at the place v, or none
 abbrev pub cleared-to : ℕ → Texts → Texts
