@@ -59,7 +59,7 @@ pub extern "C" fn magic_string_last_line<'a>(
     ensures { λ r. ⌜ Reported (LastLine (length (now (out .entry)))) (now (source .entry)) (now (chunks .entry)) (now (pieces .entry)) (now (store .entry)) (now (out .entry)) (now (out .exit)) (r .number) (r .value) ⌝ }
 {
     if well_formed::well_formed(source, chunks, pieces, store) {
-        return last::last_line(source, chunks, pieces, store, out);
+        return last_line::last_line(source, chunks, pieces, store, out);
     }
     Answer {
         number: 2,
@@ -213,7 +213,7 @@ pub extern "C" fn magic_string_last_char<'a>(
     ensures { λ r. ⌜ Reported (LastChar) (now (source .entry)) (now (chunks .entry)) (now (pieces .entry)) (now (store .entry)) [] [] (r .number) (r .value) ⌝ }
 {
     if well_formed::well_formed(source, chunks, pieces, store) {
-        return last::last_char(source, chunks, pieces, store);
+        return last_char::last_char(source, chunks, pieces, store);
     }
     Answer {
         number: 2,
