@@ -151,5 +151,5 @@ pub fn lay_indentor(p: &mut [u32], s: &mut [u8], indentor: &[u8])
     if indentor.len() > 32768 {
         return;
     }
-    texts::push_piece(p, s, indentor, 32768, 2048);
+    carry::push_piece(p, s, indentor, 32768, 2048);
 }

@@ -31,7 +31,7 @@ pub fn write_output<'a>(
     let mut o: usize = 0;
     while section < stop {
         let r = fragments::section_row(chunks, section, row);
-        o = texts::write_chunk(source, pieces, store, out, r, o);
+        o = write_chunk::write_chunk(source, pieces, store, out, r, o);
         row = r.next;
         section += 1;
     }

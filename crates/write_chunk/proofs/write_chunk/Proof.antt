@@ -7,10 +7,10 @@ use native.Mathlib.Omega.{arith}
 use lib.ListN.{length-take, length-drop, length-append, length, take, drop}
 use Rattle.utf8.specs.Chars.{concat}
 use Rattle.memory.specs.Layout.{runOf}
 use Rattle.texts.specs.Texts.{contentAt, chunk-text}
 use borrow.Author.Needs.{needs}
-use Rattle.texts.proofs.write_chunk.Statement.{statement}
-use Rattle.texts.proofs.write_chunk.Tie as tie
+use Rattle.write_chunk.proofs.write_chunk.Statement.{statement}
+use Rattle.write_chunk.proofs.write_chunk.Tie as tie
 
 abbrev intro : tie.Start → List ℕ
 intro s = concat (runOf (s .args .pieces .now) (s .args .store .now) (s .args .row .«intro_at», s .args .row .«intro_n»))

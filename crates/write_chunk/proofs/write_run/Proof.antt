@@ -1,15 +1,15 @@
--- `texts::write_run` meets its contract. Assumes nothing.
+-- `write_chunk::write_run` meets its contract. Assumes nothing.
 use Rattle.texts.specs.Over.{put-back}
 use mathlib.Core.Path.{ap}
 use Prim.Native.Nat.{_+_, _-_, _≤_}
 use native.Mathlib.Omega.{arith}
 use lib.ListN.{length-take, length-drop, length}
 use Rattle.memory.specs.WellFormed.{PieceIn}
 use Rattle.texts.specs.Texts.{run-piece}
-use Rattle.texts.proofs.Laws.{texts, Turn, turn-none, turn-more, fits, turn-room, turn-done}
+use Rattle.texts.specs.Laws.{texts, Turn, turn-none, turn-more, fits, turn-room, turn-done}
 use borrow.Author.Needs.{needs}
-use Rattle.texts.proofs.write_run.Statement.{statement}
-use Rattle.texts.proofs.write_run.Tie as tie
+use Rattle.write_chunk.proofs.write_run.Statement.{statement}
+use Rattle.write_chunk.proofs.write_run.Tie as tie
 
 abbrev Inv-loop : tie.InvT-loop
 Inv-loop pieces store out₀ at n place first count i₀ o₀ out i o = (i ≤ count) × Turn out₀ place (texts pieces store first) i out o

@@ -1,13 +1,13 @@
--- `texts::push_piece` meets its contract. Assumes nothing.
+-- `carry::push_piece` meets its contract. Assumes nothing.
 use Rattle.texts.specs.Over.{put-back}
-use Rattle.texts.proofs.Laws.{two-sets}
+use Rattle.texts.specs.Laws.{two-sets}
 use lib.ListN.{length-set}
 use mathlib.Core.Path.{refl}
 use Prim.Native.Nat.{_-_}
 use native.Mathlib.Omega.{arith}
 use borrow.Author.Needs.{needs}
-use Rattle.texts.proofs.push_piece.Statement.{statement}
-use Rattle.texts.proofs.push_piece.Tie as tie
+use Rattle.carry.proofs.push_piece.Statement.{statement}
+use Rattle.carry.proofs.push_piece.Tie as tie
 
 sub-put : tie.Need-sub-put
 sub-put c = search needs

@@ -6,10 +6,10 @@ use native.Mathlib.Omega.{arith}
 use mathlib.Core.Bool.{true, false}
 use Rattle.model.specs.Text.{Text}
 use Rattle.memory.specs.Layout.{runOf}
 use Rattle.texts.specs.Carry.{RoomOf, carried-one, carried-room, carried-more, room-front, room-one}
 use borrow.Author.Needs.{needs}
-use Rattle.texts.proofs.carry_with.Statement.{statement}
-use Rattle.texts.proofs.carry_with.Tie as tie
+use Rattle.carry_with.proofs.carry_with.Statement.{statement}
+use Rattle.carry_with.proofs.carry_with.Tie as tie
 
 abbrev texts : tie.Start → List Text
 texts s = runOf (s .args .pieces .now) (s .args .store .now) (s .args .at, s .args .n)

@@ -1,16 +1,16 @@
--- `texts::copy_run` meets its contract. Assumes nothing.
+-- `carry::copy_run` meets its contract. Assumes nothing.
 use mathlib.Core.Path.{_≡_}
 use Prim.Native.Nat.{_+_, _*_, _-_, _≤_}
 use native.Mathlib.Omega.{arith}
 use lib.ListN.{length}
 use Rattle.memory.specs.WellFormed.{PieceIn}
 use Rattle.memory.specs.Layout.{tabulate}
 use Rattle.texts.specs.Texts.{run-piece, run-tabulate, run-length}
 use Rattle.texts.specs.Carry.{RoomOf}
-use Rattle.texts.proofs.Laws.{texts, Carrying, carrying-none, carrying-room, carrying-more}
+use Rattle.texts.specs.Laws.{texts, Carrying, carrying-none, carrying-room, carrying-more}
 use borrow.Author.Needs.{needs}
-use Rattle.texts.proofs.copy_run.Statement.{statement}
-use Rattle.texts.proofs.copy_run.Tie as tie
+use Rattle.carry.proofs.copy_run.Statement.{statement}
+use Rattle.carry.proofs.copy_run.Tie as tie
 
 abbrev Inv-loop : tie.InvT-loop
 Inv-loop pieces store new-pieces₀ new-store₀ at n first count i₀ byte₀ row new-pieces new-store i byte = (i ≤ count) × Carrying (texts pieces store first) new-pieces₀ new-store₀ byte₀ row i new-pieces new-store byte
