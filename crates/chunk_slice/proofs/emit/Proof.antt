@@ -1,11 +1,11 @@
--- `slice::emit` meets its contract. Assumes nothing.
+-- `chunk_slice::emit` meets its contract. Assumes nothing.
 use mathlib.Core.Path.{refl}
 use native.Mathlib.Omega.{arith}
 use lib.ListN.{length-take, length-drop}
 use Rattle.texts.specs.Over.{put-back}
 use borrow.Author.Needs.{needs}
-use Rattle.slice.proofs.emit.Statement.{statement}
-use Rattle.slice.proofs.emit.Tie as tie
+use Rattle.chunk_slice.proofs.emit.Statement.{statement}
+use Rattle.chunk_slice.proofs.emit.Tie as tie
 
 add-end : tie.Need-add-end
 add-end c = search needs

@@ -1,8 +1,8 @@
--- `slice::shown_outro` meets its contract. Assumes nothing.
+-- `chunk_slice::shown_outro` meets its contract. Assumes nothing.
 use mathlib.Core.Path.{refl, sym, _∙_}
 use borrow.Author.Needs.{needs}
-use Rattle.slice.proofs.shown_outro.Statement.{statement}
-use Rattle.slice.proofs.shown_outro.Tie as tie
+use Rattle.chunk_slice.proofs.shown_outro.Statement.{statement}
+use Rattle.chunk_slice.proofs.shown_outro.Tie as tie
 
 contains-end-requires : tie.Need-contains-end-requires
 contains-end-requires c κs = search needs

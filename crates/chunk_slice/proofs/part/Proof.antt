@@ -1,11 +1,11 @@
--- `slice::part` meets its contract. Assumes nothing.
+-- `chunk_slice::part` meets its contract. Assumes nothing.
 use mathlib.Core.Path.{_≡_, sym, ap}
 use native.Mathlib.Omega.{arith}
 use Prim.Native.Nat.{_-_}
 use lib.ListN.{take, drop}
 use borrow.Author.Needs.{needs}
-use Rattle.slice.proofs.part.Statement.{statement}
-use Rattle.slice.proofs.part.Tie as tie
+use Rattle.chunk_slice.proofs.part.Statement.{statement}
+use Rattle.chunk_slice.proofs.part.Tie as tie
 
 sub-result : tie.Need-sub-result
 sub-result c = search needs

@@ -1,7 +1,7 @@
--- `slice::contains_end` meets its contract. Assumes nothing.
+-- `chunk_slice::contains_end` meets its contract. Assumes nothing.
 use borrow.Author.Tests.{lt-ltb, le-ltb}
-use Rattle.slice.proofs.contains_end.Statement.{statement}
-use Rattle.slice.proofs.contains_end.Tie as tie
+use Rattle.chunk_slice.proofs.contains_end.Statement.{statement}
+use Rattle.chunk_slice.proofs.contains_end.Tie as tie
 
 returns : tie.Need-returns
 returns c = rw (lt-ltb _ _ (c .if1 .taken))

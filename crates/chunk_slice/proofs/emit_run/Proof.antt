@@ -1,10 +1,10 @@
--- `slice::emit_run` meets its contract. Assumes nothing.
+-- `chunk_slice::emit_run` meets its contract. Assumes nothing.
 use Prim.Native.Nat.{_-_, _≤_}
 use native.Mathlib.Omega.{arith}
 use Rattle.texts.specs.Texts.{run-piece}
-use Rattle.slice.proofs.Laws.{texts, Turn, turn-none, turn-room, turn-more, turn-done}
-use Rattle.slice.proofs.emit_run.Statement.{statement}
-use Rattle.slice.proofs.emit_run.Tie as tie
+use Rattle.chunk_slice.proofs.Laws.{texts, Turn, turn-none, turn-room, turn-more, turn-done}
+use Rattle.chunk_slice.proofs.emit_run.Statement.{statement}
+use Rattle.chunk_slice.proofs.emit_run.Tie as tie
 
 abbrev Inv-loop : tie.InvT-loop
 Inv-loop pieces store out₀ at n place write first count i₀ o₀ out i o = (i ≤ count) × Turn write out₀ place (texts pieces store first) i out o

@@ -1,16 +1,16 @@
 -- Laws of the loops of a slice. Assumes nothing.
-use mathlib.Core.Path.{_≡_, refl, ap, sym, _∙_, subst}
-use mathlib.Core.Bool.{Bool, true, false, _&&_, _||_, not, cond}
-use mathlib.Core.List.{List, [], _∷_, _++_}
-use Prim.Native.Nat.{ℕ, zero, suc, _+_, _*_, _-_, _≤_, _<_}
+use mathlib.Core.Path.{_≡_, refl, _∙_, subst}
+use mathlib.Core.Bool.{Bool}
+use mathlib.Core.List.{List, _++_}
+use Prim.Native.Nat.{ℕ, _+_, _-_, _≤_, _<_}
 use native.Mathlib.Omega.{arith}
 use native.Mathlib.Numerals.{add-one}
-use lib.ListN.{length, getD, take, drop, length-append}
+use lib.ListN.{length, length-append}
 use Rattle.utf8.specs.Chars.{concat}
 use Rattle.model.specs.Text.{Text}
 use Rattle.memory.specs.Layout.{bytesAt, pieceAt, tabulate, runOf}
 use Rattle.texts.specs.Texts.{concat-nil, concat-snoc, concat-room, run-tabulate}
-use Rattle.slice.specs.Emit.{Emitted, Room, emitted-none, emitted-same, emitted-then, emitted-room, room-le}
+use Rattle.chunk_slice.specs.Emit.{Emitted, Room, emitted-none, emitted-then, emitted-room, room-le}
 
 -- the texts of a run, by number
 abbrev pub texts : List ℕ → List ℕ → ℕ → ℕ → Text

@@ -1,4 +1,4 @@
--- `slice::slice_content` meets its contract. Assumes nothing.
+-- `chunk_slice::slice_content` meets its contract. Assumes nothing.
 use mathlib.Core.Path.{refl, sym, ap, _∙_}
 use Prim.Native.Nat.{ℕ, _-_}
 use native.Mathlib.Omega.{arith}
@@ -6,8 +6,8 @@ use lib.ListN.{length}
 use Rattle.model.specs.Text.{Text}
 use Rattle.model.specs.Slice.{part}
 use borrow.Author.Needs.{needs}
-use Rattle.slice.proofs.slice_content.Statement.{statement}
-use Rattle.slice.proofs.slice_content.Tie as tie
+use Rattle.chunk_slice.proofs.slice_content.Statement.{statement}
+use Rattle.chunk_slice.proofs.slice_content.Tie as tie
 
 content-requires : tie.Need-content-requires
 content-requires c κs = let s = c .before .before in record { ordered = s .pre .0 .ordered; inside = s .pre .0 .inside; replacement = s .pre .1 }

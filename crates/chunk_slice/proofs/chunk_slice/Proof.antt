@@ -1,4 +1,4 @@
--- `slice::chunk_slice` meets its contract. Assumes nothing.
+-- `chunk_slice::chunk_slice` meets its contract. Assumes nothing.
 use mathlib.Core.Path.{sym, subst}
 use mathlib.Core.List.{_++_}
 use Prim.Native.Nat.{ℕ}
@@ -8,11 +8,11 @@ use Rattle.table.specs.Order.{entryOf}
 use Rattle.model.specs.Text.{Text}
 use Rattle.memory.specs.Layout.{runOf}
 use Rattle.memory.specs.WellFormed.{RunIn}
-use Rattle.slice.specs.Emit.{Emitted, Room, room-front, emitted-room, emitted-then}
-use Rattle.slice.specs.Walk.{frontText, outroText, showsOutro, run-shown-in, chunk-slice-is}
+use Rattle.chunk_slice.specs.Emit.{Emitted, Room, room-front, emitted-room, emitted-then}
+use Rattle.chunk_slice.specs.Given.{frontText, outroText, showsOutro, run-shown-in, chunk-slice-is}
 use borrow.Author.Needs.{needs}
-use Rattle.slice.proofs.chunk_slice.Statement.{statement}
-use Rattle.slice.proofs.chunk_slice.Tie as tie
+use Rattle.chunk_slice.proofs.chunk_slice.Statement.{statement}
+use Rattle.chunk_slice.proofs.chunk_slice.Tie as tie
 
 abbrev run : tie.Start → ℕ → Text
 run s n = concat (runOf (s .args .pieces .now) (s .args .store .now) (s .args .row .«outro_at», n))

@@ -1,4 +1,4 @@
--- `slice::chunk_front` meets its contract. Assumes nothing.
+-- `chunk_slice::chunk_front` meets its contract. Assumes nothing.
 use mathlib.Core.Path.{sym, subst}
 use mathlib.Core.Bool.{cond}
 use Prim.Native.Nat.{ℕ}
@@ -8,11 +8,11 @@ use Rattle.table.specs.Order.{entryOf}
 use Rattle.model.specs.Text.{Text}
 use Rattle.memory.specs.Layout.{runOf}
 use Rattle.memory.specs.WellFormed.{RunIn}
-use Rattle.slice.specs.Emit.{Emitted, Room, room-front, emitted-room, emitted-then}
-use Rattle.slice.specs.Walk.{sliceContent, run-shown-in}
+use Rattle.chunk_slice.specs.Emit.{Emitted, Room, room-front, emitted-room, emitted-then}
+use Rattle.chunk_slice.specs.Given.{sliceContent, run-shown-in}
 use borrow.Author.Needs.{needs}
-use Rattle.slice.proofs.chunk_front.Statement.{statement}
-use Rattle.slice.proofs.chunk_front.Tie as tie
+use Rattle.chunk_slice.proofs.chunk_front.Statement.{statement}
+use Rattle.chunk_slice.proofs.chunk_front.Tie as tie
 
 abbrev run : tie.Start → ℕ → Text
 run s n = concat (runOf (s .args .pieces .now) (s .args .store .now) (s .args .row .«intro_at», n))
