@@ -67,7 +67,7 @@ pub fn cut_lines(
     let mut at = from;
     let mut m = mark;
     while at < end {
-        let q = indent_text::next_start(source, at, end, exclude, m);
+        let q = next_start::next_start(source, at, end, exclude, m);
         let x = q.at;
         if x == end {
             return Cut {

@@ -45,7 +45,7 @@ fn write_indented(
     let from = at as usize;
     let to = from + n as usize;
     let text = &store[from..to];
-    let f = indent_text::indent_into(text, indentor, s, byte as usize, mark);
+    let f = indent_into::indent_into(text, indentor, s, byte as usize, mark);
     if !f.fits {
         return Written {
             fits: false,

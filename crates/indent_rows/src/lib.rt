@@ -34,7 +34,7 @@ fn indent_row(
             byte,
         };
     }
-    if indent_text::is_excluded(exclude, r.start) {
+    if next_start::is_excluded(exclude, r.start) {
         return Walked {
             number: 0,
             mark,

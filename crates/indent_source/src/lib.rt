@@ -96,7 +96,7 @@ pub fn indent_source(
         (now (t .exit)) (now (p .exit)) (r .number) (r .mark) (r .top) ⌝ }
 {
     let r = table::get_row(t, i);
-    let q = indent_text::next_start(source, r.start, r.end, exclude, mark);
+    let q = next_start::next_start(source, r.start, r.end, exclude, mark);
     let x = q.at;
     if x == r.end {
         return Parted {

@@ -1,7 +1,7 @@
--- `indent_text::follows_on` meets its contract. Assumes nothing.
+-- `next_start::follows_on` meets its contract. Assumes nothing.
 use borrow.Author.Tests.{le-leb, lt-leb}
-use Rattle.indent_text.proofs.follows_on.Statement.{statement}
-use Rattle.indent_text.proofs.follows_on.Tie as tie
+use Rattle.next_start.proofs.follows_on.Statement.{statement}
+use Rattle.next_start.proofs.follows_on.Tie as tie
 
 returns : tie.Need-returns
 returns c = rw (lt-leb 0x80 _ (c .if1 .taken))

@@ -1,12 +1,12 @@
--- `indent_text::mark_past_byte` meets its contract. Assumes nothing.
+-- `next_start::mark_past_byte` meets its contract. Assumes nothing.
 use borrow.Author.Tests.{eq-eqb, ne-eqb}
 use lib.Dec.{eqb}
 use Rattle.model.specs.Text.{LF}
 use Rattle.model.specs.Indent.{excluded}
-use Rattle.indent_text.proofs.Laws.{feed-past, other-past}
+use Rattle.next_start.proofs.Laws.{feed-past, other-past}
 use borrow.Author.Needs.{needs}
-use Rattle.indent_text.proofs.mark_past_byte.Statement.{statement}
-use Rattle.indent_text.proofs.mark_past_byte.Tie as tie
+use Rattle.next_start.proofs.mark_past_byte.Statement.{statement}
+use Rattle.next_start.proofs.mark_past_byte.Tie as tie
 
 returns : tie.Need-returns
 returns c = search needs

@@ -1,7 +1,7 @@
--- `indent_text::is_within` meets its contract. Assumes nothing.
+-- `next_start::is_within` meets its contract. Assumes nothing.
 use borrow.Author.Tests.{le-leb, lt-leb}
-use Rattle.indent_text.proofs.is_within.Statement.{statement}
-use Rattle.indent_text.proofs.is_within.Tie as tie
+use Rattle.next_start.proofs.is_within.Statement.{statement}
+use Rattle.next_start.proofs.is_within.Tie as tie
 
 returns : tie.Need-returns
 returns c = rw (lt-leb _ _ (c .if1 .taken))

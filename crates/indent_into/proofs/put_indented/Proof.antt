@@ -1,11 +1,11 @@
--- `indent_text::put_indented` meets its contract. Assumes nothing.
+-- `indent_into::put_indented` meets its contract. Assumes nothing.
 use mathlib.Core.List.{[], _∷_}
 use borrow.Author.Tests.{not-true, not-false}
 use Rattle.indent_text.specs.Fills.{fill-then, fill-front, fill-end}
-use Rattle.indent_text.proofs.Laws.{plain-byte, taking-byte}
+use Rattle.indent_into.proofs.Laws.{plain-byte, taking-byte}
 use borrow.Author.Needs.{needs}
-use Rattle.indent_text.proofs.put_indented.Statement.{statement}
-use Rattle.indent_text.proofs.put_indented.Tie as tie
+use Rattle.indent_into.proofs.put_indented.Statement.{statement}
+use Rattle.indent_into.proofs.put_indented.Tie as tie
 
 takes-mark-requires : tie.Need-takes-mark-requires
 takes-mark-requires c κs = search needs

@@ -1,13 +1,13 @@
--- `indent_text::put_text` meets its contract. Assumes nothing.
+-- `indent_into::put_text` meets its contract. Assumes nothing.
 use mathlib.Core.Path.{refl}
 use Prim.Native.Nat.{_+_, _≤_}
 use native.Mathlib.Omega.{arith}
 use lib.ListN.{length, length-take, length-drop}
 use Rattle.texts.specs.Over.{put-back}
 use Rattle.indent_text.specs.Fills.{fill-done, fill-short}
 use borrow.Author.Needs.{needs}
-use Rattle.indent_text.proofs.put_text.Statement.{statement}
-use Rattle.indent_text.proofs.put_text.Tie as tie
+use Rattle.indent_into.proofs.put_text.Statement.{statement}
+use Rattle.indent_into.proofs.put_text.Tie as tie
 
 sub-if1 : tie.Need-sub-if1
 sub-if1 c = search needs

@@ -1,12 +1,12 @@
--- `indent_text::begins` meets its contract. Assumes nothing.
+-- `next_start::begins` meets its contract. Assumes nothing.
 use borrow.Author.Tests.{not-true, not-false}
 use Rattle.utf8.specs.Rfc3629.{follows}
 use Rattle.model.specs.Indent.{excluded}
 use Rattle.indent_text.specs.Bytes.{takes}
-use Rattle.indent_text.proofs.Laws.{no-mark, following, leading}
+use Rattle.next_start.proofs.Laws.{no-mark, following, leading}
 use borrow.Author.Needs.{needs}
-use Rattle.indent_text.proofs.begins.Statement.{statement}
-use Rattle.indent_text.proofs.begins.Tie as tie
+use Rattle.next_start.proofs.begins.Statement.{statement}
+use Rattle.next_start.proofs.begins.Tie as tie
 
 takes-mark-requires : tie.Need-takes-mark-requires
 takes-mark-requires c κs = search needs

@@ -1,13 +1,13 @@
--- `indent_text::indent_into` meets its contract. Assumes nothing.
+-- `indent_into::indent_into` meets its contract. Assumes nothing.
 use mathlib.Core.Path.{_∙_}
 use Prim.Native.Nat.{_-_}
 use native.Mathlib.Omega.{arith}
 use lib.ListN.{length}
 use borrow.Author.Tests.{not-true, not-false}
-use Rattle.indent_text.proofs.Laws.{Putting, putting-none, putting-room, putting-same, putting-more, putting-short, putting-all}
+use Rattle.indent_into.proofs.Laws.{Putting, putting-none, putting-room, putting-same, putting-more, putting-short, putting-all}
 use borrow.Author.Needs.{needs}
-use Rattle.indent_text.proofs.indent_into.Statement.{statement}
-use Rattle.indent_text.proofs.indent_into.Tie as tie
+use Rattle.indent_into.proofs.indent_into.Statement.{statement}
+use Rattle.indent_into.proofs.indent_into.Tie as tie
 
 abbrev Inv-loop : tie.InvT-loop
 Inv-loop text indentor out₀ place mark end₀ m₀ i₀ out end m i = Putting out₀ place indentor mark text i out end m

@@ -1,10 +1,10 @@
--- `indent_text::next_start` meets its contract. Assumes nothing.
+-- `next_start::next_start` meets its contract. Assumes nothing.
 use Prim.Native.Nat.{_-_}
 use native.Mathlib.Omega.{arith}
-use Rattle.indent_text.proofs.Laws.{Seeking, seek-none, seek-met, seek-more, seek-all}
+use Rattle.next_start.proofs.Laws.{Seeking, seek-none, seek-met, seek-more, seek-all}
 use borrow.Author.Needs.{needs}
-use Rattle.indent_text.proofs.next_start.Statement.{statement}
-use Rattle.indent_text.proofs.next_start.Tie as tie
+use Rattle.next_start.proofs.next_start.Statement.{statement}
+use Rattle.next_start.proofs.next_start.Tie as tie
 
 abbrev Inv-loop : tie.InvT-loop
 Inv-loop text at end exclude mark i₀ m₀ i m = Seeking text exclude mark at end m i

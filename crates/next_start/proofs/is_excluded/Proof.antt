@@ -1,12 +1,12 @@
--- `indent_text::is_excluded` meets its contract. Assumes nothing.
+-- `next_start::is_excluded` meets its contract. Assumes nothing.
 use mathlib.Core.Path.{refl}
 use Prim.Native.Nat.{_-_}
 use native.Mathlib.Omega.{arith}
 use lib.ListN.{length}
-use Rattle.indent_text.proofs.Laws.{Unheld, unheld-met, unheld-more, unheld-all}
+use Rattle.next_start.proofs.Laws.{Unheld, unheld-met, unheld-more, unheld-all}
 use borrow.Author.Needs.{needs}
-use Rattle.indent_text.proofs.is_excluded.Statement.{statement}
-use Rattle.indent_text.proofs.is_excluded.Tie as tie
+use Rattle.next_start.proofs.is_excluded.Statement.{statement}
+use Rattle.next_start.proofs.is_excluded.Tie as tie
 
 abbrev Inv-loop : tie.InvT-loop
 Inv-loop exclude i n k₀ k = Unheld exclude i k

@@ -1,9 +1,9 @@
--- `indent_text::put_byte` meets its contract. Assumes nothing.
+-- `indent_into::put_byte` meets its contract. Assumes nothing.
 use native.Mathlib.Omega.{arith}
 use Rattle.indent_text.specs.Fills.{fill-byte, fill-short}
 use borrow.Author.Needs.{needs}
-use Rattle.indent_text.proofs.put_byte.Statement.{statement}
-use Rattle.indent_text.proofs.put_byte.Tie as tie
+use Rattle.indent_into.proofs.put_byte.Statement.{statement}
+use Rattle.indent_into.proofs.put_byte.Tie as tie
 
 returns : tie.Need-returns
 returns c = fill-short (omega (arith, c .if1 .taken))
