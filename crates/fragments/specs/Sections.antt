@@ -292,3 +292,14 @@ module _ (source t p s : List ℕ) where
         | inl x ↦ rw (x .0, x .1)
         | inr x ↦ rw (x .0, x .1, x .2) (rest-over g h)
       ])
+
+-- ---- the places where the walks begin
+pub on-first : (t : List ℕ) → On t 0 0 0
+on-first t = record { row-is = λ h. sym (row-first t); inside = omega arith; item-in = omega arith }
+
+pub on-chunks : (t : List ℕ) (row : ℕ) → Linked t → row ≡ nextOf t 0 → On t 1 row 0
+on-chunks t row l e = record {
+  row-is = λ h. e ∙ ap (nextOf t) (sym (row-first t)) ∙ row-edge t 0 l (omega arith) .fwd;
+  inside = omega arith;
+  item-in = omega arith;
+}

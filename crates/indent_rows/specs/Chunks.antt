@@ -27,8 +27,9 @@ use Rattle.closed_forms.specs.Lists.{sum-append}
 use Rattle.trim_run.specs.Low.{RowsKept, BytesKept, rows-same, bytes-same, TextLow, EntryLow, run-same, run-still, entry-same, entry-still, entries-same, entries-still}
 use Rattle.indent_closed.specs.Indent.{IndentedChunks, then-chunks, indented-chunks}
 use Rattle.indent_closed.specs.Growth.{chunks-grow}
-use Rattle.indent_rows.specs.Walk.{chunksOf, IndentorRow, WalkReady, closedOf, Past, WalkDone}
-use Rattle.indent_rows.specs.Splice.{SplicedAt, spliced-before, spliced-behind}
+use Rattle.indent_source.specs.Parts.{IndentorRow}
+use Rattle.indent_rows.specs.Walk.{chunksOf, WalkReady, closedOf, Past, WalkDone}
+use Rattle.indent_cuts.specs.Splice.{SplicedAt, spliced-before, spliced-behind}
 use Rattle.indent_rows.specs.Row.{RowReady, closedRow, RowIndented, RowDone}
 
 -- a row that the walk has not come to

@@ -7,35 +7,30 @@ use mathlib.Core.Logic.{_⊎_, inl, inr, ⊎-elim}
 use mathlib.Core.Option.{Option, none, some}
 use Prim.Native.Nat.{ℕ, _+_, _*_, _-_, _≤_, _<_}
 use native.Mathlib.Omega.{arith}
-use native.Mathlib.Decide.{ℕ-discrete}
 use lib.Dec.{leb}
 use lib.ListN.{length, take, drop}
 use lib.Seq.{take-all}
 use borrow.Author.Tests.{eq-eqb, ne-eqb, leb-true}
-use Rattle.utf8.specs.Rfc3629.{utf8}
 use Rattle.utf8.specs.Chars.{All, nil, cons}
-use Rattle.table.specs.declared.Row.{Row}
-use Rattle.table.specs.Table.{rowAt, Put}
-use Rattle.table.specs.Order.{Entry, entryOf, entryAt, countOf, Linked}
+use Rattle.table.specs.Order.{Entry, entryAt, countOf, Linked}
 use Rattle.model.specs.Text.{Text, sum}
 use Rattle.model.specs.Chunk.{Chunk, with-texts, span-text, content-or, content}
 use Rattle.model.specs.Limits.{chunk-pieces, chunk-bytes}
-use Rattle.model.specs.Indent.{Indented, indent-frag, excluded, Starts, then-start, set-edited}
+use Rattle.model.specs.Indent.{Indented, indent-frag, excluded, Starts, set-edited}
 use Rattle.model.specs.WellFormed.{Valid}
 use Rattle.memory.specs.Layout.{NONE, Place, bytesAt, replacementOf, chunkOf}
-use Rattle.texts.specs.Over.{over, length-over, take-over, over-part, part-kept}
+use Rattle.texts.specs.Over.{length-over, take-over, over-part, part-kept}
 use Rattle.texts.specs.Texts.{SpanIn, run-length}
 use Rattle.rows.specs.Insert.{Placed}
-use Rattle.rows.specs.Split.{RowSet}
 use Rattle.trim_run.specs.Low.{RowsKept, BytesKept, rows-same, bytes-same, TextLow, EntryLow, run-same, run-still}
 use Rattle.indent_closed.specs.Indent.{split-lines, IndentedChunks, indented-chunk, indented-lines, indented-excluded, indented-replaced}
 use Rattle.indent_closed.specs.Growth.{lines-indentor, replaced-bytes}
-use Rattle.indent_text.specs.Bytes.{mark-behind, part, NextStart, Filling}
-use Rattle.indent_text.specs.Laws.{indent-frag-is, line-starts-is}
-use Rattle.indent_rows.specs.Walk.{IndentorRow}
-use Rattle.indent_rows.specs.Splice.{withText, Rewritten, rewritten-set, Spliced, spliced-same, spliced-set}
-use Rattle.indent_rows.specs.Begin.{BeginReady, Begun}
-use Rattle.indent_rows.specs.Lines.{leb-less, linesFrom, parts, lines-parts, LinesReady, Parts, PartsDone, parts-none, own-lines-ready}
+use Rattle.indent_text.specs.Laws.{line-starts-is}
+use Rattle.indent_cuts.specs.Splice.{withText, Spliced, spliced-same, spliced-set}
+use Rattle.indent_cuts.specs.Lines.{leb-less, lines-parts}
+use Rattle.indent_source.specs.Parts.{IndentorRow}
+use Rattle.indent_source.specs.Source.{SourceReady, SourceDone, rowLines}
+use Rattle.indent_replacement.specs.Replacement.{ReplacementReady, Replaced, ReplacementDone}
 
 -- ---- what a row asks
 pub record RowReady (indentor source store t p s : List ℕ) (i top byte : ℕ) : Type 0 where
@@ -78,237 +73,6 @@ pub record RowDone (indentor exclude source t p s : List ℕ) (i : ℕ) (mark : 
   pub zero-or : (number ≡ 0) ⊎ (number ≡ 13)
   pub done : number ≡ 0 → RowIndented indentor exclude source t p s i mark top byte t' p' s' mark' top' byte'
   pub past : number ≡ 13 → (513 < countOf t + length (closedRow indentor exclude source t p s i mark .chunks)) ⊎ (length s < byte + sum chunk-bytes (closedRow indentor exclude source t p s i mark .chunks))
-
--- ---- a part of the source
-pub record SourceReady (source t p : List ℕ) (i top : ℕ) (usable : Bool) : Type 0 where
-  pub linked : Linked t
-  pub placed : Placed t i
-  pub span : SpanIn source (entryAt t i)
-  pub below : usable ≡ true → BeginReady t p i top
-  pub chunk-rows : 6156 ≤ length t
-  pub narrow-chunks : length t ≤ 4294967296
-
--- a line start at the row's own start, and one inside
-pub record OwnReady (source t p : List ℕ) (i start end top : ℕ) : Type 0 where
-  pub own : BeginReady t p i top
-  pub at-start : start ≡ entryAt t i .start
-  pub below : start < end
-  pub inside : end ≤ length source
-  pub chunk-rows : 6156 ≤ length t
-  pub narrow-chunks : length t ≤ 4294967296
-
-pub record InnerReady (source t : List ℕ) (i x end : ℕ) : Type 0 where
-  pub linked : Linked t
-  pub placed : Placed t i
-  pub after : entryAt t i .start < x
-  pub below : x < end
-  pub inside : end ≤ length source
-  pub chunk-rows : 6156 ≤ length t
-  pub narrow-chunks : length t ≤ 4294967296
-
--- what the cuts leave, whatever the piece table is: they do not touch it
-abbrev pub InnerDone : List ℕ → List ℕ → List ℕ → ℕ → ℕ → ℕ → List ℕ → ℕ → Bool → Type 0
-InnerDone exclude source t i x end t' number mark' =
-    (p : List ℕ) (top : ℕ) → PartsDone t p i top (then-start x (linesFrom exclude source false (x + 1) end)) t' p number mark' top
-
-pub own-cuts : {source t p t1 p' : List ℕ} {i start end top top' : ℕ} → OwnReady source t p i start end top → Begun t p i top t1 p' top' → LinesReady source t1 i (start + 1) end
-own-cuts {source} {t} {p} {t1} {p'} {i} {start} {end} h b =
-    let e = h .at-start in
-    subst (λ (y : ℕ). LinesReady source t1 i (y + 1) end) (sym e) (own-lines-ready b (h .own .placed) (omega (arith, e, h .below)) (h .inside) (h .chunk-rows) (h .narrow-chunks))
-
-pub inner-room : {source t : List ℕ} {i x end : ℕ} → InnerReady source t i x end → leb 512 (countOf t) ≡ false → ((countOf t + 1) * 12 + 12 ≤ length t) × (length t ≤ 4294967296)
-inner-room {t = t} h f = (omega (arith, leb-less 512 (countOf t) f, h .chunk-rows), h .narrow-chunks)
-
-abbrev pub rowLines : List ℕ → List ℕ → List ℕ → ℕ → Bool → Starts
-rowLines exclude source t i mark = linesFrom exclude source mark (entryAt t i .start) (entryAt t i .end)
-
--- an indentor that cannot be used stops at the first line start
-pub record SourceDone (exclude source t p : List ℕ) (i top : ℕ) (mark usable : Bool) (t' p' : List ℕ) (number : ℕ) (mark' : Bool) (top' : ℕ) : Type 0 where
-  pub zero-or : (number ≡ 0) ⊎ (number ≡ 13)
-  pub done : number ≡ 0 → Parts t p i top (rowLines exclude source t i mark .starts) t' p' top'
-  pub mark-is : number ≡ 0 → mark' ≡ rowLines exclude source t i mark .mark
-  pub used : number ≡ 0 → (usable ≡ false) → rowLines exclude source t i mark .starts ≡ []
-  pub past : number ≡ 13 → (513 < countOf t + parts (entryAt t i .start) (rowLines exclude source t i mark .starts)) ⊎ ((usable ≡ false) × (0 < length (rowLines exclude source t i mark .starts)))
-
--- ---- a replacement
-pub record ReplacementReady (store t s : List ℕ) (i byte : ℕ) : Type 0 where
-  pub linked : Linked t
-  pub placed : Placed t i
-  pub inside : entryAt t i .text .0 + entryAt t i .text .1 ≤ length store
-  pub valid : Valid (bytesAt store (entryAt t i .text))
-  pub byte-in : byte ≤ length s
-  pub narrow : length s < 4294967295
-
--- a replacement's text with the indentor put in, written at `byte`; or it does not fit
-pub record WrittenAt (indentor : List ℕ) (mark : Bool) (text s : List ℕ) (byte : ℕ) (s' : List ℕ) (fits mark' : Bool) (end : ℕ) : Type 0 where
-  pub store-is : fits ≡ true → s' ≡ over s byte (indent-frag indentor mark text .text)
-  pub end-is : fits ≡ true → end ≡ byte + length (indent-frag indentor mark text .text)
-  pub room : fits ≡ true → byte + length (indent-frag indentor mark text .text) ≤ length s
-  pub mark-is : fits ≡ true → mark' ≡ indent-frag indentor mark text .mark
-  pub short : fits ≡ false → length s < byte + length (indent-frag indentor mark text .text)
-
-pub record Replaced (indentor text t s : List ℕ) (i : ℕ) (mark : Bool) (byte : ℕ) (t' s' : List ℕ) (mark' : Bool) (byte' : ℕ) : Type 0 where
-  pub set : RowSet t t' i (withText (byte, length (indent-frag indentor mark text .text)) (entryAt t i))
-  pub len : length t' ≡ length t
-  pub store-is : s' ≡ over s byte (indent-frag indentor mark text .text)
-  pub end-is : byte' ≡ byte + length (indent-frag indentor mark text .text)
-  pub room : byte + length (indent-frag indentor mark text .text) ≤ length s
-  pub mark-is : mark' ≡ indent-frag indentor mark text .mark
-
-pub record ReplacementDone (indentor store t s : List ℕ) (i : ℕ) (mark : Bool) (byte : ℕ) (t' s' : List ℕ) (number : ℕ) (mark' : Bool) (byte' : ℕ) : Type 0 where
-  pub zero-or : (number ≡ 0) ⊎ (number ≡ 13)
-  pub done : number ≡ 0 → Replaced indentor (bytesAt store (entryAt t i .text)) t s i mark byte t' s' mark' byte'
-  pub past : number ≡ 13 → length s < byte + length (indent-frag indentor mark (bytesAt store (entryAt t i .text)) .text)
-
-no-tf : _≡_ {A = Bool} true false → ⊥
-no-tf z = let y : _≡_ {A = ℕ} 0 1 = cc in omega arith
-
--- ---- the search in a part of the source
-apart : (a b : ℕ) → (a ≡ b → ⊥) → a ≤ b → a < b
-apart a b f k = elim (ℕ-discrete a b) [ yes e ↦ absurd (f e) | no e ↦ omega arith ]
-
-startsF : Starts → List ℕ
-startsF r = r .starts
-
-pub row-span : {source t p : List ℕ} {i top : ℕ} {usable : Bool} → SourceReady source t p i top usable → (r : Row) → r ≡ rowAt t i → (r .start ≤ r .end) × (r .end ≤ length source)
-row-span h r er = (omega (arith, ap (λ (y : Row). y .start) er, ap (λ (y : Row). y .end) er, h .span .ordered), omega (arith, ap (λ (y : Row). y .end) er, h .span .inside))
-
-module _ {source t p : List ℕ} {i top : ℕ} {usable : Bool} (exclude : List ℕ) (mark : Bool) (h : SourceReady source t p i top usable)
-    (r : Row) (er : r ≡ rowAt t i) (x : ℕ) (m : Bool) (n : NextStart source exclude mark (r .start) (r .end) x m) where
-  lines-are : rowLines exclude source t i mark ≡ linesFrom exclude source mark (r .start) (r .end)
-  lines-are = ap (λ (y : Row). linesFrom exclude source mark (y .start) (y .end)) (sym er)
-
-  source-span : (r .start ≤ r .end) × (r .end ≤ length source)
-  source-span = row-span h r er
-
-  pub source-none : x ≡ r .end → SourceDone exclude source t p i top mark usable t p 0 m top
-  unfolding startsF
-  source-none e =
-      let w = lines-are ∙ n .none-left e in
-      record {
-        zero-or = inl refl;
-        done = λ _. subst (λ (l : List ℕ). Parts t p i top l t p top) (sym (ap startsF w)) (parts-none t p i top (h .linked));
-        mark-is = λ _. sym (ap (λ (y : Starts). y .mark) w);
-        used = λ _ _. ap startsF w;
-        past = λ z. absurd (omega arith);
-      }
-
-  module _ (ne : x ≡ r .end → ⊥) where
-    pub found-below : x < r .end
-    found-below = apart x (r .end) ne (n .up-to)
-
-    pub own-ready : usable ≡ true → x ≡ r .start → OwnReady source t p i x (r .end) top
-    own-ready u e =
-        record {
-          own = h .below u;
-          at-start = e ∙ ap (λ (y : Row). y .start) er;
-          below = found-below;
-          inside = source-span .1;
-          chunk-rows = h .chunk-rows;
-          narrow-chunks = h .narrow-chunks;
-        }
-
-    pub inner-ready : (x ≡ r .start → ⊥) → InnerReady source t i x (r .end)
-    inner-ready f =
-        record {
-          linked = h .linked;
-          placed = h .placed;
-          after = omega (arith, apart (r .start) x (λ e. f (sym e)) (n .from-on), ap (λ (y : Row). y .start) er);
-          below = found-below;
-          inside = source-span .1;
-          chunk-rows = h .chunk-rows;
-          narrow-chunks = h .narrow-chunks;
-        }
-
-    lines-then : rowLines exclude source t i mark ≡ then-start x (linesFrom exclude source false (x + 1) (r .end))
-    lines-then = lines-are ∙ n .found found-below
-
-    pub source-unusable : usable ≡ false → (t' p' : List ℕ) (mark' : Bool) (top' : ℕ) → SourceDone exclude source t p i top mark usable t' p' 13 mark' top'
-    unfolding startsF
-    source-unusable u t' p' mark' top' =
-        record {
-          zero-or = inr refl;
-          done = λ z. absurd (omega arith);
-          mark-is = λ z. absurd (omega arith);
-          used = λ z. absurd (omega arith);
-          past = λ _. inr (u, omega (arith, ap (λ (y : Starts). length (y .starts)) lines-then));
-        }
-
-    pub source-parts : usable ≡ true → (t' p' : List ℕ) (number : ℕ) (mark' : Bool) (top' : ℕ) → PartsDone t p i top (then-start x (linesFrom exclude source false (x + 1) (r .end))) t' p' number mark' top'
-        → SourceDone exclude source t p i top mark usable t' p' number mark' top'
-    unfolding startsF
-    source-parts u t' p' number mark' top' d =
-        record {
-          zero-or = d .zero-or;
-          done = λ z. subst (λ (y : Starts). Parts t p i top (y .starts) t' p' top') (sym lines-then) (d .done z);
-          mark-is = λ z. d .mark-is z ∙ sym (ap (λ (y : Starts). y .mark) lines-then);
-          used = λ z f. absurd (no-tf (sym u ∙ f));
-          past = λ z. inl (subst (λ (y : Starts). 513 < countOf t + parts (entryAt t i .start) (y .starts)) (sym lines-then) (d .past z));
-        }
-
--- ---- a text, written
-pub written-fits : {s s' : List ℕ} {byte end : ℕ} (indentor : List ℕ) (mark : Bool) (text part : List ℕ) {fits mark' : Bool} → part ≡ text → utf8 text ≡ true
-    → Filling s byte (indent-frag indentor mark part .text) s' fits end → fits ≡ true → mark' ≡ mark-behind mark part → WrittenAt indentor mark text s byte s' true mark' end
-written-fits {s} {s'} {byte} {end} indentor mark text part {fits} e v f g m =
-    let q = subst (λ (x : Text). Filling s byte (indent-frag indentor mark x .text) s' fits end) e f in
-    record {
-      store-is = λ _. q .done g .out-is;
-      end-is = λ _. q .done g .next-is;
-      room = λ _. q .room g;
-      mark-is = λ _. m ∙ ap (mark-behind mark) e ∙ sym (ap (λ (x : Indented). x .mark) (indent-frag-is indentor mark text v));
-      short = λ z. absurd (no-tf z);
-    }
-
-pub written-short : {s s' : List ℕ} {byte end end' : ℕ} (indentor : List ℕ) (mark : Bool) (text part : List ℕ) {fits mark' : Bool} → part ≡ text
-    → Filling s byte (indent-frag indentor mark part .text) s' fits end → fits ≡ false → WrittenAt indentor mark text s byte s' false mark' end'
-written-short {s} {s'} {byte} {end} indentor mark text part {fits} e f g =
-    let q = subst (λ (x : Text). Filling s byte (indent-frag indentor mark x .text) s' fits end) e f in
-    record {
-      store-is = λ z. absurd (no-tf (sym z));
-      end-is = λ z. absurd (no-tf (sym z));
-      room = λ z. absurd (no-tf (sym z));
-      mark-is = λ z. absurd (no-tf (sym z));
-      short = λ _. q .short g;
-    }
-
--- ---- the replacement, written
-pub replacement-written : {store t s t' s' : List ℕ} {i byte end : ℕ} (indentor : List ℕ) (mark : Bool) {mark' : Bool} {r q : Row} → ReplacementReady store t s i byte → r ≡ rowAt t i
-    → {fits : Bool} → WrittenAt indentor mark (bytesAt store (r .«text_at», r .«text_n»)) s byte s' fits mark' end → fits ≡ true → Rewritten r q (withText (byte, end - byte) (entryOf r)) → Put t t' i q → length t' ≡ length t
-    → ReplacementDone indentor store t s i mark byte t' s' 0 mark' end
-replacement-written {store} {t} {s} {t'} {s'} {i} {byte} {end} indentor mark {mark'} {r} {q} h er w₀ f c u m =
-    let w = subst (λ (b : Bool). WrittenAt indentor mark (bytesAt store (r .«text_at», r .«text_n»)) s byte s' b mark' end) f w₀ in
-    let e : _≡_ {A = Place} (r .«text_at», r .«text_n») (entryAt t i .text) = ap (λ (y : Row). entryOf y .text) er in
-    let v = subst (λ (y : Place). WrittenAt indentor mark (bytesAt store y) s byte s' true mark' end) e w in
-    let n : end - byte ≡ length (indent-frag indentor mark (bytesAt store (entryAt t i .text)) .text) = omega (arith, v .end-is refl) in
-    let c' = subst (λ (y : Entry). Rewritten r q (withText (byte, length (indent-frag indentor mark (bytesAt store (entryAt t i .text)) .text)) y)) (ap entryOf er) (subst (λ (y : ℕ). Rewritten r q (withText (byte, y) (entryOf r))) n c) in
-    record {
-      zero-or = inl refl;
-      done = λ _.
-          record {
-            set = rewritten-set (h .linked) (h .placed) er c' u m;
-            len = m;
-            store-is = v .store-is refl;
-            end-is = v .end-is refl;
-            room = v .room refl;
-            mark-is = v .mark-is refl;
-          };
-      past = λ z. absurd (omega arith);
-    }
-
-pub replacement-short : {store t s t' s' : List ℕ} {i byte end byte' : ℕ} (indentor : List ℕ) (mark : Bool) {mark' mark'' : Bool} {r : Row} → r ≡ rowAt t i
-    → {fits : Bool} → WrittenAt indentor mark (bytesAt store (r .«text_at», r .«text_n»)) s byte s' fits mark' end → fits ≡ false → ReplacementDone indentor store t s i mark byte t' s' 13 mark'' byte'
-replacement-short {store} {s = s} {byte = byte} indentor mark er {fits} w f =
-    record {
-      zero-or = inr refl;
-      done = λ z. absurd (omega arith);
-      past = λ _. subst (λ (y : Row). length s < byte + length (indent-frag indentor mark (bytesAt store (y .«text_at», y .«text_n»)) .text)) er (w .short f);
-    }
-
--- what writing the text asks
-pub replacement-asks : {store t s : List ℕ} {i byte : ℕ} {r : Row} → ReplacementReady store t s i byte → r ≡ rowAt t i
-    → (r .«text_at» + r .«text_n» ≤ length store) × (utf8 (bytesAt store (r .«text_at», r .«text_n»)) ≡ true)
-replacement-asks {store} {t} {s} {i} h er =
-    subst (λ (y : Row). (y .«text_at» + y .«text_n» ≤ length store) × (utf8 (bytesAt store (y .«text_at», y .«text_n»)) ≡ true)) (sym er) (h .inside, h .valid)
 
 -- ---- the row
 none-text : (s : List ℕ) (r : Place) → r .0 ≡ NONE → replacementOf s r ≡ none

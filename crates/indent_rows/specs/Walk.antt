@@ -2,7 +2,7 @@
 -- Assumes nothing.
 use mathlib.Core.Path.{_≡_}
 use mathlib.Core.Bool.{Bool}
-use mathlib.Core.List.{List, [], _∷_, map}
+use mathlib.Core.List.{List, [], map}
 use mathlib.Core.Logic.{_⊎_}
 use Prim.Native.Nat.{ℕ, _+_, _*_, _≤_, _<_}
 use lib.ListN.{length, take}
@@ -14,10 +14,10 @@ use Rattle.model.specs.Chunk.{Chunk}
 use Rattle.model.specs.MagicString.{MagicString}
 use Rattle.model.specs.Limits.{chunk-pieces, chunk-bytes}
 use Rattle.model.specs.WellFormed.{Formed}
-use Rattle.memory.specs.Layout.{runOf, chunkOf}
-use Rattle.texts.specs.Carry.{Below}
+use Rattle.memory.specs.Layout.{chunkOf}
 use Rattle.rows.specs.Insert.{runsOf}
 use Rattle.trim_run.specs.Low.{RowsKept, BytesKept, TextLow, EntryLow}
+use Rattle.indent_source.specs.Parts.{IndentorRow}
 use Rattle.indent_closed.specs.Indent.{IndentedChunks, indented-chunks}
 
 -- a desk's chunks alone
@@ -27,11 +27,6 @@ bodyOf source cs = record { source = source; intro = []; outro = []; chunks = cs
 -- the chunks that the tables hold
 abbrev pub chunksOf : List ℕ → List ℕ → List ℕ → List Chunk
 chunksOf t p s = map (chunkOf p s) (entries t)
-
--- row 2048 is the indentor's piece, the first of those behind the lent ones
-pub record IndentorRow (indentor p s : List ℕ) (top byte : ℕ) : Type 0 where
-  pub text : runOf p s (2048, 1) ≡ indentor ∷ []
-  pub low : Below p byte top (2048, 1)
 
 -- the lent store is the front of the scratch one, and the chunks' texts lie there. An indentor that no store can hold has no row
 pub record WalkReady (indentor source store t p s : List ℕ) (top byte : ℕ) : Type 0 where

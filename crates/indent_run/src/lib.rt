@@ -8,7 +8,7 @@ ghost use Rattle.model.specs.Indent.{indent-frag};
 ghost use Rattle.memory.specs.Layout.{runOf};
 ghost use Rattle.indent_run.specs.Run.{PieceRoom, PieceIndented, RunReady, RunIndented};
 ghost use Rattle.indent_run.specs.Own.{placeOf, side, RowWith, OwnReady, OwnIndented, LayRoom, Laid};
-use indent_text::Filled;
+use indent_into::Filled;
 
 // One text, with the indentor put in: its bytes at a byte of the store, its place at a row of the pieces.
 fn indent_piece(
@@ -25,7 +25,7 @@ fn indent_piece(
     ensures { λ r. ⌜ PieceIndented (indent-frag (now (indentor .entry)) mark (now (text .entry)) .text) (now (p .entry)) (now (s .entry)) byte row
         (now (p .exit)) (now (s .exit)) (r .fits) (r .end) ⌝ }
 {
-    let w = indent_text::indent_into(text, indentor, s, byte, mark);
+    let w = indent_into::indent_into(text, indentor, s, byte, mark);
     if !w.fits {
         return w;
     }
@@ -151,5 +151,5 @@ pub fn lay_indentor(p: &mut [u32], s: &mut [u8], indentor: &[u8])
     if indentor.len() > 32768 {
         return;
     }
-    texts::push_piece(p, s, indentor, 32768, 2048);
+    carry::push_piece(p, s, indentor, 32768, 2048);
 }

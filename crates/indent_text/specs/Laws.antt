@@ -26,6 +26,11 @@ unfolding mark-behind
 mark-append mark [] t = refl
 mark-append mark (b ∷ s) t = mark-append (mark-on mark b) s t
 
+pub mark-snoc : (mark : Bool) (s : Text) (b : ℕ) → mark-behind mark (s ++ (b ∷ [])) ≡ mark-on (mark-behind mark s) b
+unfolding mark-behind
+mark-snoc mark [] b = refl
+mark-snoc mark (a ∷ s) b = mark-snoc (mark-on mark a) s b
+
 pub indent-append : (indentor : Text) (mark : Bool) (s t : Text) → indent-bytes indentor mark (s ++ t) ≡ indent-bytes indentor mark s ++ indent-bytes indentor (mark-behind mark s) t
 unfolding mark-behind indent-bytes
 indent-append indentor mark [] t = refl

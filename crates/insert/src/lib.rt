@@ -71,7 +71,7 @@ fn add_piece(
 {
     let r = table::get_row(t, i);
     let run = run_of(r, outro);
-    texts::carry_with(
+    carry_with::carry_with(
         pieces,
         store,
         text,
@@ -80,7 +80,7 @@ fn add_piece(
         s,
         run.at,
         run.n,
-        texts::Places {
+        carry::Places {
             byte: 32768,
             row: 2048,
         },

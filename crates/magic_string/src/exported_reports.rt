@@ -59,7 +59,7 @@ pub extern "C" fn magic_string_last_line<'a>(
     ensures { λ r. ⌜ Reported (LastLine (length (now (out .entry)))) (now (source .entry)) (now (chunks .entry)) (now (pieces .entry)) (now (store .entry)) (now (out .entry)) (now (out .exit)) (r .number) (r .value) ⌝ }
 {
     if well_formed::well_formed(source, chunks, pieces, store) {
-        return last::last_line(source, chunks, pieces, store, out);
+        return last_line::last_line(source, chunks, pieces, store, out);
     }
     Answer {
         number: 2,
@@ -150,7 +150,7 @@ pub extern "C" fn magic_string_is_empty<'a>(
     ensures { λ r. ⌜ Reported (IsEmpty) (now (source .entry)) (now (chunks .entry)) (now (pieces .entry)) (now (store .entry)) [] [] (r .number) (r .value) ⌝ }
 {
     if well_formed::well_formed(source, chunks, pieces, store) {
-        return reports::is_empty(source, chunks, pieces, store);
+        return is_empty::is_empty(source, chunks, pieces, store);
     }
     Answer {
         number: 2,
@@ -168,7 +168,7 @@ pub extern "C" fn magic_string_has_changed<'a>(
     ensures { λ r. ⌜ Reported (HasChanged) (now (source .entry)) (now (chunks .entry)) (now (pieces .entry)) (now (store .entry)) [] [] (r .number) (r .value) ⌝ }
 {
     if well_formed::well_formed(source, chunks, pieces, store) {
-        return reports::has_changed(source, chunks, pieces, store);
+        return has_changed::has_changed(source, chunks, pieces, store);
     }
     Answer {
         number: 2,
@@ -188,7 +188,14 @@ pub extern "C" fn magic_string_is_range_within_edited_chunk<'a>(
     ensures { λ r. ⌜ Reported (IsRangeWithinEditedChunk start end) (now (source .entry)) (now (chunks .entry)) (now (pieces .entry)) (now (store .entry)) [] [] (r .number) (r .value) ⌝ }
 {
     if well_formed::well_formed(source, chunks, pieces, store) {
-        return reports::is_range_within_edited_chunk(source, chunks, pieces, store, start, end);
+        return edited_range::is_range_within_edited_chunk(
+            source,
+            chunks,
+            pieces,
+            store,
+            start,
+            end,
+        );
     }
     Answer {
         number: 2,
@@ -206,7 +213,7 @@ pub extern "C" fn magic_string_last_char<'a>(
     ensures { λ r. ⌜ Reported (LastChar) (now (source .entry)) (now (chunks .entry)) (now (pieces .entry)) (now (store .entry)) [] [] (r .number) (r .value) ⌝ }
 {
     if well_formed::well_formed(source, chunks, pieces, store) {
-        return last::last_char(source, chunks, pieces, store);
+        return last_char::last_char(source, chunks, pieces, store);
     }
     Answer {
         number: 2,

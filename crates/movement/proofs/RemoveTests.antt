@@ -1,9 +1,8 @@
 -- `remove`: what its tests give.
 use mathlib.Core.Path.{_≡_, refl, sym, ap, _∙_}
-use mathlib.Core.Bool.{Bool, true, false, cond}
+use mathlib.Core.Bool.{true, false}
 use mathlib.Core.List.{List, [], _∷_}
-use mathlib.Core.Logic.{inl}
-use Prim.Native.Nat.{ℕ, suc, _<_}
+use Prim.Native.Nat.{ℕ, _<_}
 use native.Mathlib.Omega.{arith}
 use borrow.Author.Tests.{ne-eqb, eq-eqb, le-ltb, lt-ltb}
 use Rattle.utf8.specs.Rfc3629.{utf8, between}
@@ -17,7 +16,7 @@ use Rattle.memory.specs.WellFormed.{WellFormed}
 use Rattle.memory.specs.Calls.{idle, Ran}
 use Rattle.frame.specs.Frame.{ran-before, ran-same, refused-3, not-refused}
 use Rattle.split.specs.Lift.{source-of}
-use Rattle.movement.specs.Range.{cleared-to, RangeRan}
+use Rattle.clear_range.specs.Range.{cleared-to, RangeRan}
 
 steps-same : (a b : ℕ) (m : MagicString) → a ≡ b → steps (remove a b) m ≡ ok m
 unfolding movement-rs.remove

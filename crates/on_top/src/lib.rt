@@ -209,10 +209,10 @@ pub fn lengthen(
     ensures { λ _. ⌜ Lengthened front (now (text .entry)) (at, n) row byte (now (p .entry)) (now (s .entry)) (now (p .exit)) (now (s .exit)) ⌝ }
 {
     if front {
-        texts::push_piece(p, s, text, byte, row);
+        carry::push_piece(p, s, text, byte, row);
         copy_rows(p, at, n, row + 1);
         return;
     }
     copy_rows(p, at, n, row);
-    texts::push_piece(p, s, text, byte, row + n as usize);
+    carry::push_piece(p, s, text, byte, row + n as usize);
 }

@@ -49,15 +49,15 @@ fn lay_row(
     pieces: &mut [u32],
     store: &mut [u8],
     r: table::Row,
-    to: texts::Places,
+    to: carry::Places,
 ) -> Laid
     requires { ⌜ EntryIn (now p) (now s) (entryOf r) ⌝ }
     requires { ⌜ RoomEntry (now p) (now s) (entryOf r) (now pieces) (now store) (to .byte) (to .row) ⌝ }
     ensures { λ l. ⌜ LaidEntry (now (p .entry)) (now (s .entry)) (entryOf r) (entryOf (l .row)) (now (pieces .entry)) (now (store .entry)) (to .byte) (to .row)
         (now (pieces .exit)) (now (store .exit)) (l .byte) (l .next) ⌝ }
 {
-    let a = texts::copy_run(p, s, pieces, store, r.intro_at, r.intro_n, to);
-    let b = texts::copy_run(p, s, pieces, store, r.outro_at, r.outro_n, a);
+    let a = carry::copy_run(p, s, pieces, store, r.intro_at, r.intro_n, to);
+    let b = carry::copy_run(p, s, pieces, store, r.outro_at, r.outro_n, a);
     let x = lay_text(s, store, r.text_at, r.text_n, b.byte);
     let mut q = r;
     q.intro_at = to.row as u32;
@@ -138,7 +138,7 @@ fn lay_rest(
     let mut row = row0;
     while k < n {
         let r = table::get_row(t, cur);
-        let l = lay_row(p, s, pieces, store, r, texts::Places { byte, row });
+        let l = lay_row(p, s, pieces, store, r, carry::Places { byte, row });
         table::put_row(chunks, k + 1, seq_row(l.row, k, n));
         byte = l.byte;
         row = l.next;
@@ -169,7 +169,7 @@ pub fn rebuild(
         pieces,
         store,
         own_row(z),
-        texts::Places { byte: 0, row: 0 },
+        carry::Places { byte: 0, row: 0 },
     );
     table::put_row(chunks, 0, top_row(l.row, n));
     lay_rest(t, p, s, chunks, pieces, store, n, z.next, l.byte, l.next);

@@ -17,7 +17,7 @@ use Rattle.memory.specs.WellFormed.{WellFormed}
 use Rattle.memory.specs.Calls.{idle, Ran}
 use Rattle.frame.specs.Frame.{ran-before, ran-same, refused-3, not-refused}
 use Rattle.split.specs.Lift.{source-of}
-use Rattle.movement.specs.Range.{cleared-to, RangeRan}
+use Rattle.clear_range.specs.Range.{cleared-to, RangeRan}
 
 steps-same : (a b : ℕ) (m : MagicString) → a ≡ b → steps (reset a b) m ≡ ok m
 unfolding reset-rs.reset

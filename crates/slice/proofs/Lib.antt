@@ -1,4 +1,3 @@
-mod Laws
 mod Seek
 mod Slicing
 mod Giving

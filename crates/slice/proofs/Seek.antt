@@ -15,7 +15,8 @@ use Rattle.model.specs.Slice.{contains-end, find-start, from, nothing, Start}
 use Rattle.memory.specs.Layout.{chunkOf}
 use Rattle.fragments.specs.Sections.{section, sectionAt, rowNo, row-edge, row-first, row-in, section-chunk, entries-drop, entries-end}
 use Rattle.slice.specs.declared.Found.the-variants.{At, Nothing}
-use Rattle.slice.specs.Walk.{holdsEnd, misses, chunksOf, Starts, FoundStart, Seeking}
+use Rattle.chunk_slice.specs.Given.{holdsEnd}
+use Rattle.slice.specs.Walk.{misses, chunksOf, Starts, FoundStart, Seeking}
 
 -- one chunk of `find-start`
 abbrev step : Bool → Bool → Chunk → List Chunk → Start → Start

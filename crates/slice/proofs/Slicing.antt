@@ -22,8 +22,9 @@ use Rattle.memory.specs.WellFormed.{WellFormed, EntryIn}
 use Rattle.texts.specs.Texts.{SpanIn}
 use Rattle.fragments.specs.Sections.{section, rowNo, row-edge, row-in, section-chunk, entries-drop, entries-end, fragmentsAll, fragmentsOf}
 use Rattle.fragments.specs.Output.{ready, sum-append, sum-length, all-append, output-short}
-use Rattle.slice.specs.Emit.{overIf, Emitted, Room, emitted-none, emitted-then}
-use Rattle.slice.specs.Walk.{holdsEnd, endsInside, chunkSlice, chunksOf, sliceWalk, walk-rest, Fits, Out}
+use Rattle.chunk_slice.specs.Emit.{overIf, Emitted, Room, emitted-none, emitted-then}
+use Rattle.chunk_slice.specs.Given.{holdsEnd, chunkSlice}
+use Rattle.slice.specs.Walk.{endsInside, chunksOf, sliceWalk, walk-rest, Fits, Out}
 
 -- ---- a chunk's slice is at most what the chunk shows
 cond-le : (b : Bool) (x : Text) → length (cond b x []) ≤ length x
@@ -199,7 +200,7 @@ module _ {w : Bool} {source t p s : List ℕ} {end : ℕ} {whole : Sliced} {d₀
             let y = ready source t p s f .shown (suc k) in (
               subst (EntryIn p s) (sym entry) (y .entry),
               subst (SpanIn source) (sym entry) (y .span),
-              Rattle.slice.specs.Emit.emitted-room (c .emitted) x room-all,
+              Rattle.chunk_slice.specs.Emit.emitted-room (c .emitted) x room-all,
             )
 
         module _ {d' : List ℕ} {o' : ℕ} (v : Emitted w d o x d' o') (m : length d' ≡ length d) where

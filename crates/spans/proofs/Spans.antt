@@ -1,6 +1,6 @@
 -- The check of the spans: each span starts at 0 or where another ends, and one ends at the source's end.
 use mathlib.Core.Path.{_≡_, ap, sym, _∙_}
-use mathlib.Core.Bool.{Bool, true, false}
+use mathlib.Core.Bool.{Bool}
 use mathlib.Core.List.{List}
 use Prim.Native.Nat.{ℕ, zero, suc, _+_, _-_, _≤_, _<_}
 use native.Mathlib.Omega.{arith}
@@ -10,9 +10,8 @@ use lib.ListN.{length, getD, set, length-set}
 use lib.Seq.{getD-set-same, getD-set-other}
 use borrow.Author.Count.{below-more}
 use Rattle.counts.specs.Counts.{one, indicator, sum-to, Decides}
-use Rattle.utf8.specs.Rfc3629.{between}
 use Rattle.spans.specs.Spans.{Tiled, Empty, Spans, Begun, startsOf, endsOf}
-use Rattle.counts.specs.Sums.{not-both, decides-by, one-same, one-at, sum-zero, sum-mono, one-other, one-le, indicator-in, indicator-before, indicator-after, sum-same, sum-le, sum-add}
+use Rattle.counts.specs.Sums.{decides-by, one-same, one-at, sum-zero, sum-mono, one-other, one-le, indicator-in, indicator-before, indicator-after, sum-same, sum-le, sum-add}
 
 -- of one span
 indicator-first : (a e : ℕ) → a < e → indicator a e 0 ≡ one a 0
@@ -210,11 +209,3 @@ spans-full t n len z d = decides-by (λ x. record { empty = λ q. absurd (z q); 
 
 pub spans-empty : {r : Bool} (t : List ℕ) (n len : ℕ) → len ≡ 0 → Decides r (Empty t n) → Decides r (Spans t n len)
 spans-empty t n len z d = decides-by (λ x. record { empty = λ q. x; full = λ h. absurd (omega arith) }) (λ x. x .empty z) d
-
--- ── ends between characters: what a test of a place that was read tells ──
-module _ (source : List ℕ) {x a : ℕ} {r : Bool} (ex : x ≡ a) (er : r ≡ between source x) where
-  pub stands : r ≡ true → between source a ≡ true
-  stands t = rw (← ex) (sym er ∙ t)
-
-  pub stands-not : r ≡ false → between source a ≡ true → ⊥
-  stands-not f t = not-both (sym f ∙ er ∙ rw ex t)

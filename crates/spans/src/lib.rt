@@ -1,69 +1,10 @@
-// Whether the chunks of a table stand in one list, linked both ways, and whether their spans cover the source once with ends between characters.
+// Whether the spans of a table cover the source once.
 ghost use mathlib.Core.Path.{_≡_};
 ghost use mathlib.Core.Bool.{true};
 ghost use Prim.Native.Nat.{ℕ, _+_, _*_, _≤_, _<_};
 ghost use lib.ListN.{length, getD};
-ghost use Rattle.utf8.specs.Rfc3629.{utf8 as isText};
-ghost use Rattle.table.specs.Ring.{Ring};
-ghost use Rattle.table.specs.Order.{Linked, nextOf, prevOf};
 ghost use Rattle.counts.specs.Counts.{Decides, Half, one};
-ghost use Rattle.spans.specs.Spans.{startOf, endOf, startsOf, endsOf, Tiled, Empty, Spans, Begun, Edged, Edges};
-
-const NEXT: usize = 2;
-
-const PREV: usize = 3;
-
-// Word k of row i.
-fn word(t: &[u32], i: u32, k: usize) -> u32
-    requires { ⌜ (i * 12 + 12 ≤ length (now t)) × (k < 12) ⌝ }
-    ensures { λ r. ⌜ r ≡ getD (now (t .entry)) (i * 12 + k) 0 ⌝ }
-{
-    t[i as usize * 12 + k]
-}
-
-// Whether the chunks 1 to n stand in one list, linked both ways.
-fn list_linked(t: &[u32], n: u32) -> bool
-    requires { ⌜ n * 12 + 12 ≤ length (now t) ⌝ }
-    ensures { λ r. ⌜ Decides r (Ring (nextOf (now (t .entry))) (prevOf (now (t .entry))) n) ⌝ }
-{
-    let mut a = 0;
-    let mut k = 0;
-    while k < n {
-        let x = word(t, a, NEXT);
-        if x == 0 {
-            return false;
-        }
-        if x > n {
-            return false;
-        }
-        if word(t, x, PREV) != a {
-            return false;
-        }
-        a = x;
-        k += 1;
-    }
-    if word(t, a, NEXT) != 0 {
-        return false;
-    }
-    if word(t, 0, PREV) != a {
-        return false;
-    }
-    true
-}
-
-// The same for the table's own count.
-pub fn linked(t: &[u32]) -> bool
-    ensures { λ r. ⌜ Decides r (Linked (now (t .entry))) ⌝ }
-{
-    if t.len() < 12 {
-        return false;
-    }
-    let n = word(t, 0, 0);
-    if t.len() < n as usize * 12 + 12 {
-        return false;
-    }
-    list_linked(t, n)
-}
+ghost use Rattle.spans.specs.Spans.{startOf, endOf, startsOf, endsOf, Tiled, Empty, Spans, Begun};
 
 fn wide(x: u32) -> usize
     ensures { λ r. ⌜ r ≡ x ⌝ }
@@ -71,14 +12,14 @@ fn wide(x: u32) -> usize
     x as usize
 }
 
-fn start(t: &[u32], i: u32) -> usize
+pub fn start(t: &[u32], i: u32) -> usize
     requires { ⌜ i * 12 + 12 ≤ length (now t) ⌝ }
     ensures { λ r. ⌜ r ≡ startOf (now (t .entry)) i ⌝ }
 {
     wide(t[i as usize * 12])
 }
 
-fn end(t: &[u32], i: u32) -> usize
+pub fn end(t: &[u32], i: u32) -> usize
     requires { ⌜ i * 12 + 12 ≤ length (now t) ⌝ }
     ensures { λ r. ⌜ r ≡ endOf (now (t .entry)) i ⌝ }
 {
@@ -177,37 +118,4 @@ pub fn covered(t: &[u32], n: u32, len: usize) -> bool
     }
     let mut marks = [0u8; 16385];
     spans_by(t, n, len, &mut marks[..len + 1])
-}
-
-// Whether both ends of the span of row i stand between characters.
-fn edged(source: &[u8], t: &[u32], i: u32) -> bool
-    requires { ⌜ isText (now source) ≡ true ⌝ }
-    requires { ⌜ i * 12 + 12 ≤ length (now t) ⌝ }
-    ensures { λ r. ⌜ Decides r (Edged (now (source .entry)) (startOf (now (t .entry)) i) (endOf (now (t .entry)) i)) ⌝ }
-{
-    let a = start(t, i);
-    if utf8::boundary(source, a) {
-        let e = end(t, i);
-        if utf8::boundary(source, e) {
-            return true;
-        }
-    }
-    false
-}
-
-// The same for the chunks 1 to n.
-pub fn ends_between(source: &[u8], t: &[u32], n: u32) -> bool
-    requires { ⌜ isText (now source) ≡ true ⌝ }
-    requires { ⌜ n * 12 + 12 ≤ length (now t) ⌝ }
-    ensures { λ r. ⌜ Decides r (Edges (now (source .entry)) (now (t .entry)) n) ⌝ }
-{
-    let mut k = 0;
-    while k < n {
-        k += 1;
-        if edged(source, t, k) {
-            continue;
-        }
-        return false;
-    }
-    true
 }

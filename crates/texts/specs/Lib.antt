@@ -1,3 +1,4 @@
 pub mod Over
 pub mod Texts
 pub mod Carry
+pub mod Laws

@@ -42,10 +42,10 @@ fn chunked(source: &[u8], chunks: &[u32]) -> bool
     requires { ⌜ length (now source) ≤ 16384 ⌝ }
     ensures { λ r. ⌜ Decides r (Chunked (now (source .entry)) (now (chunks .entry))) ⌝ }
 {
-    if spans::linked(chunks) {
+    if links::linked(chunks) {
         let n = count(chunks);
         if spans::covered(chunks, n, source.len()) {
-            return spans::ends_between(source, chunks, n);
+            return edges::ends_between(source, chunks, n);
         }
     }
     false
@@ -58,9 +58,9 @@ fn pieced(chunks: &[u32], pieces: &[u32], store: &[u8]) -> bool
     ensures { λ r. ⌜ Decides r (Pieced (now (chunks .entry)) (now (pieces .entry)) (now (store .entry))) ⌝ }
 {
     let n = count(chunks);
-    if marks::pieces_within(chunks, n) {
-        if marks::runs_apart(chunks, n) {
-            return marks::texts_apart(chunks, n, pieces, store);
+    if runs_apart::pieces_within(chunks, n) {
+        if runs_apart::runs_apart(chunks, n) {
+            return texts_apart::texts_apart(chunks, n, pieces, store);
         }
     }
     false

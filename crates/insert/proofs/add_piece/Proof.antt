@@ -19,7 +19,7 @@ use Rattle.insert.proofs.run_of.Reads as run-of-reads
 use Rattle.insert.proofs.with_run.Reads as with-run-reads
 use Rattle.table.proofs.get_row.Reads as get-row-reads
 use Rattle.table.proofs.put_row.Reads as put-row-reads
-use Rattle.texts.proofs.carry_with.Reads as carry-with-reads
+use Rattle.carry_with.proofs.carry_with.Reads as carry-with-reads
 
 get-row-requires : tie.Need-get-row-requires
 get-row-requires c κs = search needs

@@ -2,14 +2,14 @@ use mathlib.Core.Path.{ap}
 use native.Mathlib.Omega.{arith}
 use Rattle.rows.specs.Insert.{startF}
 use Rattle.in_place.specs.InPlace.{lent-roomy}
-use Rattle.movement.specs.Range.{range-in-place}
+use Rattle.clear_range.specs.Range.{range-in-place}
 use borrow.Author.Needs.{needs}
 use Rattle.movement.proofs.range_with.Statement.{statement}
 use Rattle.movement.proofs.range_with.Tie as tie
 use Rattle.movement.proofs.range_with.Reads as reads
 use Rattle.movement.proofs.range_with.Lts as lts
-use Rattle.movement.proofs.clear_range.Reads as clear-range-reads
-use Rattle.movement.proofs.range_scratch.Reads as range-scratch-reads
+use Rattle.clear_range.proofs.clear_range.Reads as clear-range-reads
+use Rattle.range_scratch.proofs.range_scratch.Reads as range-scratch-reads
 use Rattle.table.proofs.get_row.Reads as get-row-reads
 
 get-row-requires : tie.Need-get-row-requires

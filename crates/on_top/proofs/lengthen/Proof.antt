@@ -8,7 +8,7 @@ use Rattle.on_top.proofs.lengthen.Tie as tie
 use Rattle.on_top.proofs.lengthen.Reads as reads
 use Rattle.on_top.proofs.lengthen.Lts as lts
 use Rattle.on_top.proofs.copy_rows.Reads as copy-rows-reads
-use Rattle.texts.proofs.push_piece.Reads as push-piece-reads
+use Rattle.carry.proofs.push_piece.Reads as push-piece-reads
 
 push-piece-requires : tie.Need-push-piece-requires
 push-piece-requires c κs =

@@ -8,7 +8,7 @@ use Rattle.rebuild.proofs.lay_row.Tie as tie
 use Rattle.rebuild.proofs.lay_row.Reads as reads
 use Rattle.rebuild.proofs.lay_row.Lts as lts
 use Rattle.rebuild.proofs.lay_text.Reads as lay-text-reads
-use Rattle.texts.proofs.copy_run.Reads as copy-run-reads
+use Rattle.carry.proofs.copy_run.Reads as copy-run-reads
 
 copy-run-requires : tie.Need-copy-run-requires
 copy-run-requires c κs =

@@ -4,7 +4,7 @@ use mathlib.Core.List.{_++_}
 use Prim.Native.Nat.{_≤_, _-_}
 use native.Mathlib.Omega.{arith}
 use lib.ListN.{length, take, drop, length-set}
-use Rattle.texts.proofs.Laws.{front-suc, front-all}
+use Rattle.texts.specs.Laws.{front-suc, front-all}
 use borrow.Author.Needs.{needs}
 use Rattle.texts.proofs.put_words.Statement.{statement}
 use Rattle.texts.proofs.put_words.Tie as tie

@@ -1,0 +1,154 @@
+-- `remove` and `reset` past their tests: two cuts, then every chunk of the range is cleared.
+use mathlib.Core.Path.{_≡_, refl, sym, ap, ap₂, _∙_, subst}
+use mathlib.Core.Bool.{true, false, _&&_, cond}
+use mathlib.Core.List.{List, [], _∷_, map}
+use mathlib.Core.Option.{none, some}
+use mathlib.Core.Logic.{_⊎_, inl, inr, ⊎-elim}
+use Prim.Native.Nat.{ℕ, zero, suc, _+_, _≤_, _<_}
+use native.Mathlib.Omega.{arith}
+use lib.Dec.{ltb, leb, eqb}
+use lib.ListN.{length}
+use Rattle.utf8.specs.Chars.{All, nil, cons}
+use Rattle.table.specs.Order.{Entry, entries, countOf}
+use Rattle.model.specs.Chunk.{Chunk, Texts, bare}
+use Rattle.model.specs.MagicString.{MagicString, Result, ok, err, and-then, with-chunks}
+use Rattle.model.specs.Movement.{change-by-position, change-range}
+use Rattle.model.specs.Call.{Edit, steps, refused-before}
+use Rattle.memory.specs.Layout.{NONE, replacementOf, chunkOf, magicStringOf}
+use Rattle.memory.specs.WellFormed.{ReplacementIn, EntryIn, Readable, WellFormed}
+use Rattle.memory.specs.Calls.{idle, may-write, Ran}
+use Rattle.closed_forms.specs.Lists.{first-of}
+use Rattle.closed_forms.specs.Lists as lists
+use Rattle.closed_forms.specs.Cuts.{Contains, cut-all-aligned}
+use Rattle.closed_forms.specs.ByPosition.{in-range, by-position}
+use Rattle.rows.specs.Insert.{runsOf, startF}
+use Rattle.rows.specs.Clear.{clearIn, ClearDone}
+use Rattle.uses.specs.Kept.{Kept, kept-then}
+use Rattle.uses.specs.Steps.{clear-kept}
+use Rattle.rebuild.specs.Rebuilt.{Finished}
+use Rattle.frame.specs.Front.{bool-elim}
+use Rattle.frame.specs.Loaded.{Loaded}
+use Rattle.frame.specs.Frame.{Scratch, Did, did-loaded, loaded-readable, ran-finished, may-write-0, may-write-6}
+use Rattle.in_place.specs.InPlace.{ran-rows}
+use Rattle.split.specs.Lift.{Reordered, still-readable, with-entries, chunks-of, no-run, no-run-in}
+use Rattle.split.specs.Cuts.{Spans, CutsDone, cuts-spans, formed-spans, loaded-spans}
+
+-- what the chunks of the range get: an empty replacement, at the place v, or none
+abbrev pub cleared-to : ℕ → Texts → Texts
+cleared-to v x = bare (cond (eqb v NONE) none (some []))
+
+pub record RangeDone (a b v : ℕ) (t t' : List ℕ) (r : ℕ) : Type 0 where
+  pub leave : (source p s : List ℕ) → Readable t p s → Spans source t p s → Did (change-range (cleared-to v) a b) source t p s t' p s r
+  pub number : (r ≡ 0) ⊎ (r ≡ 6)
+  pub count : countOf t' ≤ countOf t + 2
+  pub kept : Kept t t'
+
+-- ── on entries ──
+place-of : (s : List ℕ) (v : ℕ) → replacementOf s (v, 0) ≡ cond (eqb v NONE) none (some [])
+unfolding replacementOf
+place-of s v = refl
+
+module _ (p s : List ℕ) (a b v : ℕ) where
+  lift-one : (e : Entry) → chunkOf p s (clearIn a b v e) ≡ in-range a b (cleared-to v) (chunkOf p s e)
+  lift-one e =
+      bool-elim (leb a (e .start) && ltb (e .start) b)
+      (λ k. rw (k, no-run p s 0, place-of s v))
+      (λ k. rw k)
+
+  lift-clear : (es : List Entry) → map (chunkOf p s) (map (clearIn a b v) es) ≡ map (in-range a b (cleared-to v)) (map (chunkOf p s) es)
+  lift-clear [] = refl
+  lift-clear (e ∷ es) = ap₂ (λ (x : Chunk) (l : List Chunk). x ∷ l) (lift-one e) (lift-clear es)
+
+  module _ (f : ReplacementIn s (v, 0)) where
+    in-one : (e : Entry) → EntryIn p s e → EntryIn p s (clearIn a b v e)
+    in-one e h =
+        bool-elim (leb a (e .start) && ltb (e .start) b)
+        (λ k. rw k (record { runs = record { intro = no-run-in p s 0; outro = no-run-in p s 0 }; replacement = f }))
+        (λ k. rw k h)
+
+    in-clear : {es : List Entry} → All (EntryIn p s) es → All (EntryIn p s) (map (clearIn a b v) es)
+    in-clear nil = nil
+    in-clear (cons {x = e} h k) = cons (in-one e h) (in-clear k)
+
+-- ── the steps ──
+pub range-refused : (a b v : ℕ) (t t' : List ℕ) (r : ℕ) → CutsDone (a ∷ b ∷ []) t t' r → (r ≡ 0 → ⊥) → RangeDone a b v t t' r
+unfolding change-range
+range-refused a b v t t' r d n =
+    record {
+      leave = λ source p s h c.
+          let k = d .leave source p s h c in
+          record { readable = k .readable; result = k .result (λ m. ok (with-chunks m (change-by-position (length (m .chunks)) (cleared-to v) a b (m .chunks)))) ∙ stop r (magicStringOf source t' p s) (λ m. ok (with-chunks m (change-by-position (length (m .chunks)) (cleared-to v) a b (m .chunks)))) n };
+      number = d .number;
+      count = omega (arith, d .count);
+      kept = d .kept;
+    }
+  where
+    stop : (r : ℕ) (m : MagicString) (g : MagicString → Result) → (r ≡ 0 → ⊥) → and-then (err r m) g ≡ err r m
+    stop zero m g n = absurd (n refl)
+    stop (suc r) m g n = refl
+
+-- the place of an empty text: 0, or the mark for none
+abbrev pub Marked : ℕ → Type 0
+Marked v = (v ≡ 0) ⊎ (v ≡ NONE)
+
+marked-in : (s : List ℕ) (v : ℕ) → Marked v → ReplacementIn s (v, 0)
+unfolding ReplacementIn
+marked-in s v (inl h) n = omega arith
+marked-in s v (inr h) n = absurd (n h)
+
+pub range-done : (a b v : ℕ) (t t1 t2 : List ℕ) (r : ℕ) → a < b → Marked v → CutsDone (a ∷ b ∷ []) t t1 r → r ≡ 0 → ClearDone t1 t2 a b v → RangeDone a b v t t2 0
+unfolding change-range
+range-done a b v t t1 t2 r ab mk d z c =
+    record {
+      leave = λ source p s h sp.
+          let k = d .leave source p s h sp in
+          let m1 = magicStringOf source t1 p s in
+          let o : Reordered t1 t2 (map (clearIn a b v) (entries t1)) = record { linked = c .linked; chunks = c .chunks; desk = ap runsOf (c .desk) } in
+          let al : All (λ x. Contains a x → ⊥) (m1 .chunks) =
+          subst (All (λ x. Contains a x → ⊥)) (sym (k .chunks z)) (lists.all-map (λ x y. first-of y) (cut-all-aligned (a ∷ b ∷ []) (magicStringOf source t p s .chunks))) in
+          let g : magicStringOf source t2 p s ≡ with-chunks m1 (change-by-position (length (m1 .chunks)) (cleared-to v) a b (m1 .chunks)) =
+          with-entries t1 p s t2 (k .readable) o source
+          ∙ ap (with-chunks m1)
+          (lift-clear p s a b v (entries t1)
+          ∙ ap (map (in-range a b (cleared-to v))) (sym (chunks-of source t1 p s))
+          ∙ sym (by-position (cleared-to v) a b ab (cuts-spans k z sp) al)) in
+          record {
+            readable = still-readable t1 p s t2 (k .readable) o (in-clear p s a b v (marked-in s v mk) (k .readable .chunks));
+            result =
+                k .result (λ m. ok (with-chunks m (change-by-position (length (m .chunks)) (cleared-to v) a b (m .chunks))))
+                ∙ ap (λ (n : ℕ). and-then (err n m1) (λ m. ok (with-chunks m (change-by-position (length (m .chunks)) (cleared-to v) a b (m .chunks))))) z
+                ∙ ap ok (sym g);
+          };
+      number = inl refl;
+      count = omega (arith, d .count, ap startF (c .desk));
+      kept = kept-then (d .kept) (clear-kept t1 t2 a b v c);
+    }
+
+-- ── the call, for either edit ──
+abbrev pub RangeRan : ℕ → ℕ → ℕ → List ℕ → List ℕ → List ℕ → List ℕ → List ℕ → List ℕ → List ℕ → ℕ → Type 0
+RangeRan a b v source t p s t' p' s' r =
+    (e : Edit) → refused-before (magicStringOf source t p s) e ≡ 0
+    → steps e (magicStringOf source t p s) ≡ change-range (cleared-to v) a b (magicStringOf source t p s) → idle e ≡ false
+    → Ran e source t p s t' p' s' r
+
+-- which answers may write
+range-writes : {a b v : ℕ} {t t' : List ℕ} {r : ℕ} → RangeDone a b v t t' r → (e : Edit) → idle e ≡ false → may-write e r ≡ true
+range-writes {r = r} x e i = ⊎-elim {C = may-write e r ≡ true} (λ (z : r ≡ 0). rw z (may-write-0 e i)) (λ (z : r ≡ 6). rw z (may-write-6 e)) (x .number)
+
+-- on the lent rows themselves, where two chunks more are within the limit
+pub range-in-place : {a b v : ℕ} {source t p s t' : List ℕ} {r : ℕ} → WellFormed source t p s → countOf t + 2 ≤ 512 → RangeDone a b v t t' r → length t' ≡ length t
+    → RangeRan a b v source t p s t' p s r
+range-in-place {source = source} {p = p} {s = s} w few x len e h q i =
+    let g = x .leave source p s (w .readable) (formed-spans w) in
+    ran-rows w h (record { readable = g .readable; result = q ∙ g .result }) (range-writes x e i) len (x .kept) (omega (arith, x .count))
+
+-- on scratch rows
+pub range-ran : {a b v : ℕ} {source t p s t₀ p₀ s₀ t1 p1 s1 t2 t' p' s' : List ℕ} {r r' : ℕ} → WellFormed source t p s → Scratch t₀ p₀ s₀ → Loaded t p s t₀ p₀ s₀ t1 p1 s1
+    → RangeDone a b v t1 t2 r → Finished t2 p1 s1 t p s t' p' s' r r' → RangeRan a b v source t p s t' p' s' r'
+range-ran {source = source} {p = p} {s = s} w f d x y e h q i =
+    let g = did-loaded w f d (x .leave source p s (loaded-readable w f d) (loaded-spans w f d)) in
+    ran-finished w h (record { readable = g .readable; result = q ∙ g .result }) (range-writes x e i) y
+
+pub range-readable : {a b v : ℕ} {source t p s t₀ p₀ s₀ t1 p1 s1 t2 : List ℕ} {r : ℕ} → WellFormed source t p s → Scratch t₀ p₀ s₀ → Loaded t p s t₀ p₀ s₀ t1 p1 s1
+    → RangeDone a b v t1 t2 r → Readable t2 p1 s1
+range-readable {source = source} {p = p} {s = s} w f d x = did-loaded w f d (x .leave source p s (loaded-readable w f d) (loaded-spans w f d)) .readable

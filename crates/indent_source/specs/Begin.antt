@@ -1,0 +1,158 @@
+-- The indentor in front of a chunk's intro: the row of its piece alone, or a copy of it with the intro's rows behind, from row top on. The texts stay where they are.
+-- Assumes nothing.
+use mathlib.Core.Path.{_≡_, refl, sym, ap, ap₂, _∙_, subst}
+use mathlib.Core.List.{List, [], _∷_}
+use Prim.Native.Nat.{ℕ, zero, suc, _+_, _*_, _-_, _≤_, _<_}
+use native.Mathlib.Omega.{arith}
+use lib.ListN.{length}
+use Rattle.table.specs.declared.Piece.{Piece}
+use Rattle.table.specs.declared.Row.{Row}
+use Rattle.table.specs.Table.{rowAt, Put}
+use Rattle.table.specs.Pieces as rows
+use Rattle.table.specs.Order.{Entry, entryOf, entryAt, Linked}
+use Rattle.model.specs.Text.{Text}
+use Rattle.memory.specs.Layout.{Place, bytesAt, pieceAt, runOf}
+use Rattle.texts.specs.Texts.{tabulate-ext, tabulate-cons, run-tabulate}
+use Rattle.texts.specs.Carry.{Below}
+use Rattle.rows.specs.Insert.{Placed}
+use Rattle.rows.specs.Split.{RowSet}
+use Rattle.trim_run.specs.Low.{RowsKept, rows-same}
+use Rattle.trim_run.specs.Run.{Copied}
+use Rattle.indent_cuts.specs.Lines.{run-none}
+use Rattle.indent_cuts.specs.Splice.{withIntro, Rewritten, rewritten-set}
+
+-- ---- rows
+-- room for n + 1 rows from row top on, behind the indentor's row and those that are copied
+pub record PrefixRoom (p : List ℕ) (at n top : ℕ) : Type 0 where
+  pub below : at + n ≤ top
+  pub indentor : 2048 < top
+  pub room : (top + (n + 1)) * 2 ≤ length p
+  pub narrow : length p ≤ 4294967296
+
+-- row top is the indentor's, and the n rows behind it are the rows at .. at + n - 1
+pub record Prefixed (p p' : List ℕ) (at n top : ℕ) : Type 0 where
+  pub kept : RowsKept top p p'
+  pub first : pieceAt p' top ≡ pieceAt p 2048
+  pub others : (j : ℕ) → j < n → pieceAt p' (top + 1 + j) ≡ pieceAt p (at + j)
+
+pair : {q r : Piece} → q ≡ r → _≡_ {A = Place} (q .at, q .n) (r .at, r .n)
+pair e = ap (λ (x : Piece). (x .at, x .n)) e
+
+pub prefixed : (p p1 p2 : List ℕ) (at n top : ℕ) (r : Piece) → PrefixRoom p at n top → r ≡ rows.pieceAt p 2048 → rows.PutPiece p p1 top r → length p1 ≡ length p → Copied p1 p2 at n (top + 1) → Prefixed p p2 at n top
+prefixed p p1 p2 at n top r h e w m c =
+    record {
+      kept = record { len = c .kept .len ∙ m; rows = λ j k. c .kept .rows j (omega arith) ∙ pair (w .off j (λ z. omega arith)) };
+      first = c .kept .rows top (omega arith) ∙ pair (w .here) ∙ sym (pair (sym e));
+      others = λ j k. c .copies j k ∙ pair (w .off (at + j) (λ z. omega (arith, h .below)));
+    }
+
+-- ---- the run's texts
+run-cons : (p s : List ℕ) (at m : ℕ) → runOf p s (at, suc m) ≡ bytesAt s (pieceAt p at) ∷ runOf p s (at + 1, m)
+run-cons p s at m =
+    let z : at + 0 ≡ at = omega arith in
+    run-tabulate p s at (suc m)
+    ∙ tabulate-cons (λ k. bytesAt s (pieceAt p (at + k))) m
+    ∙ ap₂ (λ (x : Text) (l : List Text). x ∷ l) (ap (λ (j : ℕ). bytesAt s (pieceAt p j)) z)
+    (tabulate-ext (λ k. bytesAt s (pieceAt p (at + suc k))) (λ k. bytesAt s (pieceAt p (at + 1 + k))) m (λ k h. let e : at + suc k ≡ at + 1 + k = omega arith in rw e) ∙ sym (run-tabulate p s (at + 1) m))
+
+first-of : List Text → Text
+first-of [] = []
+first-of (x ∷ l) = x
+
+module _ {p p' : List ℕ} {at n top : ℕ} (c : Prefixed p p' at n top) where
+  prefixed-text : (s indentor : List ℕ) → runOf p s (2048, 1) ≡ indentor ∷ [] → runOf p' s (top, n + 1) ≡ indentor ∷ runOf p s (at, n)
+  unfolding first-of
+  prefixed-text s indentor e =
+      let q : n + 1 ≡ suc n = omega arith in
+      let x : bytesAt s (pieceAt p 2048) ≡ indentor = ap first-of (sym (run-cons p s 2048 0) ∙ e) in
+      ap (λ (k : ℕ). runOf p' s (top, k)) q
+      ∙ run-cons p' s top n
+      ∙ ap₂ (λ (y : Text) (l : List Text). y ∷ l) (ap (bytesAt s) (c .first) ∙ x)
+      (run-tabulate p' s (top + 1) n
+      ∙ tabulate-ext (λ k. bytesAt s (pieceAt p' (top + 1 + k))) (λ k. bytesAt s (pieceAt p (at + k))) n (λ k h. ap (bytesAt s) (c .others k h))
+      ∙ sym (run-tabulate p s at n))
+
+  prefixed-low : (byte : ℕ) → Below p byte top (2048, 1) → Below p byte top (at, n) → Below p' byte (top + n + 1) (top, n + 1)
+  prefixed-low byte i h zero g =
+      let z : top + 0 ≡ top = omega arith in
+      let e = ap (λ (x : Place). x .0 + x .1) (ap (pieceAt p') z ∙ c .first) in
+      (omega arith, omega (arith, i 0 (omega arith) .1))
+  prefixed-low byte i h (suc k) g =
+      let z : top + suc k ≡ top + 1 + k = omega arith in
+      let e = ap (λ (x : Place). x .0 + x .1) (ap (pieceAt p') z ∙ c .others k (omega arith)) in
+      (omega arith, omega (arith, h k (omega arith) .1))
+
+-- ---- row i
+pub record BeginReady (t p : List ℕ) (i top : ℕ) : Type 0 where
+  pub linked : Linked t
+  pub placed : Placed t i
+  pub below : (k : ℕ) → k < entryAt t i .intro .1 → entryAt t i .intro .0 + k < top
+  pub indentor : 2048 < top
+  pub room : (top + (entryAt t i .intro .1 + 1)) * 2 ≤ length p
+  pub narrow : length p ≤ 4294967296
+
+pub record Begun (t p : List ℕ) (i top : ℕ) (t' p' : List ℕ) (top' : ℕ) : Type 0 where
+  pub run : Place
+  pub set : RowSet t t' i (withIntro run (entryAt t i))
+  pub len : length t' ≡ length t
+  pub kept : RowsKept top p p'
+  pub text : (s indentor : List ℕ) → runOf p s (2048, 1) ≡ indentor ∷ [] → runOf p' s run ≡ indentor ∷ runOf p s (entryAt t i .intro)
+  pub low : (byte : ℕ) → Below p byte top (2048, 1) → Below p byte top (entryAt t i .intro) → Below p' byte top' run
+  pub up : top ≤ top'
+  pub used : top' ≤ top + (entryAt t i .intro .1 + 1)
+
+module _ {t p : List ℕ} {i top : ℕ} (h : BeginReady t p i top) (r : Row) (er : r ≡ rowAt t i) where
+  entry-is : entryOf r ≡ entryAt t i
+  entry-is = ap entryOf er
+
+  -- an intro with pieces lies below top
+  pub begin-room : (r .«intro_n» ≡ 0 → ⊥) → PrefixRoom p (r .«intro_at») (r .«intro_n») top
+  begin-room z =
+      let e = ap (λ (x : Entry). x .intro .0) entry-is in
+      let n = ap (λ (x : Entry). x .intro .1) entry-is in
+      let g : 0 < r .«intro_n» = positive (r .«intro_n») z in
+      record {
+        below = omega (arith, h .below (r .«intro_n» - 1) (omega arith));
+        indentor = h .indentor;
+        room = omega (arith, h .room);
+        narrow = h .narrow;
+      }
+    where
+      positive : (n : ℕ) → (n ≡ 0 → ⊥) → 0 < n
+      positive zero z = absurd (z refl)
+      positive (suc n) z = omega arith
+
+  module _ (t' : List ℕ) (q : Row) (u : Put t t' i q) (m : length t' ≡ length t) where
+    row-with : (run : Place) → Rewritten r q (withIntro run (entryOf r)) → RowSet t t' i (withIntro run (entryAt t i))
+    row-with run c = rewritten-set (h .linked) (h .placed) er (subst (λ (x : Entry). Rewritten r q (withIntro run x)) entry-is c) u m
+
+    -- no piece: the indentor's own row
+    pub begun-alone : r .«intro_n» ≡ 0 → Rewritten r q (withIntro (2048, 1) (entryOf r)) → Begun t p i top t' p top
+    begun-alone z c =
+        let n : entryAt t i .intro .1 ≡ 0 = sym (ap (λ (x : Entry). x .intro .1) entry-is) ∙ z in
+        record {
+          run = (2048, 1);
+          set = row-with (2048, 1) c;
+          len = m;
+          kept = rows-same top p;
+          text = λ s indentor e. e ∙ ap (λ (l : List Text). indentor ∷ l) (sym (ap (λ (k : ℕ). runOf p s (entryAt t i .intro .0, k)) n ∙ run-none p s (entryAt t i .intro .0)));
+          low = λ byte b k. b;
+          up = omega arith;
+          used = omega arith;
+        }
+
+    -- else the copy
+    pub begun-copied : (p' : List ℕ) → Prefixed p p' (r .«intro_at») (r .«intro_n») top → Rewritten r q (withIntro (top, r .«intro_n» + 1) (entryOf r)) → Begun t p i top t' p' (top + r .«intro_n» + 1)
+    begun-copied p' d c =
+        let x : _≡_ {A = Place} (r .«intro_at», r .«intro_n») (entryAt t i .intro) = ap (λ (y : Entry). y .intro) entry-is in
+        let n = ap (λ (y : Entry). y .intro .1) entry-is in
+        record {
+          run = (top, r .«intro_n» + 1);
+          set = row-with (top, r .«intro_n» + 1) c;
+          len = m;
+          kept = d .kept;
+          text = λ s indentor e. prefixed-text d s indentor e ∙ ap (λ (y : Place). indentor ∷ runOf p s y) x;
+          low = λ byte b k. prefixed-low d byte b (subst (Below p byte top) (sym x) k);
+          up = omega arith;
+          used = omega (arith, n);
+        }

@@ -1,2 +1,0 @@
-pub mod Last
-pub mod Line

@@ -1,0 +1,71 @@
+use native.Mathlib.Omega.{arith}
+use Rattle.frame.specs.Frame.{loaded-roomy}
+use Rattle.clear_range.specs.Range.{range-readable, range-ran}
+use borrow.Author.Needs.{needs}
+use Rattle.range_scratch.proofs.range_by.Statement.{statement}
+use Rattle.range_scratch.proofs.range_by.Tie as tie
+use Rattle.range_scratch.proofs.range_by.Reads as reads
+use Rattle.range_scratch.proofs.range_by.Lts as lts
+use Rattle.frame.proofs.finish.Reads as finish-reads
+use Rattle.frame.proofs.load.Reads as load-reads
+use Rattle.clear_range.proofs.clear_range.Reads as clear-range-reads
+
+load-requires : tie.Need-load-requires
+load-requires c κs =
+    let start = c .before .before .before .before .before .before .before .before .before .before .before .before .before in
+    (omega (arith, start .pre .0 .sized .chunks, start .pre .1 .0 .chunks), omega (arith, start .pre .0 .sized .pieces, start .pre .1 .0 .pieces), omega (arith, start .pre .0 .sized .store, start .pre .1 .0 .store))
+
+clear-range-requires : tie.Need-clear-range-requires
+clear-range-requires c κs =
+    let start = c .before .before .before .before .before .before .before .before .before .before .before .before .before .before .before .before .before .before .before .before .before in
+    let load = c .before .before .before .before .before .before .before .load in
+    let y = loaded-roomy (start .pre .0) (start .pre .1 .0) (load .ensures) in
+    (record { linked = y .linked; room = omega (arith, y .room); narrow = y .narrow }, start .pre .1 .1)
+
+finish-requires : tie.Need-finish-requires
+finish-requires c κs =
+    let start = c .before .before .before .before .before .before .before .before .before .before .before .before .before .before .before .before .before .before .before .before .before .before .before .before .before .before .before .before .before .before in
+    let load = c .before .before .before .before .before .before .before .before .before .before .before .before .before .before .before .before .load in
+    let clear-range = c .before .before .before .before .before .before .before .before .clear-range in
+    (range-readable (start .pre .0) (start .pre .1 .0) (load .ensures) (clear-range .ensures), start .pre .0 .sized)
+
+same-length : tie.Need-same-length
+same-length c = search needs
+
+same-length-2 : tie.Need-same-length-2
+same-length-2 c = search needs
+
+same-length-3 : tie.Need-same-length-3
+same-length-3 c = search needs
+
+same-length-4 : tie.Need-same-length-4
+same-length-4 c = search needs
+
+same-length-5 : tie.Need-same-length-5
+same-length-5 c = search needs
+
+same-length-6 : tie.Need-same-length-6
+same-length-6 c = search needs
+
+returns : tie.Need-returns
+returns c =
+    let start = c .before .before .before .before .before .before .before .before .before .before .before .before .before .before .before .before .before .before .before .before .before .before .before .before .before .before .before .before .before .before .before .before .before .before .before .before .before in
+    let load = c .before .before .before .before .before .before .before .before .before .before .before .before .before .before .before .before .before .before .before .before .before .before .before .load in
+    let clear-range = c .before .before .before .before .before .before .before .before .before .before .before .before .before .before .before .clear-range in
+    let finish = c .before .before .before .before .before .before .finish in
+    range-ran (start .pre .0) (start .pre .1 .0) (load .ensures) (clear-range .ensures) (finish .ensures)
+
+pub range-by-spec : {M : Type 1} → statement M
+range-by-spec =
+    tie.close
+    (tie.spec
+    load-requires
+    clear-range-requires
+    finish-requires
+    same-length
+    same-length-2
+    same-length-3
+    same-length-4
+    same-length-5
+    same-length-6
+    returns)

@@ -1,0 +1,63 @@
+use mathlib.Core.Path.{sym}
+use native.Mathlib.Omega.{arith}
+use Rattle.frame.specs.Frame.{zeros-length, zeros-at}
+use borrow.Author.Needs.{needs}
+use Rattle.range_scratch.proofs.range_scratch.Statement.{statement}
+use Rattle.range_scratch.proofs.range_scratch.Tie as tie
+use Rattle.range_scratch.proofs.range_scratch.Reads as reads
+use Rattle.range_scratch.proofs.range_scratch.Lts as lts
+use Rattle.range_scratch.proofs.range_by.Reads as range-by-reads
+
+array-borrow-prefix-t : tie.Need-array-borrow-prefix-t
+array-borrow-prefix-t c = search needs
+
+slice-aggregate-range-by : tie.Need-slice-aggregate-range-by
+slice-aggregate-range-by c =
+    sym (zeros-length 6192 6192 (omega arith))
+
+array-borrow-prefix-p : tie.Need-array-borrow-prefix-p
+array-borrow-prefix-p c = search needs
+
+slice-aggregate-range-by-2 : tie.Need-slice-aggregate-range-by-2
+slice-aggregate-range-by-2 c =
+    sym (zeros-length 4096 4096 (omega arith))
+
+array-borrow-prefix-s : tie.Need-array-borrow-prefix-s
+array-borrow-prefix-s c = search needs
+
+slice-aggregate-range-by-3 : tie.Need-slice-aggregate-range-by-3
+slice-aggregate-range-by-3 c =
+    sym (zeros-length 32768 32768 (omega arith))
+
+range-by-requires : tie.Need-range-by-requires
+range-by-requires c κs =
+    let start = c .before .before .before .before .before .before .before .before .before .before in
+    (start .pre .0, (record { chunks = zeros-length 6192 6192 (omega arith); clear = zeros-at 6192 6192; pieces = rw (zeros-length 4096 4096 (omega arith)) (omega arith); store = rw (zeros-length 32768 32768 (omega arith)) (omega arith) }, start .pre .1))
+
+same-length : tie.Need-same-length
+same-length c = search needs
+
+same-length-2 : tie.Need-same-length-2
+same-length-2 c = search needs
+
+same-length-3 : tie.Need-same-length-3
+same-length-3 c = search needs
+
+returns : tie.Need-returns
+returns c = search needs
+
+pub range-scratch-spec : {M : Type 1} → statement M
+range-scratch-spec =
+    tie.close
+    (tie.spec
+    array-borrow-prefix-t
+    slice-aggregate-range-by
+    array-borrow-prefix-p
+    slice-aggregate-range-by-2
+    array-borrow-prefix-s
+    slice-aggregate-range-by-3
+    range-by-requires
+    same-length
+    same-length-2
+    same-length-3
+    returns)

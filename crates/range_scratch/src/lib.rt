@@ -1,0 +1,66 @@
+// The clearing of a range as a call, on scratch tables.
+ghost use Prim.Native.Nat.{_<_};
+ghost use Rattle.memory.specs.WellFormed.{WellFormed};
+ghost use Rattle.frame.specs.Frame.{Scratch};
+ghost use Rattle.clear_range.specs.Range.{Marked, RangeRan};
+
+// Clears a range of a desk, with scratch tables lent.
+fn range_by(
+    source: &[u8],
+    chunks: &mut [u32],
+    pieces: &mut [u32],
+    store: &mut [u8],
+    t: &mut [u32],
+    p: &mut [u32],
+    s: &mut [u8],
+    a: u32,
+    b: u32,
+    text_at: u32,
+) -> u32
+    requires { ⌜ WellFormed (now source) (now chunks) (now pieces) (now store) ⌝ }
+    requires { ⌜ Scratch (now t) (now p) (now s) ⌝ }
+    requires { ⌜ a < b ⌝ }
+    requires { ⌜ Marked «text_at» ⌝ }
+    ensures { λ r. ⌜ RangeRan a b «text_at» (now (source .entry)) (now (chunks .entry)) (now (pieces .entry)) (now (store .entry))
+        (now (chunks .exit)) (now (pieces .exit)) (now (store .exit)) r ⌝ }
+{
+    frame::load(chunks, pieces, store, t, p, s);
+    let r = clear_range::clear_range(t, a, b, text_at);
+    frame::finish(t, p, s, chunks, pieces, store, r)
+}
+
+// The same with scratch tables of its own.
+pub fn range_scratch(
+    source: &[u8],
+    chunks: &mut [u32],
+    pieces: &mut [u32],
+    store: &mut [u8],
+    a: u32,
+    b: u32,
+    text_at: u32,
+) -> u32
+    requires { ⌜ WellFormed (now source) (now chunks) (now pieces) (now store) ⌝ }
+    requires { ⌜ a < b ⌝ }
+    requires { ⌜ Marked «text_at» ⌝ }
+    ensures { λ r. ⌜ RangeRan a b «text_at» (now (source .entry)) (now (chunks .entry)) (now (pieces .entry)) (now (store .entry))
+        (now (chunks .exit)) (now (pieces .exit)) (now (store .exit)) r ⌝ }
+{
+    let rows = 6192usize;
+    let words = 4096usize;
+    let size = 32768usize;
+    let mut t = [0u32; 6192];
+    let mut p = [0u32; 4096];
+    let mut s = [0u8; 32768];
+    range_by(
+        source,
+        chunks,
+        pieces,
+        store,
+        &mut t[..rows],
+        &mut p[..words],
+        &mut s[..size],
+        a,
+        b,
+        text_at,
+    )
+}
