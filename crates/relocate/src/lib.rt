@@ -8,69 +8,9 @@ ghost use Rattle.model.specs.Text.{all};
 ghost use Rattle.model.specs.Call.{relocate};
 ghost use Rattle.memory.specs.WellFormed.{WellFormed};
 ghost use Rattle.memory.specs.Calls.{Ran};
-ghost use Rattle.frame.specs.Frame.{Scratch};
-ghost use Rattle.relocate.specs.Tested.{Tested};
+ghost use Rattle.relocate_scratch.specs.Tested.{Tested};
 
-// `relocate` past its tests, with scratch tables lent.
-fn relocate_by(
-    source: &[u8],
-    chunks: &mut [u32],
-    pieces: &mut [u32],
-    store: &mut [u8],
-    t: &mut [u32],
-    p: &mut [u32],
-    s: &mut [u8],
-    a: u32,
-    b: u32,
-    to: u32,
-) -> u32
-    requires { ⌜ WellFormed (now source) (now chunks) (now pieces) (now store) ⌝ }
-    requires { ⌜ Scratch (now t) (now p) (now s) ⌝ }
-    requires { ⌜ Tested a b to (now source) (now chunks) (now pieces) (now store) ⌝ }
-    ensures { λ r. ⌜ Ran (relocate a b to) (now (source .entry)) (now (chunks .entry)) (now (pieces .entry)) (now (store .entry))
-        (now (chunks .exit)) (now (pieces .exit)) (now (store .exit)) r ⌝ }
-{
-    frame::load(chunks, pieces, store, t, p, s);
-    let r = relocate_rows::relocate_rows(t, a, b, to);
-    frame::finish(t, p, s, chunks, pieces, store, r)
-}
-
-// The same with scratch tables of its own.
-fn relocate_scratch(
-    source: &[u8],
-    chunks: &mut [u32],
-    pieces: &mut [u32],
-    store: &mut [u8],
-    a: u32,
-    b: u32,
-    to: u32,
-) -> u32
-    requires { ⌜ WellFormed (now source) (now chunks) (now pieces) (now store) ⌝ }
-    requires { ⌜ Tested a b to (now source) (now chunks) (now pieces) (now store) ⌝ }
-    ensures { λ r. ⌜ Ran (relocate a b to) (now (source .entry)) (now (chunks .entry)) (now (pieces .entry)) (now (store .entry))
-        (now (chunks .exit)) (now (pieces .exit)) (now (store .exit)) r ⌝ }
-{
-    let rows = 6192usize;
-    let words = 4096usize;
-    let size = 32768usize;
-    let mut t = [0u32; 6192];
-    let mut p = [0u32; 4096];
-    let mut s = [0u8; 32768];
-    relocate_by(
-        source,
-        chunks,
-        pieces,
-        store,
-        &mut t[..rows],
-        &mut p[..words],
-        &mut s[..size],
-        a,
-        b,
-        to,
-    )
-}
-
-// The same on the lent rows themselves where three chunks more are within the limit, so that 13 cannot arise; else on scratch rows.
+// `relocate` past its tests: on the lent rows themselves where three chunks more are within the limit, so that 13 cannot arise; else on scratch rows.
 fn relocate_with(
     source: &[u8],
     chunks: &mut [u32],
@@ -89,7 +29,7 @@ fn relocate_with(
     if z.start <= 509 {
         return relocate_rows::relocate_rows(chunks, a, b, to);
     }
-    relocate_scratch(source, chunks, pieces, store, a, b, to)
+    relocate_scratch::relocate_scratch(source, chunks, pieces, store, a, b, to)
 }
 
 // Whether three positions stand between characters.

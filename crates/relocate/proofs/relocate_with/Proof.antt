@@ -2,13 +2,13 @@ use mathlib.Core.Path.{ap}
 use native.Mathlib.Omega.{arith}
 use Rattle.rows.specs.Insert.{startF}
 use Rattle.in_place.specs.InPlace.{lent-roomy}
-use Rattle.relocate.proofs.Call.{lent-spanned, relocated-in-place}
+use Rattle.relocate_scratch.specs.Call.{lent-spanned, relocated-in-place}
 use borrow.Author.Needs.{needs}
 use Rattle.relocate.proofs.relocate_with.Statement.{statement}
 use Rattle.relocate.proofs.relocate_with.Tie as tie
 use Rattle.relocate.proofs.relocate_with.Reads as reads
 use Rattle.relocate.proofs.relocate_with.Lts as lts
-use Rattle.relocate.proofs.relocate_scratch.Reads as relocate-scratch-reads
+use Rattle.relocate_scratch.proofs.relocate_scratch.Reads as relocate-scratch-reads
 use Rattle.relocate_rows.proofs.relocate_rows.Reads as relocate-rows-reads
 use Rattle.table.proofs.get_row.Reads as get-row-reads
 

@@ -25,7 +25,7 @@ use Rattle.in_place.specs.InPlace.{ran-rows}
 use Rattle.split.specs.Lift.{source-of}
 use Rattle.split.specs.Cuts.{formed-spans, loaded-spans}
 use Rattle.relocate_rows.specs.Relocated.{Spanned, Movable, move-step, RelocateDone}
-use Rattle.relocate.specs.Tested.{Tested}
+use Rattle.relocate_scratch.specs.Tested.{Tested}
 
 -- ── the steps, test by test ──
 module _ (a b to : ℕ) (m : MagicString) where

@@ -2,11 +2,11 @@ use mathlib.Core.Path.{sym}
 use native.Mathlib.Omega.{arith}
 use Rattle.frame.specs.Frame.{zeros-length, zeros-at}
 use borrow.Author.Needs.{needs}
-use Rattle.relocate.proofs.relocate_scratch.Statement.{statement}
-use Rattle.relocate.proofs.relocate_scratch.Tie as tie
-use Rattle.relocate.proofs.relocate_scratch.Reads as reads
-use Rattle.relocate.proofs.relocate_scratch.Lts as lts
-use Rattle.relocate.proofs.relocate_by.Reads as relocate-by-reads
+use Rattle.relocate_scratch.proofs.relocate_scratch.Statement.{statement}
+use Rattle.relocate_scratch.proofs.relocate_scratch.Tie as tie
+use Rattle.relocate_scratch.proofs.relocate_scratch.Reads as reads
+use Rattle.relocate_scratch.proofs.relocate_scratch.Lts as lts
+use Rattle.relocate_scratch.proofs.relocate_by.Reads as relocate-by-reads
 
 array-borrow-prefix-t : tie.Need-array-borrow-prefix-t
 array-borrow-prefix-t c = search needs

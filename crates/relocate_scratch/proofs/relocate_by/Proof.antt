@@ -1,11 +1,11 @@
 use native.Mathlib.Omega.{arith}
 use Rattle.frame.specs.Frame.{loaded-roomy}
-use Rattle.relocate.proofs.Call.{loaded-spanned, relocated-readable, relocated}
+use Rattle.relocate_scratch.specs.Call.{loaded-spanned, relocated-readable, relocated}
 use borrow.Author.Needs.{needs}
-use Rattle.relocate.proofs.relocate_by.Statement.{statement}
-use Rattle.relocate.proofs.relocate_by.Tie as tie
-use Rattle.relocate.proofs.relocate_by.Reads as reads
-use Rattle.relocate.proofs.relocate_by.Lts as lts
+use Rattle.relocate_scratch.proofs.relocate_by.Statement.{statement}
+use Rattle.relocate_scratch.proofs.relocate_by.Tie as tie
+use Rattle.relocate_scratch.proofs.relocate_by.Reads as reads
+use Rattle.relocate_scratch.proofs.relocate_by.Lts as lts
 use Rattle.frame.proofs.finish.Reads as finish-reads
 use Rattle.frame.proofs.load.Reads as load-reads
 use Rattle.relocate_rows.proofs.relocate_rows.Reads as relocate-rows-reads

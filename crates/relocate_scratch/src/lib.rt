@@ -1,0 +1,65 @@
+// `relocate` past its tests, on scratch tables.
+ghost use Rattle.model.specs.Call.{relocate};
+ghost use Rattle.memory.specs.WellFormed.{WellFormed};
+ghost use Rattle.memory.specs.Calls.{Ran};
+ghost use Rattle.frame.specs.Frame.{Scratch};
+ghost use Rattle.relocate_scratch.specs.Tested.{Tested};
+
+// `relocate` past its tests, with scratch tables lent.
+fn relocate_by(
+    source: &[u8],
+    chunks: &mut [u32],
+    pieces: &mut [u32],
+    store: &mut [u8],
+    t: &mut [u32],
+    p: &mut [u32],
+    s: &mut [u8],
+    a: u32,
+    b: u32,
+    to: u32,
+) -> u32
+    requires { ⌜ WellFormed (now source) (now chunks) (now pieces) (now store) ⌝ }
+    requires { ⌜ Scratch (now t) (now p) (now s) ⌝ }
+    requires { ⌜ Tested a b to (now source) (now chunks) (now pieces) (now store) ⌝ }
+    ensures { λ r. ⌜ Ran (relocate a b to) (now (source .entry)) (now (chunks .entry)) (now (pieces .entry)) (now (store .entry))
+        (now (chunks .exit)) (now (pieces .exit)) (now (store .exit)) r ⌝ }
+{
+    frame::load(chunks, pieces, store, t, p, s);
+    let r = relocate_rows::relocate_rows(t, a, b, to);
+    frame::finish(t, p, s, chunks, pieces, store, r)
+}
+
+// The same with scratch tables of its own.
+pub fn relocate_scratch(
+    source: &[u8],
+    chunks: &mut [u32],
+    pieces: &mut [u32],
+    store: &mut [u8],
+    a: u32,
+    b: u32,
+    to: u32,
+) -> u32
+    requires { ⌜ WellFormed (now source) (now chunks) (now pieces) (now store) ⌝ }
+    requires { ⌜ Tested a b to (now source) (now chunks) (now pieces) (now store) ⌝ }
+    ensures { λ r. ⌜ Ran (relocate a b to) (now (source .entry)) (now (chunks .entry)) (now (pieces .entry)) (now (store .entry))
+        (now (chunks .exit)) (now (pieces .exit)) (now (store .exit)) r ⌝ }
+{
+    let rows = 6192usize;
+    let words = 4096usize;
+    let size = 32768usize;
+    let mut t = [0u32; 6192];
+    let mut p = [0u32; 4096];
+    let mut s = [0u8; 32768];
+    relocate_by(
+        source,
+        chunks,
+        pieces,
+        store,
+        &mut t[..rows],
+        &mut p[..words],
+        &mut s[..size],
+        a,
+        b,
+        to,
+    )
+}
