@@ -4,7 +4,7 @@ use native.Mathlib.Omega.{arith}
 use native.Mathlib.Decide.{ℕ-discrete}
 use mathlib.Core.Path.{_≡_, refl, ap, ap₂, sym, _∙_}
 use mathlib.Core.Bool.{Bool, cond}
-use mathlib.Core.List.{List, [], _∷_, map}
+use mathlib.Core.List.{List, [], _∷_, map, map-append}
 use mathlib.Core.Option.{Option, some}
 use mathlib.Core.Logic.{_⊎_, inl, inr}
 use lib.Dec.{eqb}
@@ -12,7 +12,6 @@ use borrow.Author.Tests.{eq-eqb, ne-eqb}
 use Rattle.utf8.specs.Chars.{All, nil, cons}
 use Rattle.model.specs.Text.{Text}
 use Rattle.model.specs.Chunk.{Span, Texts, Chunk, bare, edit, start-of, end-of}
-use Rattle.closed_forms.specs.Lists.{map-append}
 use Rattle.closed_forms.specs.Plan.{End, Plan, nothing, clear, replace, insert-left, insert-right, insert-head, insert-tail, move, cuts, split, cut, cut-all, add-intro, add-outro, act, acted}
 use Rattle.closed_forms.specs.Cuts.{Contains, dec-contains, split-in, split-out, ends-by, starts-from, Aligned, aligned-halves, cut-keeps}
 use Rattle.closed_forms.specs.Spans.{Inside, inside-true, inside-false, dec-inside}

@@ -2,22 +2,21 @@
 use Prim.Native.Nat.{ℕ, zero, suc, _-_, _≤_, _<_}
 use native.Mathlib.Omega.{arith}
 use native.Mathlib.Decide.{decLt, ℕ-discrete}
-use mathlib.Core.Path.{_≡_, refl, ap, sym, subst}
+use mathlib.Core.Path.{_≡_, refl, ap, sym}
 use mathlib.Core.Bool.{Bool, true, false, cond}
 use mathlib.Core.List.{List, [], _∷_}
 use mathlib.Core.Option.{Option, none, some}
 use lib.Dec.{eqb}
 use lib.ListN.{length}
 use borrow.Author.Tests.{eq-eqb, ne-eqb, lt-ltb, le-ltb, le-leb}
-use Rattle.utf8.specs.Rfc3629.{between}
 use Rattle.utf8.specs.Texts.{utf8-nil}
 use Rattle.utf8.specs.Chars.{All, nil, cons}
 use Rattle.model.specs.Text.{Text, sum}
 use Rattle.model.specs.Chunk.{is-filled}
 use Rattle.model.specs.Call.{Edit, remove, update-with, reset, append-left, append-right, prepend-left, prepend-right, append, prepend, relocate, trim, trim-start, trim-end, trim-lines, indent-with, texts, positions}
-use Rattle.model.specs.WellFormed.{Valid, ValidReplacement}
-use Rattle.closed_forms.specs.Lists.{clash, first-of, rest-of, all-of, all-map}
-use Rattle.closed_forms.specs.Plan.{listed, End, front, back, Plan, nothing, clear, replace, insert-left, insert-right, insert-head, insert-tail, move, on-left, on-right, plan, cuts}
+use Rattle.model.specs.WellFormed.{ValidReplacement}
+use Rattle.model.specs.Lists.{clash, first-of, rest-of, all-of, all-map}
+use Rattle.closed_forms.specs.Plan.{listed, End, front, back, Plan, nothing, clear, replace, insert-head, insert-tail, move, on-left, on-right, plan, cuts}
 use Rattle.any_order.specs.Claim.{Spot, byte, head, tail, left-of, right-of, Bytes, Reach, IsMove, InReplaced, Wide, new-pieces, new-bytes, Disjoint, FreeOf}
 use Rattle.any_order.specs.Acts.{OutsideReplaced, PlanByte}
 use Rattle.any_order.specs.Pair.{PlanHead, PlanTail, PlanMove, PlansApart, WellPlanned}
@@ -39,17 +38,6 @@ pub record PairPremises (n : ℕ) (x y : Edit) : Type 0 where
 pub pair-sym : {n : ℕ} {x y : Edit} → PairPremises n x y → PairPremises n y x
 pair-sym d = record { reach = λ z h k. d .reach z k h; one-move = λ h k. d .one-move k h; first-free = d .second-free; second-free = d .first-free }
 
--- the texts of a plan are valid
-abbrev pub TextsValid : Plan → Type 0
-TextsValid nothing = Unit {0}
-TextsValid (clear a b r) = ValidReplacement r
-TextsValid (replace a b t o) = Valid t
-TextsValid (insert-left p w t) = Valid t
-TextsValid (insert-right p w t) = Valid t
-TextsValid (insert-head w t) = Valid t
-TextsValid (insert-tail w t) = Valid t
-TextsValid (move a b to) = Unit {0}
-
 -- no position of qs lies strictly inside the range from a to b
 abbrev NoneInside : ℕ → ℕ → List ℕ → Type 0
 NoneInside a b qs = All (λ q. a < q → q < b → ⊥) qs
@@ -67,9 +55,6 @@ pub record Implements (n : ℕ) (e : Edit) (P : Plan) : Type 0 where
   pub outside-replaced : (qs : List ℕ) → ((a b : ℕ) → ((z : Spot) → Bytes a b z → Reach n e z) → ((p : ℕ) → (a < p) × (p < b) → InReplaced e p) → NoneInside a b qs) → All (OutsideReplaced P) qs
   pub pieces : plan-pieces P ≤ new-pieces e
   pub sizes : plan-bytes P ≤ new-bytes e
-  -- it cuts at positions of e
-  pub edges : (source : Text) → All (λ p. between source p ≡ true) (positions e) → All (λ p. between source p ≡ true) (cuts P)
-  pub valid : All Valid (texts e) → TextsValid P
 
 -- a range of a byte or more that is cut at both ends
 range-free : (n a b c d : ℕ) → c < d → ((z : Spot) → Bytes a b z → Bytes c d z → ⊥) → NoneInside a b (c ∷ d ∷ [])
@@ -89,8 +74,6 @@ clear-implements n e a b r h k f v reach ps = record {
   outside-replaced = λ qs g. all-of (λ q. tt) qs;
   pieces = omega arith;
   sizes = omega arith;
-  edges = λ source g. subst (All (λ p. between source p ≡ true)) ps g;
-  valid = λ g. v;
 }
 
 replace-implements : (n a b : ℕ) (t : Text) (o : Bool) → a < b → b ≤ n → Implements n (update-with a b t o) (replace a b t o)
@@ -105,8 +88,6 @@ replace-implements n a b t o h k = record {
   outside-replaced = λ qs g. g a b (λ z i. i) (λ p i. i);
   pieces = omega arith;
   sizes = omega arith;
-  edges = λ source g. g;
-  valid = λ g. first-of g;
 }
 
 head-implements : (n : ℕ) (e : Edit) (w : End) (t : Text) → Reach n e head → 1 ≤ new-pieces e → texts e ≡ t ∷ [] → Implements n e (insert-head w t)
@@ -121,8 +102,6 @@ head-implements n e w t reach k ts = record {
   outside-replaced = λ qs g. all-of (λ q. tt) qs;
   pieces = k;
   sizes = omega (arith, ap (sum length) ts);
-  edges = λ source g. nil;
-  valid = λ g. first-of (subst (All Valid) ts g);
 }
 
 tail-implements : (n : ℕ) (e : Edit) (w : End) (t : Text) → Reach n e tail → 1 ≤ new-pieces e → texts e ≡ t ∷ [] → Implements n e (insert-tail w t)
@@ -137,8 +116,6 @@ tail-implements n e w t reach k ts = record {
   outside-replaced = λ qs g. all-of (λ q. tt) qs;
   pieces = k;
   sizes = omega (arith, ap (sum length) ts);
-  edges = λ source g. nil;
-  valid = λ g. first-of (subst (All Valid) ts g);
 }
 
 -- an insertion of either end
@@ -158,8 +135,6 @@ module _ (n : ℕ) (e : Edit) (p : ℕ) (w : End) (t : Text) (some-source : 0 < 
         outside-replaced = λ qs g. all-of (λ q. tt) qs;
         pieces = k;
         sizes = omega (arith, ap (sum length) ts);
-        edges = λ source g. subst (All (λ p. between source p ≡ true)) ps g;
-        valid = λ g. first-of (subst (All Valid) ts g);
       })
 
   right-implements : ((z : Spot) → z ≡ right-of n p → Reach n e z) → Dec (p < n) → Implements n e (on-right n p w t)
@@ -175,8 +150,6 @@ module _ (n : ℕ) (e : Edit) (p : ℕ) (w : End) (t : Text) (some-source : 0 < 
         outside-replaced = λ qs g. all-of (λ q. tt) qs;
         pieces = k;
         sizes = omega (arith, ap (sum length) ts);
-        edges = λ source g. subst (All (λ p. between source p ≡ true)) ps g;
-        valid = λ g. first-of (subst (All Valid) ts g);
       })
   right-implements reach (no h) =
       let l : n ≤ p = omega arith in
@@ -194,8 +167,6 @@ nothing-implements n e = record {
   outside-replaced = λ qs g. all-of (λ q. tt) qs;
   pieces = omega arith;
   sizes = omega arith;
-  edges = λ source g. nil;
-  valid = λ g. tt;
 }
 
 move-implements : (n a b to : ℕ) → a ≤ n → b ≤ n → to ≤ n → Implements n (relocate a b to) (move a b to)
@@ -210,8 +181,6 @@ move-implements n a b to h k l = record {
   outside-replaced = λ qs g. all-of (λ q. tt) qs;
   pieces = omega arith;
   sizes = omega arith;
-  edges = λ source g. g;
-  valid = λ g. tt;
 }
 
 pub implements : (n : ℕ) (e : Edit) → 0 < n → EditPremises n e → Implements n e (plan n e)

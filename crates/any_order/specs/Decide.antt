@@ -15,7 +15,7 @@ use Rattle.model.specs.MagicString.{MagicString}
 use Rattle.model.specs.Limits.{Limits, piece-count, byte-count}
 use Rattle.model.specs.Call.{Edit, remove, update-with, reset, append-left, append-right, prepend-left, prepend-right, append, prepend, relocate, trim, trim-start, trim-end, trim-lines, indent-with, positions, run}
 use Rattle.model.specs.WellFormed.{WellFormed}
-use Rattle.closed_forms.specs.Lists.{both, and-left, and-right, clash, all-map, all-true, true-all}
+use Rattle.model.specs.Lists.{both, and-left, and-right, clash, all-map, all-true, true-all}
 use Rattle.closed_forms.specs.Plan.{listed}
 use Rattle.any_order.specs.Claim.{Pairs, Spot, byte, head, tail, left-of, right-of, Bytes, Reach, IsMove, InReplaced, Wide, most-cuts, new-pieces, new-bytes, Space, Disjoint, FreeOf, EditsApart, Premises}
 use Rattle.any_order.specs.Tests.{pairs, Zone, bytes, head-zone, tail-zone, no-zone, left-zone, right-zone, zone, meets, is-move, in-replaced, free-of, is-wide, edits-apart, each-alone, has-space, any-order-holds}

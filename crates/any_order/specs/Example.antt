@@ -19,7 +19,7 @@ use Rattle.model.specs.Reset as reset-rs
 use Rattle.model.specs.Limits.{full, within, judged}
 use Rattle.model.specs.Call.{Edit, remove, update-with, reset, append-left, append-right, prepend-left, prepend-right, append, prepend, relocate, refused-before, run}
 use Rattle.model.specs.WellFormed.{covers, WellFormed}
-use Rattle.closed_forms.specs.Spans.{covers-in, covers-out}
+use Rattle.model.specs.Spans.{covers-in, covers-out}
 use Rattle.any_order.specs.Claim.{Order, Premises, after, Conclusion}
 use Rattle.any_order.specs.Tests.{edits-apart, each-alone, has-space, any-order-holds}
 use Rattle.any_order.specs.Decide.{decide-premises}

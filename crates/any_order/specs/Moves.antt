@@ -4,7 +4,7 @@ use native.Mathlib.Omega.{arith}
 use native.Mathlib.Decide.{decLe, ℕ-discrete}
 use mathlib.Core.Path.{_≡_, refl, ap, ap₂, sym, _∙_}
 use mathlib.Core.Bool.{Bool, true, false, not, cond}
-use mathlib.Core.List.{List, [], _∷_, _++_, map, append-assoc, append-nil}
+use mathlib.Core.List.{List, [], _∷_, _++_, map, append-assoc, append-nil, map-append}
 use mathlib.Core.Logic.{_⊎_, inl, inr}
 use lib.Dec.{eqb}
 use borrow.Author.Tests.{eq-eqb, ne-eqb}
@@ -12,11 +12,12 @@ use Rattle.utf8.specs.Chars.{All, nil, cons}
 use Rattle.model.specs.Text.{sum}
 use Rattle.model.specs.Chunk.{Chunk, start-of, end-of}
 use Rattle.model.specs.Movement.{insert-before}
-use Rattle.closed_forms.specs.Lists.{bool-cases, first-of, rest-of, all-append, all-map, map-append, sum-append}
+use Rattle.model.specs.Lists.{bool-cases, first-of, rest-of, all-map}
 use Rattle.closed_forms.specs.Plan.{Plan, nothing, clear, replace, insert-left, insert-right, insert-head, insert-tail, move, cuts, split, cut, cut-all, inside, outside, acted, keep, rearrange}
 use Rattle.closed_forms.specs.Cuts.{Contains, dec-contains, split-in, split-out, ends-by, starts-from, cut-append, Aligned, aligned-halves, cut-keeps}
 use Rattle.closed_forms.specs.Spans.{Inside, inside-true, inside-false, dec-inside}
 use Rattle.closed_forms.specs.Together.{Tiles, Together, together-at, together-after, tiles-inside, keep-append, keep-every, keep-no, insert-skips}
+use Rattle.preservation.specs.Relocate.{insert-all, insert-sum}
 
 -- ── with other texts: the spans alone decide ──
 keep-acted : (f : ℕ → Bool) (P : Plan) (cs : List Chunk) → keep f (map (acted P) cs) ≡ map (acted P) (keep f cs)
@@ -86,14 +87,6 @@ module _ {Z : Chunk → Type 0} where
       go true h = cons z h
       go false h = h
 
-  insert-keeps : (to : ℕ) {range cs : List Chunk} → All Z range → All Z cs → All Z (insert-before to range cs)
-  insert-keeps to zr nil = zr
-  insert-keeps to {range} zr (cons {x = c} {xs = cs} z zs) = go (eqb (start-of c) to) (insert-keeps to zr zs)
-    where
-      go : (b : Bool) → All Z (insert-before to range cs) → All Z (cond b (range ++ (c ∷ cs)) (c ∷ insert-before to range cs))
-      go true h = all-append zr (cons z zs)
-      go false h = cons z h
-
   pub rearrange-keeps : (P : Plan) {cs : List Chunk} → All Z cs → All Z (rearrange P cs)
   unfolding rearrange
   rearrange-keeps nothing z = z
@@ -103,7 +96,7 @@ module _ {Z : Chunk → Type 0} where
   rearrange-keeps (insert-right p w t) z = z
   rearrange-keeps (insert-head w t) z = z
   rearrange-keeps (insert-tail w t) z = z
-  rearrange-keeps (move a b to) z = insert-keeps to (keep-keeps (inside a b) z) (keep-keeps (outside a b) z)
+  rearrange-keeps (move a b to) z = insert-all Z to (keep-keeps (inside a b) z) (keep-keeps (outside a b) z)
 
 -- a chunk that contains neither end of a range starts in it exactly if each byte of it lies in it
 halves-inside : (a b q : ℕ) (c : Chunk) → (Contains a c → ⊥) → (Contains b c → ⊥) → Contains q c → inside a b q ≡ inside a b (start-of c)
@@ -146,14 +139,6 @@ sum-parts w a b (c ∷ cs) = go (inside a b (start-of c)) (sum-parts w a b cs)
     go true ih = omega arith
     go false ih = omega arith
 
-sum-insert : (w : Chunk → ℕ) (to : ℕ) (range cs : List Chunk) → sum w (insert-before to range cs) ≡ sum w range + sum w cs
-sum-insert w to range [] = omega arith
-sum-insert w to range (c ∷ cs) = go (eqb (start-of c) to) (sum-insert w to range cs)
-  where
-    go : (b : Bool) → sum w (insert-before to range cs) ≡ sum w range + sum w cs → sum w (cond b (range ++ (c ∷ cs)) (c ∷ insert-before to range cs)) ≡ sum w range + (w c + sum w cs)
-    go true ih = sum-append w range (c ∷ cs)
-    go false ih = omega arith
-
 pub sum-rearrange : (w : Chunk → ℕ) (P : Plan) (cs : List Chunk) → sum w (rearrange P cs) ≡ sum w cs
 unfolding rearrange
 sum-rearrange w nothing cs = refl
@@ -163,7 +148,7 @@ sum-rearrange w (insert-left p v t) cs = refl
 sum-rearrange w (insert-right p v t) cs = refl
 sum-rearrange w (insert-head v t) cs = refl
 sum-rearrange w (insert-tail v t) cs = refl
-sum-rearrange w (move a b to) cs = sum-insert w to (keep (inside a b) cs) (keep (outside a b) cs) ∙ sum-parts w a b cs
+sum-rearrange w (move a b to) cs = insert-sum w to (keep (inside a b) cs) (keep (outside a b) cs) ∙ sum-parts w a b cs
 
 -- ── a range that stands together goes on doing so: after a cut ──
 tiles-cut : (q a b : ℕ) (ys : List Chunk) → Tiles a b ys → Tiles a b (cut q ys)

@@ -9,7 +9,7 @@ use Rattle.utf8.specs.Chars.{All, nil, cons}
 use Rattle.model.specs.Text.{Text}
 use Rattle.model.specs.Chunk.{Chunk, is-filled}
 use Rattle.model.specs.MagicString.{MagicString}
-use Rattle.closed_forms.specs.Lists.{all-map₂, map-keeps}
+use Rattle.model.specs.Lists.{all-map₂, map-keeps}
 use Rattle.closed_forms.specs.Plan.{Plan, nothing, clear, replace, insert-left, insert-right, insert-head, insert-tail, move, cuts, cut-all, act, acted, rearrange, on-head, on-tail, new-chunks, apply, in-order}
 use Rattle.closed_forms.specs.Cuts.{Contains, ends-by, Aligned, aligned-halves, cut-all-keeps, cut-all-aligned, cut-all-cut-all, Splittable, splittable-halves}
 use Rattle.closed_forms.specs.Spans.{Proper}

@@ -2,19 +2,18 @@
 use Prim.Native.Nat.{ℕ, suc, _+_, _≤_, _<_}
 use native.Mathlib.Omega.{arith}
 use mathlib.Core.Path.{_≡_, refl, ap, _∙_}
-use mathlib.Core.Bool.{Bool, true, false, cond}
+use mathlib.Core.Bool.{true}
 use mathlib.Core.List.{List, [], _∷_}
 use lib.Dec.{leb}
 use lib.ListN.{length}
 use borrow.Author.Tests.{le-leb}
-use Rattle.utf8.specs.Rfc3629.{utf8, between}
 use Rattle.utf8.specs.Chars.{All, nil, cons}
-use Rattle.model.specs.Text.{all, sum}
+use Rattle.model.specs.Text.{sum}
 use Rattle.model.specs.MagicString.{MagicString, ok}
 use Rattle.model.specs.Limits.{Limits, piece-count, byte-count, within}
-use Rattle.model.specs.Call.{Edit, options-valid, texts, positions, refused-before, run}
-use Rattle.model.specs.WellFormed.{Valid, Formed}
-use Rattle.closed_forms.specs.Lists.{both, and-left, first-of, rest-of, all-map, all-map₂, all-true, sum-part}
+use Rattle.model.specs.Call.{Edit, positions, refused-before, run}
+use Rattle.model.specs.WellFormed.{Formed}
+use Rattle.model.specs.Lists.{both, and-left, first-of, rest-of, all-map, all-map₂, sum-part}
 use Rattle.closed_forms.specs.Plan.{listed, Plan, cuts, apply}
 use Rattle.closed_forms.specs.Cuts.{Splittable, cuttable-of, cuttable-true}
 use Rattle.closed_forms.specs.Accepted.{plan-of}
@@ -23,23 +22,9 @@ use Rattle.any_order.specs.Claim.{IsMove, Wide, new-pieces, new-bytes, S
 use Rattle.any_order.specs.Pair.{PlansApart, splittable-after, order-after}
 use Rattle.any_order.specs.SpaceLaws.{more-chunks, more-pieces, more-bytes}
 use Rattle.any_order.specs.Bridge.{EditPremises, PairPremises, Implements, implements, plans-apart}
-use Rattle.any_order.specs.Kept.{formed-proper, formed-once, formed-after}
+use Rattle.any_order.specs.Kept.{formed-proper, formed-once, formed-run}
 
--- ── 1 and 3: texts are valid, positions between characters ──
-record ArgumentsValid (m : MagicString) (e : Edit) : Type 0 where
-  texts-valid : All Valid (texts e)
-  positions-between : All (λ p. between (m .source) p ≡ true) (positions e)
-
-arguments-valid : (m : MagicString) (e : Edit) → refused-before m e ≡ 0 → ArgumentsValid m e
-unfolding refused-before
-arguments-valid m e h = go (options-valid e) (all utf8 (texts e)) refl (all (between (m .source)) (positions e)) refl h
-  where
-    go : (o t : Bool) → all utf8 (texts e) ≡ t → (p : Bool) → all (between (m .source)) (positions e) ≡ p → _≡_ {A = ℕ} (cond o (cond t (cond p 0 3) 1) 15) 0 → ArgumentsValid m e
-    go true true a true b z = record { texts-valid = all-true utf8 (texts e) a; positions-between = all-true (between (m .source)) (positions e) b }
-    go true true a false b z = absurd (omega arith)
-    go true false a p b z = absurd (omega arith)
-    go false t a p b z = absurd (omega arith)
-
+-- ── 15, 1 and 3 ──
 -- they speak of the source alone
 before-kept : (P : Plan) (m : MagicString) (e : Edit) → refused-before (apply P m) e ≡ refused-before m e
 unfolding refused-before
@@ -77,12 +62,6 @@ module _ (m : MagicString) (e : Edit) (f : Formed m) (some-source : 0 < length (
   bytes-grow = omega (arith, more-bytes (length (m .source)) (plan-of e m) (implemented .well) m (formed-once f) (formed-proper f some-source) sp, implemented .sizes)
 
 -- ── one step ──
-pub formed-run : (k : Limits) (m : MagicString) (e : Edit) → Formed m → 0 < length (m .source) → EditPremises (length (m .source)) e → RunAccepted k e m → Formed (apply (plan-of e m) m)
-formed-run k m e f some-source s g =
-    let v : ArgumentsValid m e = arguments-valid m e (g .before) in
-    let c : Implements (length (m .source)) e (plan-of e m) = implements (length (m .source)) e some-source s in
-    formed-after (plan-of e m) f some-source (c .edges (m .source) (v .positions-between)) (c .valid (v .texts-valid))
-
 -- an edit that is accepted alone is accepted after another one
 accepted-after : (k : Limits) (m : MagicString) (e x : Edit) → Formed m → 0 < length (m .source) → EditPremises (length (m .source)) e → EditPremises (length (m .source)) x → PairPremises (length (m .source)) e x
     → RunAccepted k e m → RunAccepted k x m
@@ -96,7 +75,7 @@ accepted-after k m e x f some-source se sx d ge gx kc kp kb =
     let v : Implements n x Q = implements n x some-source sx in
     let PQ : PlansApart P Q = plans-apart u v d in
     let sp : All (Splittable (cuts Q)) (apply P m .chunks) = splittable-after n P (u .well) (PQ .first-outside) (cuttable-of (cuts Q) (m .chunks) (gx .accepted .cuts-made)) in
-    let f′ : Formed (apply P m) = formed-run k m e f some-source se ge in
+    let f′ : Formed (apply P m) = formed-run k m e f (se .listed) ge in
     record {
       before = before-kept P m x ∙ gx .before;
       accepted = record {
@@ -150,7 +129,7 @@ step k m e L p =
     let gc : length (apply P m .chunks) ≤ length (m .chunks) + 3 = chunks-grow m e f (p .apart .source-not-empty) se sp in
     let gp : piece-count (apply P m) ≤ piece-count m + new-pieces e = pieces-grow m e f (p .apart .source-not-empty) se sp in
     let gb : byte-count (apply P m) ≤ byte-count m + new-bytes e = bytes-grow m e f (p .apart .source-not-empty) se sp in
-    let f′ : Formed (apply P m) = formed-run k m e f (p .apart .source-not-empty) se ge in
+    let f′ : Formed (apply P m) = formed-run k m e f (se .listed) ge in
     let room : Space k (apply P m) L = record { chunks = omega (arith, p .space .chunks); pieces = omega (arith, p .space .pieces); bytes = omega (arith, p .space .bytes) } in
     let one : (x : Edit) → EditPremises n x × (run k x m .number ≡ 0) → PairPremises n e x × (new-pieces x ≤ sum new-pieces L) × (new-bytes x ≤ sum new-bytes L) × (1 ≤ length L) → run k x (apply P m) .number ≡ 0 =
     λ x h q. ap (λ r. r .number) (accepted-run k x (apply P m) (h .0 .listed) f′

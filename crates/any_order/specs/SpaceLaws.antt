@@ -14,10 +14,11 @@ use Rattle.model.specs.Chunk.{Chunk, start-of, is-filled}
 use Rattle.model.specs.MagicString.{MagicString}
 use Rattle.model.specs.Limits.{chunk-pieces, chunk-bytes, replacement-bytes, piece-count, byte-count}
 use Rattle.model.specs.WellFormed.{covers}
-use Rattle.closed_forms.specs.Lists.{clash, first-of, rest-of, all-of, all-map}
+use Rattle.model.specs.Lists.{clash, first-of, rest-of, all-of, all-map}
+use Rattle.model.specs.Spans.{covers-in}
 use Rattle.closed_forms.specs.Plan.{End, front, back, Plan, nothing, clear, replace, insert-left, insert-right, insert-head, insert-tail, move, cuts, split, cut, cut-all, add, acted, rearrange, on-head, on-tail, new-chunks, apply}
 use Rattle.closed_forms.specs.Cuts.{Contains, dec-contains, split-in, split-out, cut-keeps, Splittable, splittable-halves}
-use Rattle.closed_forms.specs.Spans.{Inside, Proper, covers-in, sum-cut, covers-cut, covers-cut-all, covers-acted, Once}
+use Rattle.closed_forms.specs.Spans.{Inside, Proper, sum-cut, covers-cut, covers-cut-all, covers-acted, Once}
 use Rattle.any_order.specs.Acts.{Touch, dec-touch, act-out, act-clear, act-replace, act-left, act-right}
 use Rattle.any_order.specs.Moves.{sum-rearrange}
 use Rattle.any_order.specs.Pair.{WellPlanned, proper-cut-all}

@@ -10,7 +10,7 @@ use Rattle.model.specs.MagicString.{MagicString, ok}
 use Rattle.model.specs.Limits.{Limits}
 use Rattle.model.specs.Call.{Edit, run}
 use Rattle.model.specs.WellFormed.{WellFormed}
-use Rattle.closed_forms.specs.Lists.{first-of, rest-of}
+use Rattle.model.specs.Lists.{first-of, rest-of}
 use Rattle.closed_forms.specs.Plan.{apply}
 use Rattle.closed_forms.specs.Accepted.{plan-of}
 use Rattle.any_order.specs.Claim.{Pairs, Order, same, next, swap, then, new-pieces, new-bytes, EditsApart, Premises, after, AllAccepted, shown, AnyOrder}

@@ -8,6 +8,16 @@ use Rattle.model.specs.Call.{remove, update-with, append-left, append-right, re
 use Rattle.cases.specs.Case.{Case}
 use Rattle.cases.specs.Letters.{a, b, c, d, e, f, x, X, Z, lf, tab, space, gives, opened, edited, output, sliced, last-is}
 
+-- F E's move, append_left 1 "", then that update: 7, "adc"
+abbrev pub case-f : Case
+case-f =
+    record {
+      steps =
+          opened (a ∷ b ∷ c ∷ d ∷ []) 0 ∷ edited (relocate 2 3 4) 0 ∷ edited (append-left 1 []) 0 ∷
+          edited (update-with 0 3 (X ∷ []) false) 7 ∷ output (a ∷ d ∷ c ∷ []) ∷ [];
+      spans = (0, 1) ∷ (1, 2) ∷ (3, 4) ∷ (2, 3) ∷ [];
+    }
+
 unfoldable pub marked : List Case
 marked =
     -- A "abc", relocate 0,2,3: "cab". B after A, relocate 1,3,0: 9, "cab", cut at 1 stays
@@ -33,13 +43,8 @@ marked =
           edited (update-with 0 3 (X ∷ []) false) 7 ∷ output (a ∷ b ∷ d ∷ c ∷ []) ∷ [];
       spans = (0, 2) ∷ (3, 4) ∷ (2, 3) ∷ [];
     } ∷
-    -- F E's move, append_left 1 "", then that update: 7, "adc"
-    record {
-      steps =
-          opened (a ∷ b ∷ c ∷ d ∷ []) 0 ∷ edited (relocate 2 3 4) 0 ∷ edited (append-left 1 []) 0 ∷
-          edited (update-with 0 3 (X ∷ []) false) 7 ∷ output (a ∷ d ∷ c ∷ []) ∷ [];
-      spans = (0, 1) ∷ (1, 2) ∷ (3, 4) ∷ (2, 3) ∷ [];
-    } ∷
+    -- F
+    case-f ∷
     -- G two spaces, append_right 2 " x", trim: " x"
     record {
       steps = opened (space ∷ space ∷ []) 0 ∷ edited (append-right 2 (space ∷ x ∷ [])) 0 ∷ edited (trim 0) 0 ∷ output (space ∷ x ∷ []) ∷ [];

@@ -7,6 +7,7 @@ use lib.ListN.{replicate}
 use Rattle.model.specs.Call.{remove, update-with, reset, append-left, relocate, trim, report, to-string}
 use Rattle.cases.specs.Case.{Case}
 use Rattle.cases.specs.Letters.{a, b, c, d, e, f, X, Z, gives, opened, edited, output, slice-refused}
+use Rattle.cases.specs.Marked.{case-f}
 
 -- from the fresh desk "abc", and that nothing is changed
 abbrev pub abc : Case → Case
@@ -30,12 +31,7 @@ numbers =
       spans = (0, 4) ∷ (4, 6) ∷ [];
     } ∷
     -- 7 replace across a moved edge: case F
-    record {
-      steps =
-          opened (a ∷ b ∷ c ∷ d ∷ []) 0 ∷ edited (relocate 2 3 4) 0 ∷ edited (append-left 1 []) 0 ∷
-          edited (update-with 0 3 (X ∷ []) false) 7 ∷ output (a ∷ d ∷ c ∷ []) ∷ [];
-      spans = (0, 1) ∷ (1, 2) ∷ (3, 4) ∷ (2, 3) ∷ [];
-    } ∷
+    case-f ∷
     -- 8 start ≤ `to` ≤ end: "abc", relocate 1,1,1
     abc (record { steps = edited (relocate 1 1 1) 8 ∷ output (a ∷ b ∷ c ∷ []) ∷ []; spans = (0, 3) ∷ [] }) ∷
     -- 9 moved range not together: case B

@@ -4,21 +4,22 @@ use mathlib.Core.Bool.{true, false, _&&_, cond}
 use mathlib.Core.List.{List, [], _∷_, map}
 use mathlib.Core.Option.{none, some}
 use mathlib.Core.Logic.{_⊎_, inl, inr, ⊎-elim}
-use Prim.Native.Nat.{ℕ, zero, suc, _+_, _≤_, _<_}
+use Prim.Native.Nat.{ℕ, _+_, _≤_, _<_}
 use native.Mathlib.Omega.{arith}
 use lib.Dec.{ltb, leb, eqb}
 use lib.ListN.{length}
 use Rattle.utf8.specs.Chars.{All, nil, cons}
 use Rattle.table.specs.Order.{Entry, entries, countOf}
 use Rattle.model.specs.Chunk.{Chunk, Texts, bare}
-use Rattle.model.specs.MagicString.{MagicString, Result, ok, err, and-then, with-chunks}
+use Rattle.model.specs.MagicString.{ok, err, and-then, with-chunks}
 use Rattle.model.specs.Movement.{change-by-position, change-range}
 use Rattle.model.specs.Call.{Edit, steps, refused-before}
+use Rattle.model.specs.Lists.{first-of}
 use Rattle.memory.specs.Layout.{NONE, replacementOf, chunkOf, magicStringOf}
 use Rattle.memory.specs.WellFormed.{ReplacementIn, EntryIn, Readable, WellFormed}
 use Rattle.memory.specs.Calls.{idle, may-write, Ran}
-use Rattle.closed_forms.specs.Lists.{first-of}
-use Rattle.closed_forms.specs.Lists as lists
+use Rattle.memory.specs.Laws.{chunks-of, no-run, no-run-in}
+use Rattle.model.specs.Lists as lists
 use Rattle.closed_forms.specs.Cuts.{Contains, cut-all-aligned}
 use Rattle.closed_forms.specs.ByPosition.{in-range, by-position}
 use Rattle.rows.specs.Insert.{runsOf, startF}
@@ -30,7 +31,7 @@ use Rattle.frame.specs.Front.{bool-elim}
 use Rattle.frame.specs.Loaded.{Loaded}
 use Rattle.frame.specs.Frame.{Scratch, Did, did-loaded, loaded-readable, ran-finished, may-write-0, may-write-6}
 use Rattle.in_place.specs.InPlace.{ran-rows}
-use Rattle.split.specs.Lift.{Reordered, still-readable, with-entries, chunks-of, no-run, no-run-in}
+use Rattle.split.specs.Lift.{Reordered, still-readable, with-entries}
 use Rattle.split.specs.Cuts.{Spans, CutsDone, cuts-spans, formed-spans, loaded-spans}
 
 -- what the chunks of the range get: an empty replacement, at the place v, or none
@@ -82,10 +83,6 @@ range-refused a b v t t' r d n =
       count = omega (arith, d .count);
       kept = d .kept;
     }
-  where
-    stop : (r : ℕ) (m : MagicString) (g : MagicString → Result) → (r ≡ 0 → ⊥) → and-then (err r m) g ≡ err r m
-    stop zero m g n = absurd (n refl)
-    stop (suc r) m g n = refl
 
 -- the place of an empty text: 0, or the mark for none
 abbrev pub Marked : ℕ → Type 0

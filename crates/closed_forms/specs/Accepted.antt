@@ -14,7 +14,7 @@ use Rattle.model.specs.Chunk.{Chunk}
 use Rattle.model.specs.MagicString.{MagicString, ok, err, with-chunks}
 use Rattle.model.specs.Call.{Edit, update-with, steps}
 use Rattle.model.specs.WellFormed.{Formed}
-use Rattle.closed_forms.specs.Lists.{clash}
+use Rattle.model.specs.Lists.{clash}
 use Rattle.closed_forms.specs.Plan.{Plan, nothing, clear, replace, insert-left, insert-right, insert-head, insert-tail, move, plan, refused-first, cut-all, cuttable, cut-until-refused, cuts, in-order, order-number, stands-together, left-over, ends-past, apply, closed-plan, unless-refused, closed}
 use Rattle.closed_forms.specs.Steps.{steps-are-closed}
 

@@ -11,7 +11,7 @@ use Rattle.model.specs.Text.{Text}
 use Rattle.model.specs.Chunk.{Texts, Chunk, bare}
 use Rattle.model.specs.MagicString.{MagicString, Result, ok, with-chunks, with-intro, with-outro, by-start, by-end, found, at-start, at-end, by-start-mut, by-end-mut}
 use Rattle.model.specs.Movement.{change-by-position, change-range}
-use Rattle.closed_forms.specs.Lists.{bool-cases, all-of, all-map, map-none, first-of}
+use Rattle.model.specs.Lists.{bool-cases, all-of, all-map, map-none, first-of}
 use Rattle.closed_forms.specs.Plan.{nothing, clear, insert-left, insert-right, insert-head, insert-tail, End, on-left, on-right, chunk-starts, chunk-ends, cut, cuts, add, add-intro, add-outro, act, acted, rearrange, on-head, on-tail, in-order, ends-past, closed-plan}
 use Rattle.closed_forms.specs.Cuts.{Contains, cut-aligned, cut-all-aligned, cut-none}
 use Rattle.closed_forms.specs.Spans.{Cover}

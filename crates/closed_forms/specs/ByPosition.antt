@@ -16,10 +16,11 @@ use Rattle.model.specs.Chunk.{Texts, Chunk, chunk-of, with-texts, start-of, end
 use Rattle.model.specs.MagicString.{by-start, by-end, found, at-start, at-end}
 use Rattle.model.specs.Movement.{change-by-position}
 use Rattle.model.specs.WellFormed.{covers}
-use Rattle.closed_forms.specs.Lists.{clash, rest-of, all-of, all-map, all-map₂, map-keeps, map-same, map-none}
+use Rattle.model.specs.Lists.{clash, rest-of, all-of, all-map, all-map₂, map-keeps, map-same, map-none}
+use Rattle.model.specs.Spans.{covers-in, covers-out}
 use Rattle.closed_forms.specs.Plan.{inside, chunk-starts, chunk-ends}
 use Rattle.closed_forms.specs.Cuts.{Contains, ends-by, starts-from}
-use Rattle.closed_forms.specs.Spans.{Inside, inside-true, inside-false, dec-inside, Proper, covers-in, covers-out, covers-map, none-cover, self-covered, Once, once-rest, one-start, one-end, Tiling, tiling-once, Cover, empty, tiled}
+use Rattle.closed_forms.specs.Spans.{Inside, inside-true, inside-false, dec-inside, Proper, covers-map, none-cover, self-covered, Once, once-rest, one-start, one-end, Tiling, tiling-once, Cover, empty, tiled}
 
 -- the chunks that start from a up to b are changed by f
 abbrev pub in-range : ℕ → ℕ → (Texts → Texts) → Chunk → Chunk

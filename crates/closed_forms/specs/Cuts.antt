@@ -11,7 +11,7 @@ use Rattle.utf8.specs.Chars.{All, nil, cons}
 use Rattle.utf8.specs.CharLaws.{all-front, all-back}
 use Rattle.model.specs.Text.{all}
 use Rattle.model.specs.Chunk.{Chunk, start-of, end-of, contains, is-filled, first-half, second-half}
-use Rattle.closed_forms.specs.Lists.{both, and-left, and-right, false-of, first-of, rest-of, all-append, all-of, all-map, all-map₂, all-true, true-all}
+use Rattle.model.specs.Lists.{both, and-left, and-right, false-of, first-of, rest-of, all-append, all-of, all-map, all-map₂, all-true, true-all}
 use Rattle.closed_forms.specs.Plan.{split, cut, cut-all, splittable, cuttable}
 
 -- ── one chunk ──

@@ -3,6 +3,7 @@ pub mod Plan
 pub mod Cuts
 pub mod Spans
 pub mod SplitAt
+pub mod Found
 pub mod ByPosition
 pub mod ByPlan
 pub mod Together

@@ -16,9 +16,10 @@ use Rattle.model.specs.Chunk.{Chunk, start-of, end-of}
 use Rattle.model.specs.MagicString.{MagicString, ok, err, with-chunks, by-start, found}
 use Rattle.model.specs.Movement.{Segment, together, apart, into-range, before-range, range-from, segment, insert-before, stands-there, move-segment}
 use Rattle.model.specs.WellFormed.{covers}
-use Rattle.closed_forms.specs.Lists.{clash, bool-cases, first-of, rest-of, all-map, sum-append}
+use Rattle.model.specs.Lists.{clash, bool-cases, first-of, rest-of, all-map, sum-append}
+use Rattle.model.specs.Spans.{covers-in}
 use Rattle.closed_forms.specs.Plan.{move, inside, outside, keep, ascends, stands-together, rearrange}
-use Rattle.closed_forms.specs.Spans.{Inside, inside-true, inside-false, Proper, covers-in, self-covered, Once}
+use Rattle.closed_forms.specs.Spans.{Inside, inside-true, inside-false, Proper, self-covered, Once}
 use Rattle.closed_forms.specs.ByPosition.{none-starts}
 use Rattle.closed_forms.specs.Together.{Tiles, tiles-inside, tiles-cover, ascends-from, ascends-from-is-together, keep-append, keep-every, keep-no, insert-skips}
 

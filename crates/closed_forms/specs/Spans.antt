@@ -13,7 +13,8 @@ use Rattle.model.specs.Text.{Text, sum}
 use Rattle.model.specs.Chunk.{Span, Texts, Chunk, chunk-of, with-texts, start-of, end-of, first-half, second-half}
 use Rattle.model.specs.MagicString.{MagicString}
 use Rattle.model.specs.WellFormed.{covers, Covered, Formed}
-use Rattle.closed_forms.specs.Lists.{both, and-left, and-right, false-of, all-of, all-map, all-map₂}
+use Rattle.model.specs.Lists.{both, and-left, and-right, false-of, all-of, all-map, all-map₂}
+use Rattle.model.specs.Spans.{covers-in, covers-out, covers-halves}
 use Rattle.closed_forms.specs.Plan.{Plan, inside, split, cut, cut-all, act, acted}
 use Rattle.closed_forms.specs.Cuts.{Contains, dec-contains, split-in, split-out, cut-keeps}
 
@@ -42,32 +43,10 @@ dec-inside a b x = go (decLe a x) (decLt x b)
 abbrev pub Proper : Chunk → Type 0
 Proper c = start-of c < end-of c
 
-pub covers-in : (x : ℕ) (c : Chunk) → Inside (start-of c) (end-of c) x → covers x c ≡ 1
-unfolding covers
-covers-in x c h = rw (inside-true (start-of c) (end-of c) x h)
-
-pub covers-out : (x : ℕ) (c : Chunk) → (Inside (start-of c) (end-of c) x → ⊥) → covers x c ≡ 0
-unfolding covers
-covers-out x c h = rw (inside-false (start-of c) (end-of c) x h)
-
 -- other texts, the same bytes
 pub covers-texts : (x : ℕ) (f : Texts → Texts) (c : Chunk) → covers x (with-texts f c) ≡ covers x c
 unfolding covers
 covers-texts x f c = refl
-
--- the two halves cover what the chunk covers
-pub covers-halves : (x p : ℕ) (c : Chunk) → Contains p c → covers x (first-half p c) + covers x (second-half p c) ≡ covers x c
-covers-halves x p c i = go (dec-inside (start-of c) p x) (dec-inside p (end-of c) x)
-  where
-    go : Dec (Inside (start-of c) p x) → Dec (Inside p (end-of c) x) → covers x (first-half p c) + covers x (second-half p c) ≡ covers x c
-    go (yes a) (yes b) = absurd (omega arith)
-    go (yes a) (no b) = rw (covers-in x (first-half p c) a, covers-out x (second-half p c) b, covers-in x c (omega arith))
-    go (no a) (yes b) = rw (covers-out x (first-half p c) a, covers-in x (second-half p c) b, covers-in x c (omega arith))
-    go (no a) (no b) = rw (covers-out x (first-half p c) a, covers-out x (second-half p c) b, covers-out x c (λ j. side j (decLt x p)))
-      where
-        side : Inside (start-of c) (end-of c) x → Dec (x < p) → ⊥
-        side j (yes l) = a (omega arith)
-        side j (no l) = b (omega arith)
 
 -- ── lists ──
 -- a sum over chunks that a split keeps is kept by a cut

@@ -15,10 +15,11 @@ use Rattle.model.specs.Text.{Text, all, sum}
 use Rattle.model.specs.Chunk.{Texts, Chunk, chunk-of, end-of, is-filled}
 use Rattle.model.specs.MagicString.{MagicString, Result, ok, err, and-then, with-chunks, by-end, found, holder, split-holder, refuses-split, split-at}
 use Rattle.model.specs.WellFormed.{covers, Formed}
-use Rattle.closed_forms.specs.Lists.{or-cases, bool-cases, clash, all-of, all-map, true-all}
+use Rattle.model.specs.Lists.{or-cases, bool-cases, clash, all-of, all-map, true-all}
+use Rattle.model.specs.Spans.{covers-in, covers-out}
 use Rattle.closed_forms.specs.Plan.{Plan, cut, cut-all, splittable, cuttable, cut-until-refused, cuts, apply, in-order, order-number, left-over, ends-past, closed-plan}
 use Rattle.closed_forms.specs.Cuts.{Contains, dec-contains, contains-true, contains-false, split-in, split-out, cut-none, splittable-true}
-use Rattle.closed_forms.specs.Spans.{Proper, covers-in, covers-out, none-cover, Once, once-rest, tiling-once, tiling-cut, Cover, empty, tiled, formed-cover}
+use Rattle.closed_forms.specs.Spans.{Proper, none-cover, Once, once-rest, tiling-once, tiling-cut, Cover, empty, tiled, formed-cover}
 
 -- ── the spans of any desk ──
 empty-once : (t : Texts) → Once (chunk-of 0 0 t ∷ [])

@@ -21,7 +21,7 @@ use Rattle.model.specs.Movement as movement-rs
 use Rattle.model.specs.Reset as reset-rs
 use Rattle.model.specs.Call.{Edit, remove, update-with, reset, append-left, append-right, prepend-left, prepend-right, append, prepend, relocate, trim, trim-start, trim-end, trim-lines, indent-with, steps}
 use Rattle.model.specs.WellFormed.{Formed}
-use Rattle.closed_forms.specs.Lists.{clash, bool-cases, all-of, map-none}
+use Rattle.model.specs.Lists.{clash, bool-cases, all-of, map-none}
 use Rattle.closed_forms.specs.Plan.{listed, replace, move, front, back, plan, refused-first, cut-all, cuts, rearrange, act, acted, on-head, on-tail, in-order, order-number, stands-together, left-over, ends-past, apply, closed-plan, closed}
 use Rattle.closed_forms.specs.Spans.{Proper, Cover, empty, tiled, formed-cover}
 use Rattle.closed_forms.specs.SplitAt.{cover-once, cover-cut-all, cuts-then-step}

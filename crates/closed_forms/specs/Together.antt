@@ -13,9 +13,10 @@ use Rattle.model.specs.Text.{sum}
 use Rattle.model.specs.Chunk.{Chunk, start-of, end-of}
 use Rattle.model.specs.Movement.{insert-before}
 use Rattle.model.specs.WellFormed.{covers}
-use Rattle.closed_forms.specs.Lists.{both, and-left, and-right, or-cases, or-left, or-right, rest-of, all-map, sum-append}
+use Rattle.model.specs.Lists.{both, and-left, and-right, or-cases, or-left, or-right, rest-of, all-map, sum-append}
+use Rattle.model.specs.Spans.{covers-in}
 use Rattle.closed_forms.specs.Plan.{keep, ascends, stands-together}
-use Rattle.closed_forms.specs.Spans.{Inside, Proper, covers-in, Once, once-rest, one-start}
+use Rattle.closed_forms.specs.Spans.{Inside, Proper, Once, once-rest, one-start}
 
 -- cs covers the range from a up to b in ascending order
 abbrev pub Tiles : ℕ → ℕ → List Chunk → Type 0

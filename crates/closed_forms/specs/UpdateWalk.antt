@@ -15,9 +15,10 @@ use Rattle.model.specs.Chunk.{Chunk, bare, with-texts, start-of, end-of, edit}
 use Rattle.model.specs.MagicString.{MagicString, ok, err, with-chunks}
 use Rattle.model.specs.Update.{Walk, onto, clear-run, update-walk, update-chunks}
 use Rattle.model.specs.WellFormed.{covers}
-use Rattle.closed_forms.specs.Lists.{clash, bool-cases, false-of, and-left, and-right, or-cases, first-of, rest-of, all-of, all-map, all-map₂, map-same, map-none}
+use Rattle.model.specs.Lists.{clash, bool-cases, false-of, and-left, and-right, or-cases, first-of, rest-of, all-of, all-map, all-map₂, map-same, map-none}
+use Rattle.model.specs.Spans.{covers-in}
 use Rattle.closed_forms.specs.Plan.{replace, act, acted, ascends, stands-together, cleared-so-far}
-use Rattle.closed_forms.specs.Spans.{Inside, inside-true, inside-false, Proper, covers-in, member-covers, self-covered, Once, once-rest, one-end}
+use Rattle.closed_forms.specs.Spans.{Inside, inside-true, inside-false, Proper, member-covers, self-covered, Once, once-rest, one-end}
 use Rattle.closed_forms.specs.Together.{Together, together-of, together-cover, ascends-from, ascends-from-is-together, ascends-le}
 
 -- ── what a replacement makes of one chunk ──

@@ -1,5 +1,4 @@
 pub mod Counts
 pub mod Sums
 pub mod Lists
-pub mod Places
 pub mod Once

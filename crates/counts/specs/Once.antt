@@ -8,10 +8,11 @@ use native.Mathlib.Numerals.{add-one}
 use native.Mathlib.Decide.{ℕ-discrete}
 use lib.ListN.{length}
 use Rattle.utf8.specs.Chars.{All, nil, cons}
-use Rattle.table.specs.Ring.{Each, each-map, Not, Pos, Edge, Links, later, follow, length-follow, Ring}
+use Rattle.table.specs.Ring.{Each, each-map, Pos, Edge, Links, later, follow, length-follow, Ring}
 use Rattle.table.specs.Order.{nextOf, prevOf, countOf, order, Linked}
 use Rattle.model.specs.Text.{sum}
 use Rattle.memory.specs.WellFormed.{times}
+use Rattle.memory.specs.Laws.{times-none}
 use Rattle.counts.specs.Counts.{sum-to, one}
 use Rattle.counts.specs.Sums.{one-same, one-other, sum-zero, sum-same, sum-add, sum-first, sum-tight}
 
@@ -54,11 +55,6 @@ sum-times f n (x ∷ xs) e =
 each-below : (n : ℕ) (xs : List ℕ) → Each (In n) xs → Each (λ x. x < suc n) xs
 each-below n [] e = tt
 each-below n (x ∷ xs) e = (omega (arith, e .0 .1), each-below n xs (e .1))
-
--- a number that no member is
-pub times-none : (i : ℕ) (xs : List ℕ) → Each (Not i) xs → times i xs ≡ 0
-times-none i [] e = times-nil i
-times-none i (x ∷ xs) e = omega (arith, times-cons i x xs, one-other x i (e .0), times-none i xs (e .1))
 
 no-zero : (n : ℕ) (xs : List ℕ) → Each (In n) xs → times 0 xs ≡ 0
 no-zero n [] e = times-nil 0

@@ -5,8 +5,9 @@ use Prim.Native.Nat.{ℕ, zero, suc, _+_, _≤_, _<_, min}
 use native.Mathlib.Omega.{arith}
 use native.Mathlib.Decide.{ℕ-discrete, decLt, le-ind}
 use borrow.Author.Tests.{eq-eqb, ne-eqb, le-leb, lt-leb, lt-ltb, le-ltb}
-use lib.ListN.{length, getD, take, replicate, length-take, length-replicate}
+use lib.ListN.{getD, replicate}
 use Rattle.counts.specs.Counts.{Decides, Half, sum-to, one, indicator}
+pub use Rattle.memory.specs.Laws.{zeros-length, zeros-at}
 
 pub not-both : {A : Type 0} → false ≡ true → A
 not-both e = let z : _≡_ {A = ℕ} 0 1 = cc in absurd (omega arith)
@@ -112,17 +113,8 @@ sum-indicator a e (suc m) h =
       ]
     ]
 
--- ── an array of zeros, and a part of it ──
+-- ── an array of zeros ──
 pub zero-at : (n b : ℕ) → getD {A = ℕ} (replicate n 0) b 0 ≡ 0
 zero-at zero b = refl
 zero-at (suc n) zero = refl
 zero-at (suc n) (suc b) = zero-at n b
-
-pub zeros-length : (n k : ℕ) → k ≤ n → length {A = ℕ} (take {A = ℕ} k (replicate n 0)) ≡ k
-zeros-length n k h = simp (length-take, length-replicate) (omega arith)
-
-pub zeros-at : (n k b : ℕ) → getD {A = ℕ} (take {A = ℕ} k (replicate n 0)) b 0 ≡ 0
-zeros-at n zero b = refl
-zeros-at zero (suc k) b = refl
-zeros-at (suc n) (suc k) zero = refl
-zeros-at (suc n) (suc k) (suc b) = zeros-at n k b

@@ -7,7 +7,7 @@ use Prim.Native.Nat.{ℕ, zero, suc, _+_, _*_, _-_, _^_, _≤_, _<_}
 use native.Mathlib.Omega.{arith}
 use native.Mathlib.Nat.{mul-le-mul, add-zero}
 use lib.Dec.{leb}
-use lib.ListN.{length, getD, take, drop, length-append, length-map, length-take, length-drop}
+use lib.ListN.{length, getD, take, drop, length-map, length-take, length-drop}
 use borrow.Author.Tests.{leb-true}
 use Rattle.utf8.specs.Chars.{All, nil, cons, concat}
 use Rattle.utf8.specs.CharLaws.{concat-append}
@@ -20,9 +20,12 @@ use Rattle.model.specs.MagicString.{MagicString, chunk-fragments, fragments, to
 use Rattle.model.specs.Limits.{full, within, chunk-pieces, chunk-bytes, replacement-bytes, byte-count, piece-count}
 use Rattle.model.specs.WellFormed.{Covered, ProperSpan, Tiled}
 use Rattle.model.specs.WellFormed as model
+use Rattle.model.specs.Lists.{all-map, map-kept, concat-sum}
+pub use Rattle.model.specs.Lists.{sum-append}
 use Rattle.memory.specs.Layout.{runOf, chunkOf, magicStringOf, replacementOf}
 use Rattle.memory.specs.WellFormed.{RunIn, ReplacementIn, EntryIn, RunsIn, Readable, WellFormed}
-use Rattle.texts.specs.Texts.{SpanIn, concat-cons, concat-nil, concat-one, run-length, run-tabulate, run-piece}
+use Rattle.memory.specs.Laws.{no-run}
+use Rattle.texts.specs.Texts.{SpanIn, concat-cons, concat-nil, concat-one, run-length, run-piece}
 use Rattle.fragments.specs.Sections.{headOf, tailOf, section, sections, sections-are, fragmentsOf, fragmentsAll, size, Shown, Ready, Narrow, each-section}
 
 -- ---- fragments of several sections
@@ -32,17 +35,14 @@ all-append source p s (x ∷ xs) ys =
     ap (λ (l : List Text). fragmentsOf source p s x ++ l) (all-append source p s xs ys)
     ∙ sym (append-assoc (fragmentsOf source p s x) (fragmentsAll source p s xs) (fragmentsAll source p s ys))
 
-run-none : (p s : List ℕ) → runOf p s (0, 0) ≡ []
-run-none p s = run-tabulate p s 0 0
-
 -- the head shows its pieces and the empty text, the tail the empty text and its pieces
 head-fragments : (source p s t : List ℕ) → fragmentsOf source p s (headOf t) ≡ runOf p s (entryAt t 0 .intro) ++ ([] ∷ [])
 unfolding replacementOf
-head-fragments source p s t = rw run-none
+head-fragments source p s t = rw no-run
 
 tail-fragments : (source p s t : List ℕ) → fragmentsOf source p s (tailOf t) ≡ [] ∷ runOf p s (entryAt t 0 .outro)
 unfolding replacementOf
-tail-fragments source p s t = rw run-none
+tail-fragments source p s t = rw no-run
 
 -- all fragments, with the two empty ones
 pub output-sections : (source t p s : List ℕ) → Linked t
@@ -53,12 +53,7 @@ output-sections source t p s l =
     ∙ ap (λ (x : List Text). fragmentsOf source p s (headOf t) ++ x) (all-append source p s (entries t) (tailOf t ∷ []))
     ∙ rw (head-fragments source p s t, append-nil (fragmentsOf source p s (tailOf t)), tail-fragments source p s t)
 
--- ---- a sum over the fragments
-pub sum-append : {A : Type 0} (f : A → ℕ) (xs ys : List A) → sum f (xs ++ ys) ≡ sum f xs + sum f ys
-sum-append f [] ys = omega arith
-sum-append f (x ∷ xs) ys = omega (arith, sum-append f xs ys)
-
--- a count that the empty text does not change
+-- ---- a sum over the fragments: a count that the empty text does not change
 pub sum-sections : (f : Text → ℕ) → f [] ≡ 0 → (source t p s : List ℕ) → Linked t
     → sum f (fragmentsAll source p s (sections t)) ≡ sum f (fragments (magicStringOf source t p s))
 unfolding magicStringOf
@@ -80,8 +75,7 @@ concat-sections source t p s l =
     ∙ simp (concat-append, concat-cons, concat-nil, append-nil)
 
 pub sum-length : (ts : List Text) → sum length ts ≡ length (concat ts)
-sum-length [] = ap length (sym concat-nil)
-sum-length (t ∷ ts) = ap (λ (n : ℕ). length t + n) (sum-length ts) ∙ sym (length-append t (concat ts)) ∙ ap length (sym (concat-cons t ts))
+sum-length ts = sym (concat-sum ts)
 
 -- a count of at most one for each byte
 pub sum-le : (f : Text → ℕ) → ((t : Text) → f t ≤ length t) → (ts : List Text) → sum f ts ≤ sum length ts
@@ -119,17 +113,9 @@ output-short m w =
 
 -- ---- a well-formed desk is ready for every report
 module _ {A : Type 0} where
-  pub all-map : {P Q : A → Type 0} → ((x : A) → P x → Q x) → {xs : List A} → All P xs → All Q xs
-  all-map f nil = nil
-  all-map f (cons {x = x} h k) = cons (f x h) (all-map f k)
-
   pub all-both : {P Q : A → Type 0} {xs : List A} → All P xs → All Q xs → All (λ x. P x × Q x) xs
   all-both nil nil = nil
   all-both (cons h k) (cons i j) = cons (h, i) (all-both k j)
-
-pub all-unmap : {A B : Type 0} {P : B → Type 0} (f : A → B) (xs : List A) → All P (map f xs) → All (λ x. P (f x)) xs
-all-unmap f [] nil = nil
-all-unmap f (x ∷ xs) (cons h k) = cons h (all-unmap f xs k)
 
 Zero : Span → Type 0
 Zero x = (x .start ≡ 0) × (x .end ≡ 0)
@@ -138,10 +124,10 @@ pub spans-in : (source p s : List ℕ) (es : List Entry) → Covered source (map
 unfolding Zero
 spans-in [] p s es h =
     let a : All Zero (map (λ (c : Chunk). c .span) (map (chunkOf p s) es)) = subst (All Zero) (sym h) (cons (refl, refl) nil) in
-    let b = all-unmap {P = λ (c : Chunk). Zero (c .span)} (chunkOf p s) es (all-unmap {P = Zero} (λ (c : Chunk). c .span) (map (chunkOf p s) es) a) in
+    let b = map-kept (chunkOf p s) {P = λ (c : Chunk). Zero (c .span)} es (map-kept (λ (c : Chunk). c .span) {P = Zero} (map (chunkOf p s) es) a) in
     all-map (λ e z. record { ordered = omega (arith, z .0); inside = omega (arith, z .1) }) b
 spans-in (x ∷ source) p s es h =
-    all-map (λ e z. record { ordered = omega (arith, z .proper); inside = z .inside }) (all-unmap {P = ProperSpan (x ∷ source)} (chunkOf p s) es (h .spans))
+    all-map (λ e z. record { ordered = omega (arith, z .proper); inside = z .inside }) (map-kept (chunkOf p s) {P = ProperSpan (x ∷ source)} es (h .spans))
 
 run-short : (p s : List ℕ) (at n : ℕ) → RunIn p s (at, n) → n * 2 ≤ length p
 run-short p s at zero h = omega arith

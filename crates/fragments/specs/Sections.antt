@@ -13,9 +13,9 @@ use lib.Dec.{eqb}
 use lib.ListN.{length, getD, take, drop, length-append, length-map, List·getD-append, List·getD-eq-default, drop-of-length-le}
 use lib.Seq.{drop-cons, getD-append-add, getD-append-seam, drop-append-seam, drop-nil}
 use borrow.Author.Tests.{eq-eqb, ne-eqb}
-use Rattle.utf8.specs.Chars.{All, nil, cons, concat}
+use Rattle.utf8.specs.Chars.{All, concat}
 use Rattle.table.specs.declared.Row.{Row}
-use Rattle.table.specs.Ring.{Links, Edge, Each, each-append, each-at, follow, length-follow, each-map, Pos}
+use Rattle.table.specs.Ring.{Links, Edge, Each, each-append, each-at, follow, each-map, Pos}
 use Rattle.table.specs.Order.{Entry, entryAt, entryOf, entries, order, nextOf, prevOf, countOf, Linked}
 use Rattle.model.specs.Text.{Text}
 use Rattle.model.specs.Chunk.{Chunk}
@@ -23,6 +23,8 @@ use Rattle.model.specs.Chunk as chunk
 use Rattle.model.specs.MagicString.{chunk-fragments}
 use Rattle.memory.specs.Layout.{Place, tabulate, runOf, replacementOf, chunkOf, bytesAt, pieceAt, NONE}
 use Rattle.memory.specs.WellFormed.{RunIn, RunsIn, EntryIn, ReplacementIn}
+use Rattle.memory.specs.Laws.{tabulate-all}
+pub use Rattle.table.specs.Order.{order-length}
 use Rattle.texts.specs.Texts.{SpanIn, contentAt, tabulate-ext, tabulate-cons, tabulate-drop, length-tabulate, run-length, run-tabulate}
 
 -- ---- the rows in output order
@@ -121,10 +123,6 @@ links-at E i [] j (suc k) l h = absurd (omega arith)
 links-at E i (x ∷ xs) j zero l h = l .0
 links-at E i (x ∷ xs) j (suc k) l h = links-at E x xs j k (l .1) (le-of-suc-le-suc h)
 
-pub order-length : (t : List ℕ) → length (order t) ≡ countOf t
-unfolding order
-order-length t = length-follow (nextOf t) (countOf t) (nextOf t 0)
-
 -- from a section to the next, and back
 pub row-edge : (t : List ℕ) (g : ℕ) → Linked t → g ≤ countOf t → Edge (nextOf t) (prevOf t) (rowNo t g) (rowNo t (suc g))
 unfolding rowNo order
@@ -218,22 +216,9 @@ pub each-section : {P : Entry → Type 0} (t : List ℕ) → Linked t → All P 
 each-section t l a h k zero = rw section-head h
 each-section {P} t l a h k (suc g) =
     elim (decLt g (countOf t)) [
-      | yes q ↦ at-of (λ k. section t (suc k)) (countOf t) (rw (entries-tabulate t l) at a) g q
+      | yes q ↦ tabulate-all (λ k. section t (suc k)) (countOf t) (rw (entries-tabulate t l) at a) g q
       | no q ↦ rw (section-past t g (omega arith)) k
     ]
-  where
-    last-of : (xs : List Entry) (y : Entry) → All P (xs ++ (y ∷ [])) → All P xs × P y
-    last-of [] y (cons b c) = (nil, b)
-    last-of (x ∷ xs) y (cons b c) = let r = last-of xs y c in (cons b (r .0), r .1)
-
-    at-of : (f : ℕ → Entry) (n : ℕ) → All P (tabulate f n) → (k : ℕ) → k < n → P (f k)
-    at-of f zero a k h = absurd (omega arith)
-    at-of f (suc n) a k h =
-        let r = last-of (tabulate f n) (f n) a in
-        elim (ℕ-discrete k n) [
-          | yes q ↦ rw q (r .1)
-          | no q ↦ at-of f n (r .0) k (omega arith)
-        ]
 
 -- ---- the fragments that are left from a place on
 unfoldable pub rest : List ℕ → List ℕ → List ℕ → List ℕ → ℕ → ℕ → List Text
@@ -276,7 +261,7 @@ module _ (source t p s : List ℕ) where
       let d : drop item (fs ++ more) ≡ getD (fs ++ more) item [] ∷ drop (suc item) (fs ++ more) = drop-cons (fs ++ more) item [] (omega (arith, length-append fs more)) in
       rw (sections-drop t g h) (d ∙ ap (λ (x : Text). x ∷ drop (suc item) (fs ++ more)) (List·getD-append fs more [] item (omega arith)))
 
-  rest-over : (g : ℕ) → g < countOf t + 2 → rest source t p s g (size (section t g)) ≡ rest source t p s (suc g) 0
+  pub rest-over : (g : ℕ) → g < countOf t + 2 → rest source t p s g (size (section t g)) ≡ rest source t p s (suc g) 0
   unfolding rest
   rest-over g h =
       let fs = fragmentsOf source p s (section t g) in

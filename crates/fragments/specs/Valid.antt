@@ -1,31 +1,33 @@
 -- Every fragment of a well-formed desk is a text of RFC 3629.
 use mathlib.Core.Path.{_≡_, refl, ap, sym, _∙_, subst}
 use mathlib.Core.Bool.{true}
-use mathlib.Core.List.{List, [], _∷_, _++_, map}
+use mathlib.Core.List.{List, [], _∷_, map}
 use mathlib.Core.Option.{Option, none, some}
-use Prim.Native.Nat.{ℕ, zero, suc, _+_, _-_, _≤_, _<_}
+use Prim.Native.Nat.{ℕ, zero, suc, _-_, _≤_, _<_}
 use native.Mathlib.Omega.{arith}
 use lib.ListN.{length, getD, take, drop}
 use Rattle.utf8.specs.Rfc3629.{utf8}
 use Rattle.utf8.specs.Chars.{All, nil, cons}
 use Rattle.utf8.specs.Texts.{utf8-nil}
 use Rattle.utf8.specs.Laws.{utf8-part}
-use Rattle.table.specs.Order.{Entry, entryAt, entries, countOf, Linked}
+use Rattle.table.specs.Order.{Entry, entries, countOf, Linked}
 use Rattle.model.specs.Text.{Text}
 use Rattle.model.specs.Chunk.{Chunk, Span, content-or}
 use Rattle.model.specs.WellFormed.{Covered, ProperSpan, Valid, ValidReplacement, ValidTexts}
-use Rattle.memory.specs.Layout.{runOf, chunkOf, magicStringOf, replacementOf, tabulate}
+use Rattle.model.specs.Lists.{all-append, all-map, map-kept}
+use Rattle.memory.specs.Layout.{runOf, chunkOf, magicStringOf, replacementOf}
 use Rattle.memory.specs.WellFormed.{WellFormed}
+use Rattle.memory.specs.Laws.{all-tabulate}
 use Rattle.texts.specs.Texts.{run-tabulate}
 use Rattle.fragments.specs.Sections.{headOf, tailOf, section, sections, fragmentsOf, fragmentsAll, size, size-is, each-section}
-use Rattle.fragments.specs.Output.{all-map, all-both, all-unmap}
+use Rattle.fragments.specs.Output.{all-both}
 
 abbrev part : List ℕ → Span → Text
 part source x = take (x .end - x .start) (drop (x .start) source)
 
 part-valid : (source : List ℕ) (cs : List Chunk) → utf8 source ≡ true → Covered source cs → All (λ (c : Chunk). Valid (part source (c .span))) cs
 part-valid [] cs u h =
-    all-unmap {P = λ (x : Span). Valid (part [] x)} (λ (c : Chunk). c .span) cs
+    map-kept (λ (c : Chunk). c .span) {P = λ (x : Span). Valid (part [] x)} cs
     (subst (All (λ (x : Span). Valid (part [] x))) (sym h) (cons utf8-nil nil))
 part-valid (a ∷ source) cs u h =
     all-map (λ c z. utf8-part (a ∷ source) (c .span .start) (c .span .end) u (z .start-between) (z .end-between) (omega (arith, z .proper))) (h .spans)
@@ -33,10 +35,6 @@ part-valid (a ∷ source) cs u h =
 content-valid : (e : Option Text) (x : Text) → ValidReplacement e → Valid x → Valid (content-or e x)
 content-valid none x h k = k
 content-valid (some t) x h k = h
-
-all-append : {A : Type 0} {P : A → Type 0} (xs ys : List A) → All P xs → All P ys → All P (xs ++ ys)
-all-append [] ys nil k = k
-all-append (x ∷ xs) ys (cons h j) k = cons h (all-append xs ys j k)
 
 none-valid : (p s : List ℕ) → All Valid (runOf p s (0, 0))
 none-valid p s = rw (run-tabulate p s 0 0) nil
@@ -49,27 +47,23 @@ pub section-valid : (source t p s : List ℕ) → WellFormed source t p s → (g
 unfolding magicStringOf
 section-valid source t p s w =
     let f = w .desk .formed in
-    let a = all-unmap {P = λ (c : Chunk). ValidTexts (c .texts) × Valid (part source (c .span))} (chunkOf p s) (entries t)
+    let a = map-kept (chunkOf p s) {P = λ (c : Chunk). ValidTexts (c .texts) × Valid (part source (c .span))} (entries t)
     (all-both (f .texts) (part-valid source (map (chunkOf p s) (entries t)) (f .source) (f .covered))) in
     let z : Valid (take 0 source) = utf8-nil in
     each-section {P = λ (e : Entry). All Valid (fragmentsOf source p s e)} t (w .readable .linked)
-    (all-map (λ e h. all-append (runOf p s (e .intro)) _ (h .0 .intro)
+    (all-map (λ e h. all-append (h .0 .intro)
     (cons (content-valid (replacementOf s (e .text)) (part source (chunkOf p s e .span)) (h .0 .replacement) (h .1)) (h .0 .outro))) a)
-    (all-append (runOf p s (entryAt t 0 .intro)) _ (f .intro) (cons (content-valid (replacementOf s (0, 0)) (take 0 source) (empty-valid s) z) (none-valid p s)))
-    (all-append (runOf p s (0, 0)) _ (none-valid p s) (cons (content-valid (replacementOf s (0, 0)) (take 0 source) (empty-valid s) z) (f .outro)))
+    (all-append (f .intro) (cons (content-valid (replacementOf s (0, 0)) (take 0 source) (empty-valid s) z) (none-valid p s)))
+    (all-append (none-valid p s) (cons (content-valid (replacementOf s (0, 0)) (take 0 source) (empty-valid s) z) (f .outro)))
 
 -- all fragments of the output
-all-tabulate : {A : Type 0} {P : A → Type 0} (f : ℕ → A) (n : ℕ) → ((k : ℕ) → P (f k)) → All P (tabulate f n)
-all-tabulate f zero h = nil
-all-tabulate f (suc n) h = all-append (tabulate f n) (f n ∷ []) (all-tabulate f n h) (cons (h n) nil)
-
 all-fragments : (source p s : List ℕ) (es : List Entry) → All (λ (e : Entry). All Valid (fragmentsOf source p s e)) es → All Valid (fragmentsAll source p s es)
 all-fragments source p s [] nil = nil
-all-fragments source p s (e ∷ es) (cons h k) = all-append (fragmentsOf source p s e) _ h (all-fragments source p s es k)
+all-fragments source p s (e ∷ es) (cons h k) = all-append h (all-fragments source p s es k)
 
 pub output-valid : (source t p s : List ℕ) → WellFormed source t p s → All Valid (fragmentsAll source p s (sections t))
 output-valid source t p s w =
-    all-fragments source p s (sections t) (all-tabulate {P = λ (e : Entry). All Valid (fragmentsOf source p s e)} (section t) (suc (suc (countOf t))) (section-valid source t p s w))
+    all-fragments source p s (sections t) (all-tabulate {P = λ (e : Entry). All Valid (fragmentsOf source p s e)} (section t) (suc (suc (countOf t))) (λ k _. section-valid source t p s w k))
 
 all-getD : {A : Type 0} {P : A → Type 0} (xs : List A) (k : ℕ) (d : A) → All P xs → k < length xs → P (getD xs k d)
 all-getD [] k d nil h = absurd (omega arith)

@@ -1,6 +1,6 @@
 -- What makes steps on the lent tables themselves what `Ran` asks, for any edit: nothing is laid out anew, so what they leave must be shown to be well formed.
 use mathlib.Core.Path.{_≡_, refl, sym, _∙_}
-use mathlib.Core.Bool.{Bool, true, false}
+use mathlib.Core.Bool.{true}
 use mathlib.Core.List.{List, []}
 use Prim.Native.Nat.{ℕ, _+_, _≤_}
 use native.Mathlib.Omega.{arith}
@@ -8,6 +8,7 @@ use lib.ListN.{length}
 use Rattle.table.specs.Order.{countOf}
 use Rattle.model.specs.Limits.{full, within}
 use Rattle.model.specs.Call.{Edit, steps, refused-before}
+use Rattle.model.specs.Lists.{no-tf}
 use Rattle.memory.specs.Layout.{magicStringOf}
 use Rattle.memory.specs.WellFormed.{Sized, HoldsEach, Disjoint, WellFormed}
 use Rattle.memory.specs.Calls.{may-write, Ran}
@@ -30,9 +31,6 @@ ran-in-place {t = t} {p} {s} {t'} {p'} {s'} {r} w h d may z each apart k =
       breaks = λ b. no-tf (sym k ∙ b);
     } in
     ran-finished w h d may f
-  where
-    no-tf : {X : Type 0} → _≡_ {A = Bool} true false → X
-    no-tf y = let z : _≡_ {A = ℕ} 0 1 = cc in absurd (omega arith)
 
 -- the chunk rows alone changed
 pub ran-rows : {e : Edit} {source t p s t' : List ℕ} {r : ℕ} → WellFormed source t p s → refused-before (magicStringOf source t p s) e ≡ 0

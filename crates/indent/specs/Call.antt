@@ -5,7 +5,7 @@ use mathlib.Core.Bool.{Bool, true, false, _&&_, cond}
 use mathlib.Core.List.{List, [], _∷_, _++_}
 use mathlib.Core.Option.{Option, none, some}
 use mathlib.Core.Logic.{_⊎_, ⊎-elim}
-use Prim.Native.Nat.{ℕ, _+_, _%_, _^_, _≤_, _<_}
+use Prim.Native.Nat.{ℕ, _+_, _%_, _≤_, _<_}
 use native.Mathlib.Omega.{arith}
 use lib.ListN.{length, getD, take, drop, replicate, length-append, length-drop, length-replicate, drop-of-length-le}
 use lib.Seq.{take-at, drop-cons}
@@ -19,12 +19,14 @@ use Rattle.model.specs.Indent.{get-indent-string, indent-by}
 use Rattle.model.specs.Indent as indent-rs
 use Rattle.model.specs.Call.{Edit, indent-with, options-valid, steps, refused-before}
 use Rattle.model.specs.WellFormed as model
+use Rattle.model.specs.Lists.{nil-true}
 use Rattle.memory.specs.Layout.{magicStringOf}
 use Rattle.memory.specs.WellFormed.{Readable, WellFormed}
 use Rattle.memory.specs.Calls.{idle, Ran}
+use Rattle.memory.specs.Laws.{source-of}
 use Rattle.rebuild.specs.Rebuilt.{Finished}
 use Rattle.frame.specs.Loaded.{Loaded}
-use Rattle.frame.specs.Frame.{Scratch, loaded-readable, loaded-desk, small-source, ran-before, ran-same, ran-past-limits, ran-finished, refused-1, refused-3, not-refused, may-write-0}
+use Rattle.frame.specs.Frame.{Scratch, loaded-readable, loaded-desk, ran-before, ran-same, ran-past-limits, ran-finished, refused-1, refused-3, not-refused, may-write-0}
 use Rattle.indent_steps.specs.Steps.{StepsReady, IndentSteps}
 use Rattle.indent_string.specs.declared.Indentor.{Indentor}
 use Rattle.indent_string.specs.Guess.{indentor-text, Guessed}
@@ -100,19 +102,6 @@ module _ (f : ℕ → Bool) (l : List ℕ) (i : ℕ) (e : all f l ≡ all f (dro
   all-end h = sym (e ∙ ap (all f) (drop-of-length-le l h))
 
 -- ---- the tests: 15, 1, 3
-source-of : (source t p s : List ℕ) → magicStringOf source t p s .source ≡ source
-unfolding magicStringOf
-source-of source t p s = refl
-
-pub valid-source : {source t p s : List ℕ} → WellFormed source t p s → utf8 source ≡ true
-valid-source {source} {t} {p} {s} w = ap utf8 (sym (source-of source t p s)) ∙ w .desk .formed .source
-
-pub short-source : {source t p s : List ℕ} → WellFormed source t p s → length source ≤ 16384
-short-source {source} {t} {p} {s} w = small-source source t p s (w .desk .limits)
-
-pub narrow-source : {source t p s : List ℕ} → WellFormed source t p s → length source < 2 ^ 32
-narrow-source w = omega (arith, short-source w)
-
 refused-15 : (e : Edit) (m : MagicString) → options-valid e ≡ false → refused-before m e ≡ 15
 unfolding refused-before
 refused-15 e m h = rw h
@@ -158,10 +147,6 @@ module _ {source t p s : List ℕ} (w : WellFormed source t p s) where
       given-empty h k z =
           ran-same (indent-with (some indentor) exclude) source t p s 0 w (not-refused (indent-with (some indentor) exclude) source t p s o (rw h) k)
           (ap (λ (b : Bool). cond b (ok (magicStringOf source t p s)) (indent-by indentor exclude (magicStringOf source t p s))) (nil-true indentor z))
-        where
-          nil-true : (l : Text) → length l ≡ 0 → is-nil l ≡ true
-          nil-true [] z = refl
-          nil-true (x ∷ l) z = absurd (omega arith)
 
       pub given-ran : utf8 indentor ≡ true → all (between source) exclude ≡ true → (length indentor ≡ 0 → ⊥) → {t' p' s' : List ℕ} {r : ℕ}
           → IndentRan indentor exclude source t p s t' p' s' r → Ran (indent-with (some indentor) exclude) source t p s t' p' s' r

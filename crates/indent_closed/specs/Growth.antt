@@ -1,5 +1,5 @@
 -- `indent_with` only adds: chunks, pieces and bytes. So a desk past a limit on the way is past it in the end (number 13). Assumes nothing.
-use Prim.Native.Nat.{ℕ, suc, _+_, _≤_, _<_}
+use Prim.Native.Nat.{ℕ, _+_, _≤_, _<_}
 use native.Mathlib.Omega.{arith}
 use native.Mathlib.Decide.{decLt}
 use mathlib.Core.Path.{_≡_, refl, ap}
@@ -16,15 +16,12 @@ use Rattle.model.specs.Chunk.{Chunk, with-texts, start-of, span-text, second-ha
 use Rattle.model.specs.MagicString.{MagicString}
 use Rattle.model.specs.Limits.{Limits, chunk-pieces, replacement-bytes, chunk-bytes, piece-count, byte-count, within}
 use Rattle.model.specs.Indent.{Indented, is-line-feed, takes-mark, indent-chars, indent-frag, Pieces, indent-pieces, excluded, line-starts}
-use Rattle.closed_forms.specs.Lists.{sum-append}
+use Rattle.model.specs.Lists.{sum-append, concat-length}
 use Rattle.preservation.specs.Lists.{of-either}
+use Rattle.preservation.specs.Indent.{pieces-length}
 use Rattle.indent_closed.specs.Indent.{split-lines, split-lines-inside, split-lines-at-start, IndentedChunks, indented-chunk, indented-lines, indented-excluded, indented-replaced, indented-chunks, indented}
 
 -- ── one text, and pieces ──
-concat-length : (c : Text) (cs : List Text) → length (concat (c ∷ cs)) ≡ length c + length (concat cs)
-unfolding flatten
-concat-length c cs = length-append c (concat cs)
-
 chars-grow : (indentor : Text) (mark : Bool) (cs : List Text) → length (concat cs) ≤ length (indent-chars indentor mark cs .text)
 unfolding flatten
 chars-grow indentor mark [] = omega arith
@@ -40,10 +37,6 @@ chars-grow indentor mark (c ∷ cs) =
 
 pub text-grows : (indentor : Text) (mark : Bool) (t : Text) → length t ≤ length (indent-frag indentor mark t .text)
 text-grows indentor mark t = omega (arith, chars-grow indentor mark (chars t), ap length (concat-chars t))
-
-pub pieces-stay : (indentor : Text) (mark : Bool) (l : List Text) → length (indent-pieces indentor mark l .pieces) ≡ length l
-pieces-stay indentor mark [] = refl
-pieces-stay indentor mark (t ∷ l) = ap suc (pieces-stay indentor (indent-frag indentor mark t .mark) l)
 
 pub pieces-grow : (indentor : Text) (mark : Bool) (l : List Text) → sum length l ≤ sum length (indent-pieces indentor mark l .pieces)
 pieces-grow indentor mark [] = omega arith
@@ -144,7 +137,7 @@ module _ (indentor : Text) (exclude : List ℕ) (m : MagicString) where
   piece-count-grows =
       let head : Pieces = indent-pieces indentor true (m .intro) in
       let body : IndentedChunks = indented-chunks indentor exclude (m .source) (head .mark) (m .chunks) in
-      omega (arith, pieces-stay indentor true (m .intro), pieces-stay indentor (body .mark) (m .outro), chunks-grow indentor exclude (m .source) (head .mark) (m .chunks) .pieces)
+      omega (arith, pieces-length indentor true (m .intro), pieces-length indentor (body .mark) (m .outro), chunks-grow indentor exclude (m .source) (head .mark) (m .chunks) .pieces)
 
   pub byte-count-grows : byte-count m ≤ byte-count (indented indentor exclude m)
   unfolding indented

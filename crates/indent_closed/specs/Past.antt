@@ -11,7 +11,7 @@ use Rattle.model.specs.Chunk.{Chunk, start-of}
 use Rattle.model.specs.MagicString.{MagicString}
 use Rattle.model.specs.Limits.{Limits, chunk-bytes, byte-count, within}
 use Rattle.model.specs.Indent.{Indented, indent-frag, Pieces, then-piece, indent-pieces, excluded}
-use Rattle.closed_forms.specs.Lists.{sum-append}
+use Rattle.model.specs.Lists.{sum-append}
 use Rattle.indent_closed.specs.Indent.{split-lines, IndentedChunks, indented-chunk, indented-chunks, indented-append, indented}
 use Rattle.indent_closed.specs.Growth.{lines-two, lines-indentor, replaced-bytes, past-chunks, past-bytes}
 

@@ -4,7 +4,7 @@ use native.Mathlib.Omega.{arith}
 use native.Mathlib.Decide.{decLt}
 use mathlib.Core.Path.{_≡_, refl, ap, sym, _∙_, subst}
 use mathlib.Core.Bool.{Bool, true, false}
-use mathlib.Core.List.{List, [], _∷_, _++_, map, append-assoc, flatten}
+use mathlib.Core.List.{List, [], _∷_, _++_, map, append-assoc, map-append}
 use mathlib.Core.Option.{Option, none, some}
 use lib.Dec.{eqb}
 use lib.ListN.{length, drop, length-append, length-take, length-drop}
@@ -17,14 +17,15 @@ use Rattle.model.specs.MagicString.{MagicString, Result, ok, and-then, with-chu
 use Rattle.model.specs.Prepend.{push-front, prepend-right}
 use Rattle.model.specs.Indent.{Indented, is-line-feed, takes-mark, indent-frag, Pieces, indent-pieces, excluded, Starts, line-starts, prepend-at, Marked, set-edited, indent-chunk, indent-chunks, indent-by}
 use Rattle.model.specs.WellFormed.{Valid, covers, Formed}
-use Rattle.closed_forms.specs.Lists.{sum-append, map-append, all-map, all-map₂, true-all}
+use Rattle.model.specs.Lists.{sum-append, all-map, all-map₂, true-all, all-append, concat-length}
+use Rattle.model.specs.Spans.{covers-in, covers-key}
 use Rattle.closed_forms.specs.Plan.{cut, splittable}
 use Rattle.closed_forms.specs.Cuts.{Contains, split-in, cut-append, cut-none, splittable-true}
-use Rattle.closed_forms.specs.Spans.{Proper, covers-in, none-cover, Once, Cover, empty, tiled, cover-of, formed-cover}
+use Rattle.closed_forms.specs.Spans.{Proper, none-cover, Once, Cover, empty, tiled, cover-of, formed-cover}
 use Rattle.closed_forms.specs.SplitAt.{cover-once, cover-cut, split-at-cover, aligned-splittable}
 use Rattle.closed_forms.specs.Steps.{cover-proper}
-use Rattle.preservation.specs.Lists.{of-either, all-key, sum-key, all-append}
-use Rattle.preservation.specs.Spans.{covers-key}
+use Rattle.closed_forms.specs.Found.{start-at, start-set, some-is}
+use Rattle.preservation.specs.Lists.{of-either, all-key, sum-key}
 use Rattle.preservation.specs.Indent.{chars-some, indent-by-keeps}
 use Rattle.indent_closed.specs.Indent.{split-lines, split-lines-inside, split-lines-at-start, IndentedChunks, indented-chunk, indented-chunks, indented}
 
@@ -83,21 +84,6 @@ starts-apart xs c ys e (tiled {source = s} {cs = cs} l t) =
     let r : start-of c < end-of c = middle xs c ys p in
     none-start (start-of c) xs c ys (cover-once v) p (omega arith) r
 
--- ── a chunk by its start, where it is known ──
-module _ (q : ℕ) where
-  start-at : {xs : List Chunk} (c : Chunk) (ys : List Chunk) → All (λ d. eqb (start-of d) q ≡ false) xs → eqb (start-of c) q ≡ true → by-start q (xs ++ c ∷ ys) ≡ some c
-  start-at c ys nil h = rw h
-  start-at c ys (cons n ns) h = rw n (start-at c ys ns h)
-
-  start-set : {xs : List Chunk} (f : Texts → Texts) (c : Chunk) (ys : List Chunk) → All (λ d. eqb (start-of d) q ≡ false) xs → eqb (start-of c) q ≡ true
-      → at-start q f (xs ++ c ∷ ys) ≡ xs ++ with-texts f c ∷ ys
-  start-set f c ys nil h = rw h
-  start-set f c ys (cons {x = d} n ns) h = rw n (ap (λ (l : List Chunk). d ∷ l) (start-set f c ys ns h))
-
-some-is : (o : Option Chunk) (c : Chunk) (x y : Result) → o ≡ some c → elim o as (λ _. Result) [ none ↦ x | some d ↦ y ] ≡ y
-some-is none c x y e = let z : _≡_ {A = ℕ} 0 1 = cc in absurd (omega arith)
-some-is (some d) c x y e = refl
-
 -- `by_start_mut` behind its cut
 right-step : ℕ → Text → MagicString → Result
 right-step q t m =
@@ -127,7 +113,7 @@ module _ (i : ℕ) (t : Text) (m : MagicString) (xs : List Chunk) (c : Chunk) (y
       let o = others i xs c ys (cover-once v) (omega arith) h in
       let a = aligned-out o in
       let n : Contains i c → ⊥ = λ j. omega arith in
-      let al : All (λ d. Contains i d → ⊥) (xs ++ c ∷ ys) = all-append (λ d. Contains i d → ⊥) (a .0) (cons n (a .1)) in
+      let al : All (λ d. Contains i d → ⊥) (xs ++ c ∷ ys) = all-append {P = λ d. Contains i d → ⊥} (a .0) (cons n (a .1)) in
       let z : split-at i (with-chunks m (xs ++ c ∷ ys)) ≡ ok (with-chunks m (xs ++ c ∷ ys)) = split-at-cover i (with-chunks m (xs ++ c ∷ ys)) v ∙ rw (aligned-splittable i al, cut-none i al) in
       ap (λ r. and-then r (right-step i t)) z ∙ step-found t m xs c ys i (rw e at (starts-apart xs c ys refl v)) (eq-eqb (start-of c) i e)
 
@@ -145,7 +131,7 @@ module _ (i : ℕ) (t : Text) (m : MagicString) (xs : List Chunk) (c : Chunk) (y
       let a = aligned-out (others i xs c ys (cover-once v) (omega arith) (j .1)) in
       let n : (d : Chunk) → (Contains i d → ⊥) → splittable i d ≡ true = λ d k. splittable-true i d (λ x. absurd (k x)) in
       let y : splittable i c ≡ true = splittable-true i c (λ x. ap is-filled e) in
-      true-all (splittable i) (all-append (λ d. splittable i d ≡ true) (all-map n (a .0)) (cons y (all-map n (a .1))))
+      true-all (splittable i) (all-append {P = λ d. splittable i d ≡ true} (all-map n (a .0)) (cons y (all-map n (a .1))))
 
   inside-it : 0 < length (m .source) → Contains i c → c .texts .edited-content ≡ none
       → prepend-right i t (with-chunks m (xs ++ c ∷ ys)) ≡ ok (with-chunks m ((xs ++ first-half i c ∷ []) ++ with-texts (prepend-intro t) (second-half i c) ∷ ys))
@@ -165,10 +151,6 @@ Ascends a e (i ∷ l) = (a ≤ i) × ((i < e) × Ascends (suc i) e l)
 pub ascends-from : (a b e : ℕ) (l : List ℕ) → a ≤ b → Ascends b e l → Ascends a e l
 ascends-from a b e [] h k = k
 ascends-from a b e (i ∷ l) h k = (omega arith, k .1)
-
-concat-length : (c : Text) (cs : List Text) → length (concat (c ∷ cs)) ≡ length c + length (concat cs)
-unfolding flatten
-concat-length c cs = length-append c (concat cs)
 
 starts-ascend : (exclude : List ℕ) (e : ℕ) (mark : Bool) (i : ℕ) {cs : List Text} → All (λ c. 0 < length c) cs → i + length (concat cs) ≤ e
     → Ascends i e (line-starts exclude mark i cs .starts)

@@ -14,6 +14,7 @@ use Rattle.table.specs.Table.{rowAt, Put}
 use Rattle.table.specs.Order.{Linked}
 use Rattle.model.specs.Text.{Text}
 use Rattle.model.specs.Indent.{indent-pieces}
+use Rattle.model.specs.Lists.{clash}
 use Rattle.memory.specs.Layout.{Place, pieceAt, runOf}
 use Rattle.texts.specs.Over.{take-over}
 use Rattle.texts.specs.Texts.{concat-one}
@@ -95,9 +96,6 @@ pub record OwnIndented (outro : Bool) (indentor : Text) (mark : Bool) (ts : List
   pub done : fits ≡ true → OwnDone outro indentor mark ts t p s top byte t' p' s' mark' byte'
   pub short : fits ≡ false → length s < byte + length (concat (indent-pieces indentor mark ts .pieces))
 
-no-tf : {X : Type 0} {b : Bool} → b ≡ true → b ≡ false → X
-no-tf e f = let y : _≡_ {A = ℕ} 0 1 = cc in absurd (omega arith)
-
 module _ (outro : Bool) (indentor : Text) (mark : Bool) (pieces store t p s : List ℕ) (top byte : ℕ) (h : OwnReady outro pieces store t p s top byte) (z : Row) (ez : z ≡ rowAt t 0)
     (q : Place) (eq : q ≡ side outro (runsOf z)) where
   run-is : q ≡ side outro (runsOf (rowAt t 0))
@@ -112,7 +110,7 @@ module _ (outro : Bool) (indentor : Text) (mark : Bool) (pieces store t p s : Li
     at-row = subst (λ (x : Place). RunIndented indentor mark (runOf pieces store x) p s byte top p' s' fits mark' byte') run-is d
 
     pub own-short : fits ≡ false → OwnIndented outro indentor mark (runOf pieces store (side outro (runsOf (rowAt t 0)))) t p s top byte t p' s' fits mark' byte'
-    own-short e = record { done = λ k. no-tf k e; short = at-row .short }
+    own-short e = record { done = λ k. clash k e; short = at-row .short }
 
     pub own-done : fits ≡ true → (r : Row) → RowWith outro top z r → (t' : List ℕ) → Put t t' 0 r → length t' ≡ length t
         → OwnIndented outro indentor mark (runOf pieces store (side outro (runsOf (rowAt t 0)))) t p s top byte t' p' s' fits mark' byte'
@@ -127,7 +125,7 @@ module _ (outro : Bool) (indentor : Text) (mark : Bool) (pieces store t p s : Li
                 put = run-put (at-row .done e) (at-row .room e);
                 mark-is = at-row .mark-is e;
               };
-          short = λ k. no-tf e k;
+          short = λ k. clash e k;
         }
 
 -- ---- the indentor

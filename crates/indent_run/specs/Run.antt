@@ -2,26 +2,27 @@
 -- Assumes nothing.
 use mathlib.Core.Path.{_≡_, refl, sym, ap, ap₂, _∙_, subst}
 use mathlib.Core.Bool.{Bool, true, false}
-use mathlib.Core.List.{List, [], _∷_, _++_, append-assoc}
-use Prim.Native.Nat.{ℕ, suc, _+_, _*_, _-_, _^_, _≤_, _<_}
+use mathlib.Core.List.{List, [], _∷_, _++_}
+use Prim.Native.Nat.{ℕ, _+_, _*_, _-_, _^_, _≤_, _<_}
 use native.Mathlib.Omega.{arith}
 use native.Mathlib.Numerals.{add-one}
 use native.Mathlib.Nat.{add-zero}
 use native.Mathlib.Decide.{le-ind}
 use lib.ListN.{length, set, length-append}
-use lib.Seq.{sets-eq}
 use Rattle.utf8.specs.Rfc3629.{utf8}
 use Rattle.utf8.specs.Chars.{All, concat}
 use Rattle.model.specs.Text.{Text}
 use Rattle.model.specs.Indent.{indent-frag, Pieces, then-piece, indent-pieces}
 use Rattle.model.specs.WellFormed.{Valid}
+use Rattle.model.specs.Lists.{clash}
 use Rattle.memory.specs.Layout.{bytesAt, pieceAt, tabulate, runOf}
 use Rattle.memory.specs.WellFormed.{RunIn}
-use Rattle.texts.specs.Over.{over}
+use Rattle.texts.specs.Over.{over, two-sets}
 use Rattle.texts.specs.Texts.{concat-nil, concat-snoc, length-tabulate, run-tabulate}
 use Rattle.texts.specs.Carry.{Pushed, Carried, RoomOf, carried-none, carried-one, carried-more}
 use Rattle.indent_text.specs.Bytes.{Filling, mark-behind}
 use Rattle.indent_text.specs.Laws.{indent-frag-is}
+use Rattle.preservation.specs.Indent.{pieces-length}
 
 -- ---- one text
 pub record PieceRoom (p s : List ℕ) (row byte : ℕ) : Type 0 where
@@ -35,16 +36,9 @@ pub record PieceIndented (xs p s : List ℕ) (byte row : ℕ) (p' s' : List ℕ)
   pub room : fits ≡ true → byte + length xs ≤ length s
   pub short : fits ≡ false → length s < byte + length xs
 
-no-tf : {X : Type 0} {b : Bool} → b ≡ true → b ≡ false → X
-no-tf e f = let y : _≡_ {A = ℕ} 0 1 = cc in absurd (omega arith)
-
-two-sets : (p : List ℕ) (w a b : ℕ) → w + 1 < length p → set (set p w a) (w + 1) b ≡ over p w (a ∷ b ∷ [])
-unfolding over
-two-sets p w a b h = rw (add-one w, ← append-assoc) (sets-eq (a ∷ b ∷ []) p w (omega arith))
-
 module _ {xs s s' : List ℕ} {byte end : ℕ} {f : Bool} (x : Filling s byte xs s' f end) where
   pub piece-short : {p p' : List ℕ} {row : ℕ} → f ≡ false → PieceIndented xs p s byte row p' s' f end
-  piece-short e = record { done = λ k. no-tf k e; room = λ k. no-tf k e; short = x .short }
+  piece-short e = record { done = λ k. clash k e; room = λ k. clash k e; short = x .short }
 
   pub piece-size : f ≡ true → byte ≤ end
   piece-size e = omega (arith, x .done e .next-is)
@@ -88,10 +82,6 @@ indent-snoc : (indentor : Text) (mark : Bool) (l : List Text) (t : Text)
     ≡ record { mark = indent-frag indentor (indent-pieces indentor mark l .mark) t .mark; pieces = indent-pieces indentor mark l .pieces ++ (indent-frag indentor (indent-pieces indentor mark l .mark) t .text ∷ []) }
 indent-snoc indentor mark [] t = refl
 indent-snoc indentor mark (x ∷ l) t = ap (then-piece (indent-frag indentor mark x .text)) (indent-snoc indentor (indent-frag indentor mark x .mark) l t)
-
-pub pieces-length : (indentor : Text) (mark : Bool) (l : List Text) → length (indent-pieces indentor mark l .pieces) ≡ length l
-pieces-length indentor mark [] = refl
-pieces-length indentor mark (t ∷ l) = ap suc (pieces-length indentor (indent-frag indentor mark t .mark) l)
 
 -- the first i texts of f 0, f 1, ..
 abbrev pub first-ones : Text → Bool → (ℕ → Text) → ℕ → Pieces
@@ -197,9 +187,9 @@ module _ (indentor : Text) (mark : Bool) (pieces store : List ℕ) (at n : ℕ) 
       → RunIndented indentor mark (runOf pieces store (at, n)) p s byte top p' s' false mark' byte'
   run-short p' s' mark' byte' h =
       record {
-        done = λ k. no-tf k refl;
-        room = λ k. no-tf k refl;
-        mark-is = λ k. no-tf k refl;
+        done = λ k. clash k refl;
+        room = λ k. clash k refl;
+        mark-is = λ k. clash k refl;
         short = λ _. omega (arith, h, ap (λ (z : Pieces). length (concat (z .pieces))) run-ones);
       }
 
@@ -223,5 +213,5 @@ module _ (indentor : Text) (mark : Bool) (pieces store : List ℕ) (at n : ℕ) 
                 narrow = w .narrow;
               };
           mark-is = λ _. r .mark-is ∙ ap (λ (z : Pieces). z .mark) q;
-          short = λ k. no-tf refl k;
+          short = λ k. clash refl k;
         }

@@ -23,9 +23,10 @@ use Rattle.rows.specs.Insert.{runsOf}
 use Rattle.frame.specs.Front.{desk-same}
 use Rattle.trim_run.specs.Low.{DeskLow, desk-in, run-same, run-still, entries-same, entries-still}
 use Rattle.indent_closed.specs.Indent.{IndentedChunks}
-use Rattle.indent_run.specs.Run.{RunReady, pieces-length}
+use Rattle.indent_run.specs.Run.{RunReady}
 use Rattle.indent_run.specs.Own.{Runs, side, OwnReady, OwnDone, OwnIndented}
 use Rattle.indent_rows.specs.Walk.{chunksOf, closedOf, WalkReady, ChunksIndented, WalkDone}
+use Rattle.preservation.specs.Indent.{pieces-length}
 
 -- the head lies below row 3073 and a byte; the tail stands in the lent tables; there is room
 pub record RestReady (indentor source pieces store t p s : List ℕ) (byte : ℕ) : Type 0 where

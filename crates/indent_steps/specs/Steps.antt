@@ -2,26 +2,28 @@
 -- Assumes nothing.
 use mathlib.Core.Path.{_≡_, refl, sym, ap, ap₂, _∙_, subst}
 use mathlib.Core.Bool.{Bool, true, false, _&&_}
-use mathlib.Core.List.{List, [], _∷_, _++_, map}
+use mathlib.Core.List.{List, _++_, map}
 use mathlib.Core.Logic.{_⊎_, inl, inr}
-use Prim.Native.Nat.{ℕ, _+_, _*_, _≤_, _<_}
+use Prim.Native.Nat.{ℕ, _+_, _≤_, _<_}
 use native.Mathlib.Omega.{arith}
 use lib.Dec.{leb}
-use lib.ListN.{length, getD, take, length-append, List·getD-append}
+use lib.ListN.{length, take}
 use lib.Seq.{take-at}
 use borrow.Author.Tests.{leb-true}
 use Rattle.utf8.specs.Chars.{All, nil, cons, concat}
 use Rattle.table.specs.Order.{Entry, entryAt, entries}
-use Rattle.model.specs.Text.{Text, sum}
+use Rattle.model.specs.Text.{sum}
 use Rattle.model.specs.Chunk.{Chunk}
 use Rattle.model.specs.MagicString.{MagicString, Result, ok}
 use Rattle.model.specs.Limits.{full, within, chunk-pieces, chunk-bytes, piece-count, byte-count}
 use Rattle.model.specs.Indent.{Pieces, indent-pieces, indent-by}
 use Rattle.model.specs.WellFormed as model
-use Rattle.memory.specs.Layout.{Place, pieceAt, runOf, chunkOf, magicStringOf}
+use Rattle.model.specs.Lists.{concat-sum, and-left, and-right}
+use Rattle.memory.specs.Layout.{Place, runOf, chunkOf, magicStringOf}
 use Rattle.memory.specs.WellFormed.{RunIn, ReplacementIn, EntryIn, Readable}
+use Rattle.memory.specs.Laws.{piece-front}
 use Rattle.texts.specs.Over.{part-kept}
-use Rattle.texts.specs.Texts.{concat-cons, concat-nil, run-length}
+use Rattle.texts.specs.Texts.{run-length}
 use Rattle.texts.specs.Carry.{Below}
 use Rattle.frame.specs.Front.{desk-same, chunks-front}
 use Rattle.frame.specs.Frame.{Did, few-chunks}
@@ -29,9 +31,9 @@ use Rattle.trim_run.specs.Low.{RowsKept, BytesKept, TextLow, EntryLow, run-same
 use Rattle.indent_closed.specs.Indent.{indented-chunks, indented}
 use Rattle.indent_closed.specs.Walk.{indent-by-closed}
 use Rattle.indent_closed.specs.Growth.{past-chunks, past-bytes}
-use Rattle.indent_run.specs.Run.{pieces-length}
 use Rattle.indent_run.specs.Own.{Runs, OwnReady, OwnDone, OwnIndented, LayRoom, Laid}
 use Rattle.indent_rows.specs.Walk.{chunksOf, closedOf, bodyOf}
+use Rattle.preservation.specs.Indent.{pieces-length}
 use Rattle.indent_steps.specs.Rest.{RestReady, leftOf, tailOf, RestDone}
 
 -- a desk in the rows t and the lent pieces and store; these stand at the front of the scratch ones, p1 and s1
@@ -56,16 +58,10 @@ pub record IndentSteps (indentor exclude source t p s t2 p2 s2 : List ℕ) (r : 
 
 -- ---- the loaded desk lies below row 2048 and byte 32,768
 module _ (p s y : List ℕ) (lp : length p ≡ 4096) (ls : length s ≡ 32768) where
-  piece-front : (j : ℕ) → j * 2 + 2 ≤ 4096 → pieceAt (p ++ y) j ≡ pieceAt p j
-  piece-front j h =
-      let a : getD (p ++ y) (j * 2) 0 ≡ getD p (j * 2) 0 = List·getD-append p y 0 (j * 2) (omega arith) in
-      let b : getD (p ++ y) (j * 2 + 1) 0 ≡ getD p (j * 2 + 1) 0 = List·getD-append p y 0 (j * 2 + 1) (omega arith) in
-      ap₂ (λ (u v : ℕ). (u, v)) a b
-
   run-low : (r : Place) → RunIn p s r → Below (p ++ y) 32768 2048 r
   unfolding RunIn
   run-low r h k g =
-      let e = ap (λ (x : Place). x .0 + x .1) (piece-front (r .0 + k) (omega (arith, h k g .row))) in
+      let e = ap (λ (x : Place). x .0 + x .1) (piece-front p y (r .0 + k) (omega (arith, h k g .row))) in
       (omega (arith, h k g .row), omega (arith, h k g .text, e))
 
   entry-low : (e : Entry) → EntryIn p s e → EntryLow (p ++ y) 2048 32768 e
@@ -92,19 +88,7 @@ rows-then h x y = record { len = y .len ∙ x .len; rows = λ j k. y .rows j (om
 bytes-then : {a b : ℕ} {p q r : List ℕ} → a ≤ b → BytesKept a p q → BytesKept b q r → BytesKept a p r
 bytes-then {a} {b} {p} {q} {r} h x y = record { len = y .len ∙ x .len; bytes = part-kept a 0 b q r (y .bytes) (omega arith) ∙ x .bytes }
 
-concat-sum : (ts : List Text) → length (concat ts) ≡ sum length ts
-concat-sum [] = ap length concat-nil
-concat-sum (t ∷ ts) = ap length (concat-cons t ts) ∙ length-append t (concat ts) ∙ ap (λ (n : ℕ). length t + n) (concat-sum ts)
-
 -- ---- the limits
-and-left : (x y : Bool) → x && y ≡ true → x ≡ true
-and-left true y e = refl
-and-left false y e = e
-
-and-right : (x y : Bool) → x && y ≡ true → y ≡ true
-and-right true y e = e
-and-right false y e = let z : _≡_ {A = ℕ} 0 1 = cc in absurd (omega arith)
-
 few-pieces : (m : MagicString) → within full m ≡ true → piece-count m ≤ 1024
 unfolding within
 few-pieces m e =

@@ -2,21 +2,20 @@
 use mathlib.Core.Path.{_≡_, refl, ap, sym, _∙_, subst}
 use mathlib.Core.Bool.{Bool, true, false, _&&_, cond, false≢true}
 use mathlib.Core.List.{List, [], _∷_, _++_, append-assoc}
-use Prim.Native.Nat.{ℕ, zero, suc, _+_, _-_, _^_, _≤_, _<_, min}
+use Prim.Native.Nat.{ℕ, zero, suc, _+_, _-_, _≤_, _<_, min}
 use native.Mathlib.Omega.{arith}
 use native.Mathlib.Numerals.{add-one}
 use native.Mathlib.Decide.{decLt}
 use lib.Dec.{eqb, leb}
 use lib.ListN.{length, getD, drop, set, replicate, length-replicate, length-drop, replicate-append-replicate, drop-of-length-le}
 use lib.Seq.{drop-cons, drop-drop, set-at}
-use borrow.Author.Tests.{eq-eqb, ne-eqb, le-leb, lt-leb, leb-true, eqb-true}
+use borrow.Author.Tests.{eq-eqb, ne-eqb, le-leb, lt-leb, eqb-true}
 use Rattle.utf8.specs.Sequences.{both}
 use Rattle.model.specs.Text.{Text, TAB, LF, CR, SPACE, lines, onto-first}
 use Rattle.model.specs.Indent.{tabbed, spaced, leading-spaces, count, least-spaces, get-indent-string}
-use Rattle.model.specs.Limits.{within}
 use Rattle.model.specs.Call.{show, get-indent-string as GetIndentString}
+use Rattle.model.specs.Lists.{one-most}
 use Rattle.memory.specs.Layout.{magicStringOf}
-use Rattle.memory.specs.WellFormed.{WellFormed}
 use Rattle.memory.specs.Calls.{Told}
 use Rattle.measures.specs.Measures.{feedOf}
 use Rattle.fragments.specs.Telling.{told-short, told-text}
@@ -242,10 +241,6 @@ tallied-none s = record {
   fewest = refl;
 }
 
-one-most : (b : Bool) → cond b 1 0 ≤ 1
-one-most true = omega arith
-one-most false = omega arith
-
 fewest-le : (b : Bool) (k n m : ℕ) → n ≤ m → cond b (min k n) n ≤ m
 fewest-le true k n m h = omega arith
 fewest-le false k n m h = h
@@ -356,13 +351,6 @@ fill-more d b i o h e =
 
 pub fill-all : (d : Text) (b n i : ℕ) (o : Text) → i ≤ n → n ≤ i → o ≡ replicate i b ++ drop i d → o ≡ replicate n b ++ drop n d
 fill-all d b n i o h k e = let q : i ≡ n = omega arith in e ∙ ap (λ (x : ℕ). replicate x b ++ drop x d) q
-
--- ---- the source of a desk is short
-pub source-short : (source t p s : List ℕ) → WellFormed source t p s → length source < 2 ^ 32
-unfolding magicStringOf within
-source-short source t p s w =
-    let h = leb-true (length source) 16384 (both (leb (length source) 16384) _ (w .desk .limits) .0) in
-    omega arith
 
 -- ---- what the report tells
 module _ (source t p s : List ℕ) (g : Indentor) (k : Guessed source g) (n : ℕ) (e : n ≡ length (indentor-text g)) where

@@ -2,19 +2,19 @@
 use mathlib.Core.Path.{_≡_, refl, ap, sym, _∙_, subst}
 use mathlib.Core.Bool.{Bool, true, false, _&&_, _||_, not, cond}
 use mathlib.Core.List.{List, [], _∷_, _++_, append-assoc, flatten}
-use Prim.Native.Nat.{ℕ, suc, _+_, _/_, _%_, _≤_, _<_}
+use Prim.Native.Nat.{ℕ, suc, _+_, _/_, _%_, _≤_}
 use native.Mathlib.Omega.{arith}
 use native.Mathlib.Decide.{decLt}
 use native.Mathlib.Nat.{add-zero}
 use lib.Dec.{eqb}
 use lib.ListN.{length}
-use borrow.Author.Tests.{ne-eqb, le-leb, lt-leb, le-ltb}
+use borrow.Author.Tests.{ne-eqb}
 use Rattle.utf8.specs.Rfc3629.{follows, utf8, between}
 use Rattle.utf8.specs.Laws.{utf8-part}
 use Rattle.utf8.specs.Chars.{All, nil, cons, chars, concat}
 use Rattle.utf8.specs.Encode.{encode}
 use Rattle.utf8.specs.Encoded.{enc-1, enc-2, enc-3, enc-4, follow}
-use Rattle.utf8.specs.Sequences.{follows-from}
+use Rattle.utf8.specs.Sequences.{follows-from, follows-below, follows-above}
 use Rattle.utf8.specs.CharLaws.{Encoded, chars-encoded, concat-chars}
 use Rattle.model.specs.Text.{Text, LF, CR}
 use Rattle.model.specs.Indent.{Indented, then-text, indent-chars, indent-frag, excluded, Starts, then-start, line-starts}
@@ -42,16 +42,10 @@ data Shape : Text → Type 0 where
   one : (a : ℕ) → follows a ≡ false → Shape (a ∷ [])
   long : (a b : ℕ) (t : Text) → 0xC0 ≤ a → All (λ x. follows x ≡ true) (b ∷ t) → Shape (a ∷ b ∷ t)
 
-low : (a : ℕ) → a < 0x80 → follows a ≡ false
-low a h = rw (lt-leb 0x80 a h)
-
-high : (a : ℕ) → 0xC0 ≤ a → follows a ≡ false
-high a h = rw (le-leb 0x80 a (omega arith), le-ltb a 0xC0 h)
-
 shape-of : (v : ℕ) → Shape (encode v)
 shape-of v =
     elim (decLt v 0x80) [
-      | yes h ↦ rw (enc-1 v h) (one v (low v h))
+      | yes h ↦ rw (enc-1 v h) (one v (follows-below v h))
       | no h ↦ elim (decLt v 0x800) [
         | yes k ↦ rw (enc-2 v (omega arith) k) (long (0xC0 + v / 64) (0x80 + v % 64) [] (omega arith) (cons (follow (v % 64) (omega arith)) nil))
         | no k ↦ elim (decLt v 0x10000) [
@@ -229,7 +223,7 @@ module _ (exclude : List ℕ) (cs : List Text) (ih : (k : Bool) (i : ℕ) → li
 
   line-long : (mark : Bool) (i a b : ℕ) (t : Text) → 0xC0 ≤ a → All (λ x. follows x ≡ true) (b ∷ t) → line-starts exclude mark i ((a ∷ b ∷ t) ∷ cs) ≡ starts-from exclude mark i (a ∷ b ∷ (t ++ concat cs))
   unfolding starts-from
-  line-long mark i a b t h k = starts-long i (b ∷ t) k mark (excluded exclude i) (eqb a LF) (eqb a CR) (follows a) (not-feed a (omega arith)) (not-return a (omega arith)) (high a h)
+  line-long mark i a b t h k = starts-long i (b ∷ t) k mark (excluded exclude i) (eqb a LF) (eqb a CR) (follows a) (not-feed a (omega arith)) (not-return a (omega arith)) (follows-above a h)
 
 starts-each : (exclude : List ℕ) (mark : Bool) (i : ℕ) {cs : List Text} → All Shape cs → line-starts exclude mark i cs ≡ starts-from exclude mark i (concat cs)
 unfolding starts-from flatten

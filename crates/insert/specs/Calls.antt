@@ -1,10 +1,10 @@
 -- The insertions past their tests: the cut, the search and the piece, and the call that they make.
 use mathlib.Core.Path.{_≡_, refl, sym, ap, ap₂, _∙_, subst}
-use mathlib.Core.Bool.{Bool, true, false, _&&_, not, cond}
+use mathlib.Core.Bool.{Bool, true, false, not, cond, and-false}
 use mathlib.Core.List.{List, [], _∷_, _++_, map}
 use mathlib.Core.Option.{Option, none, some}
 use mathlib.Core.Logic.{_⊎_, inl, inr, ⊎-elim}
-use Prim.Native.Nat.{ℕ, zero, suc, _+_, _*_, _≤_, _<_}
+use Prim.Native.Nat.{ℕ, _+_, _*_, _≤_, _<_}
 use native.Mathlib.Omega.{arith}
 use lib.Dec.{ltb, leb, eqb}
 use lib.ListN.{length, length-append}
@@ -16,17 +16,17 @@ use Rattle.model.specs.Chunk.{Chunk, Texts, with-texts, start-of, end-of}
 use Rattle.model.specs.MagicString.{MagicString, Result, ok, err, and-then, with-chunks, with-intro, with-outro, by-start, by-end, at-start, at-end, split-at}
 use Rattle.model.specs.Limits.{full, within, chunk-bytes, byte-count, piece-count}
 use Rattle.model.specs.Call.{Edit, steps, refused-before}
+use Rattle.model.specs.Lists.{sum-append}
 use Rattle.memory.specs.Layout.{magicStringOf}
 use Rattle.memory.specs.WellFormed.{Readable, WellFormed}
 use Rattle.memory.specs.Calls.{idle, may-write, Ran}
 use Rattle.texts.specs.Carry.{withText}
-use Rattle.closed_forms.specs.Lists.{sum-append}
 use Rattle.rebuild.specs.Rebuilt.{Finished}
 use Rattle.frame.specs.Front.{desk-front}
 use Rattle.frame.specs.Loaded.{Loaded}
 use Rattle.frame.specs.Frame.{Scratch, Did, loaded-readable, loaded-desk, ran-finished, ran-past-limits, may-write-0, may-write-6}
 use Rattle.split.specs.Lift.{DeskSmall, desk-small}
-use Rattle.split.specs.Cuts.{Spans, CutsDone, CutsLeave, loaded-spans}
+use Rattle.split.specs.Cuts.{Spans, CutsDone, CutsLeave, loaded-spans, stop}
 use Rattle.insert.specs.Piece.{Spare, LongScratch, loaded-spare}
 use Rattle.insert.specs.Insertion.{add-to, whole-add, insert-step, insert-at}
 
@@ -43,10 +43,6 @@ pub record InsertSteps (left front : Bool) (q : ℕ) (text p s t t' p' s' : List
 pub with-sum : (front : Bool) (t : Text) (ts : List Text) → sum length (withText front t ts) ≡ length t + sum length ts
 with-sum true t ts = refl
 with-sum false t ts = sum-append length ts (t ∷ []) ∙ omega arith
-
-and-false : (x : Bool) → x && false ≡ false
-and-false true = refl
-and-false false = refl
 
 pub past-bytes : (m : MagicString) → 32768 < byte-count m → within full m ≡ false
 unfolding within
@@ -93,10 +89,6 @@ step-big false front q t m = go (by-start q (m .chunks)) refl
     go (some d) e = omega (arith, start-big q (length t) (add-to false front t) (add-big false front t) (m .chunks) d e)
 
 -- ── the three ends of the steps ──
-pub stop : (r : ℕ) (m : MagicString) (g : MagicString → Result) → (r ≡ 0 → ⊥) → and-then (err r m) g ≡ err r m
-stop zero m g n = absurd (n refl)
-stop (suc r) m g n = refl
-
 pub six : {r : ℕ} → (r ≡ 0) ⊎ (r ≡ 6) → (r ≡ 0 → ⊥) → r ≡ 6
 six (inl h) n = absurd (n h)
 six (inr h) n = h

@@ -1,8 +1,8 @@
 -- `by_end_mut` and `by_start_mut` with what append.rs and prepend.rs do: on scratch rows, and what it means for the desk.
 use mathlib.Core.Path.{_≡_, refl, sym, ap, ap₂, _∙_, subst}
 use mathlib.Core.Bool.{Bool, true, false, _&&_, not, cond}
-use mathlib.Core.List.{List, [], _∷_, _++_, map}
-use mathlib.Core.Option.{Option, none, some}
+use mathlib.Core.List.{List, [], _∷_, _++_, map, map-append}
+use mathlib.Core.Option.{none, some}
 use mathlib.Core.Logic.{_⊎_, inl, inr}
 use Prim.Native.Nat.{ℕ, zero, suc, _+_, _*_, _≤_, _<_}
 use native.Mathlib.Omega.{arith}
@@ -19,20 +19,22 @@ use Rattle.model.specs.Text.{Text, sum}
 use Rattle.model.specs.Chunk.{Chunk, Texts, with-texts, start-of, end-of}
 use Rattle.model.specs.MagicString.{MagicString, Result, ok, err, and-then, with-chunks, with-intro, with-outro, by-start, by-end, at-start, at-end, split-at}
 use Rattle.model.specs.Limits.{full, within, chunk-bytes, byte-count}
+use Rattle.model.specs.Lists.{sum-append, first-of, rest-of, all-append, same-around}
 use Rattle.memory.specs.Layout.{Place, runOf, replacementOf, chunkOf, magicStringOf}
-use Rattle.memory.specs.WellFormed.{RunIn, RunsIn, EntryIn, Readable}
+use Rattle.memory.specs.WellFormed.{RunIn, EntryIn, Readable}
+use Rattle.memory.specs.Laws.{chunks-of}
 use Rattle.texts.specs.Carry.{withText}
 use Rattle.rows.specs.declared.Key.{Key}
 use Rattle.rows.specs.declared.Key.the-variants.{Start, End, Inside}
 use Rattle.rows.specs.Find.{meets, First}
 use Rattle.rows.specs.Insert.{Placed, runsOf}
 use Rattle.rows.specs.Split.{RowSet, row-set, DeskSet, desk-set, entries-at}
-use Rattle.closed_forms.specs.Lists.{sum-append}
 use Rattle.frame.specs.Front.{desk-same, run-in-front, run-front, text-in-front, text-front, runs-front, entry-front, chunk-front, entries-front, chunks-front}
 use Rattle.frame.specs.Frame.{Did}
-use Rattle.split.specs.Lift.{all-first, all-rest, all-append, map-append, chunks-of, RunSmall, EntrySmall, DeskSmall}
+use Rattle.split.specs.Lift.{RunSmall, EntrySmall, DeskSmall}
 use Rattle.split.specs.Cuts.{Spans, CutsDone, CutsLeave}
-use Rattle.insert.specs.Piece.{side, with-side, Longer, PieceAdded}
+use Rattle.closed_forms.specs.Found.{start-at, start-none, start-set, end-at, end-none, end-set, some-is, none-is}
+use Rattle.insert.specs.Piece.{side, with-side, Longer, PieceAdded, side-in}
 
 -- ── the model's step ──
 -- a text more in front of a chunk's outro or intro, or behind it
@@ -70,41 +72,6 @@ key-of false = Start
 abbrev keyed : Bool → ℕ → Chunk → Bool
 keyed true q c = eqb (end-of c) q
 keyed false q c = eqb (start-of c) q
-
-module _ (q : ℕ) where
-  end-at : {xs : List Chunk} (c : Chunk) (ys : List Chunk) → All (λ d. eqb (end-of d) q ≡ false) xs → eqb (end-of c) q ≡ true → by-end q (xs ++ c ∷ ys) ≡ some c
-  end-at c ys nil h = rw h
-  end-at c ys (cons n ns) h = rw n (end-at c ys ns h)
-
-  end-none : {xs : List Chunk} → All (λ d. eqb (end-of d) q ≡ false) xs → by-end q xs ≡ none
-  end-none nil = refl
-  end-none (cons n ns) = rw n (end-none ns)
-
-  end-set : {xs : List Chunk} (f : Texts → Texts) (c : Chunk) (ys : List Chunk) → All (λ d. eqb (end-of d) q ≡ false) xs → eqb (end-of c) q ≡ true
-      → at-end q f (xs ++ c ∷ ys) ≡ xs ++ with-texts f c ∷ ys
-  end-set f c ys nil h = rw h
-  end-set f c ys (cons {x = d} n ns) h = rw n (ap (λ (l : List Chunk). d ∷ l) (end-set f c ys ns h))
-
-  start-at : {xs : List Chunk} (c : Chunk) (ys : List Chunk) → All (λ d. eqb (start-of d) q ≡ false) xs → eqb (start-of c) q ≡ true → by-start q (xs ++ c ∷ ys) ≡ some c
-  start-at c ys nil h = rw h
-  start-at c ys (cons n ns) h = rw n (start-at c ys ns h)
-
-  start-none : {xs : List Chunk} → All (λ d. eqb (start-of d) q ≡ false) xs → by-start q xs ≡ none
-  start-none nil = refl
-  start-none (cons n ns) = rw n (start-none ns)
-
-  start-set : {xs : List Chunk} (f : Texts → Texts) (c : Chunk) (ys : List Chunk) → All (λ d. eqb (start-of d) q ≡ false) xs → eqb (start-of c) q ≡ true
-      → at-start q f (xs ++ c ∷ ys) ≡ xs ++ with-texts f c ∷ ys
-  start-set f c ys nil h = rw h
-  start-set f c ys (cons {x = d} n ns) h = rw n (ap (λ (l : List Chunk). d ∷ l) (start-set f c ys ns h))
-
-some-is : (o : Option Chunk) (c : Chunk) (x y : Result) → o ≡ some c → elim o as (λ _. Result) [ none ↦ x | some d ↦ y ] ≡ y
-some-is none c x y e = let z : _≡_ {A = ℕ} 0 1 = cc in absurd (omega arith)
-some-is (some d) c x y e = refl
-
-none-is : (o : Option Chunk) (x y : Result) → o ≡ none → elim o as (λ _. Result) [ none ↦ x | some d ↦ y ] ≡ x
-none-is none x y e = refl
-none-is (some d) x y e = let z : _≡_ {A = ℕ} 0 1 = cc in absurd (omega arith)
 
 step-found : (left front : Bool) (q : ℕ) (t : Text) (m : MagicString) (xs : List Chunk) (c : Chunk) (ys : List Chunk) → m .chunks ≡ xs ++ c ∷ ys
     → All (λ d. keyed left q d ≡ false) xs → keyed left q c ≡ true → insert-step left front q t m ≡ ok (with-chunks m (xs ++ with-texts (add-to left front t) c ∷ ys))
@@ -210,7 +177,7 @@ module _ (outro front : Bool) (text p s y z t t' : List ℕ) (i : ℕ) (run : Pl
         chunks =
             subst (All (EntryIn (p ++ y) (s ++ z))) (sym list)
             (all-append (entries-front p s y z front-in)
-            (cons (piece-in p s y z front text run outro (rowAt t i) ri (all-first mid)) (entries-front p s y z (all-rest mid))));
+            (cons (piece-in p s y z front text run outro (rowAt t i) ri (first-of mid)) (entries-front p s y z (rest-of mid))));
       }
 
   piece-desk : (source : List ℕ) → magicStringOf source t' (p ++ y) (s ++ z)
@@ -221,10 +188,7 @@ module _ (outro front : Bool) (text p s y z t t' : List ℕ) (i : ℕ) (run : Pl
       (ap (λ (x : (ℕ × ℕ) × (ℕ × ℕ)). runOf (p ++ y) (s ++ z) (x .1)) (set .desk) ∙ run-front p s y z _ (h .desk .outro))
       (ap (map (chunkOf (p ++ y) (s ++ z))) list
       ∙ map-append (chunkOf (p ++ y) (s ++ z)) (map (entryAt t) us) (e' ∷ map (entryAt t) bs)
-      ∙ three (chunks-front p s y z front-in) (lift-piece p s y z front text run outro (rowAt t i) tx (all-first mid)) (chunks-front p s y z (all-rest mid)))
-    where
-      three : {xs xs' : List Chunk} {c c' : Chunk} {ys ys' : List Chunk} → xs ≡ xs' → c ≡ c' → ys ≡ ys' → xs ++ c ∷ ys ≡ xs' ++ c' ∷ ys'
-      three a b c = cc
+      ∙ same-around (chunks-front p s y z front-in) (lift-piece p s y z front text run outro (rowAt t i) tx (first-of mid)) (chunks-front p s y z (rest-of mid)))
 
 -- ── the two ends of the search ──
 pub inserted-found : (left front : Bool) (q : ℕ) (text p s t t' p' s' : List ℕ) (i : ℕ) → Readable t p s → First (meets (key-of left) q) t i
@@ -272,10 +236,6 @@ inserted-whole left front q text p s t t' p' s' h n d len source =
     }
 
 -- ── the run of the row that was found, and of row 0 ──
-side-in : (outro : Bool) {p s : List ℕ} (e : Entry) → RunsIn p s e → RunIn p s (side outro e)
-side-in true e h = h .outro
-side-in false e h = h .intro
-
 side-small : (outro : Bool) {p s : List ℕ} (e : Entry) → EntrySmall p s e → RunSmall p s (side outro e)
 side-small true e h = h .outro
 side-small false e h = h .intro
@@ -287,8 +247,8 @@ module _ (f : Entry → Bool) (t p s : List ℕ) (i : ℕ) (w : First f t i) whe
   pub found-run : (outro : Bool) → Readable t p s → DeskSmall t p s → RunIn p s (side outro (entryAt t i)) × RunSmall p s (side outro (entryAt t i))
   found-run outro h k =
       let e = entries-at t (w .us) i (w .bs) (w .place) in (
-        side-in outro (entryAt t i) (all-first (all-back (EntryIn p s) (map (entryAt t) (w .us)) (entryAt t i ∷ map (entryAt t) (w .bs)) (subst (All (EntryIn p s)) e (h .chunks))) .runs),
-        side-small outro (entryAt t i) (all-first (all-back (EntrySmall p s) (map (entryAt t) (w .us)) (entryAt t i ∷ map (entryAt t) (w .bs)) (subst (All (EntrySmall p s)) e (k .chunks)))),
+        side-in outro (entryAt t i) (first-of (all-back (EntryIn p s) (map (entryAt t) (w .us)) (entryAt t i ∷ map (entryAt t) (w .bs)) (subst (All (EntryIn p s)) e (h .chunks))) .runs),
+        side-small outro (entryAt t i) (first-of (all-back (EntrySmall p s) (map (entryAt t) (w .us)) (entryAt t i ∷ map (entryAt t) (w .bs)) (subst (All (EntrySmall p s)) e (k .chunks)))),
       )
 
   pub found-row : Linked t → i * 12 + 12 ≤ length t

@@ -1,7 +1,7 @@
 -- A piece more on top of the lent tables: the run's rows are copied above all rows in use, the text goes above all bytes in use, and the row names the copy.
 use mathlib.Core.Path.{_≡_, refl, sym, ap, _∙_, subst}
 use mathlib.Core.Bool.{Bool, true, false}
-use mathlib.Core.List.{List, [], _∷_, _++_, map}
+use mathlib.Core.List.{List, [], _∷_, _++_, map, map-append}
 use Prim.Native.Nat.{ℕ, suc, _+_, _*_, _-_, _≤_, _<_}
 use native.Mathlib.Omega.{arith}
 use native.Mathlib.Numerals.{add-one}
@@ -15,18 +15,17 @@ use Rattle.table.specs.Table.{rowAt, Put}
 use Rattle.table.specs.Order.{Entry, entryOf, entryAt, entries, order, countOf, write-keeps}
 use Rattle.model.specs.Text.{sum}
 use Rattle.model.specs.Limits.{piece-count, chunk-pieces}
+use Rattle.model.specs.Lists.{sum-append, first-of, rest-of}
 use Rattle.memory.specs.Layout.{Place, runOf, chunkOf, magicStringOf}
 use Rattle.memory.specs.WellFormed.{RunIn, RunsIn, EntryIn, Readable, HoldsEach, Disjoint, among, pieceUses, runUses, listUses, byteUses, times}
 use Rattle.texts.specs.Texts.{run-length, run-piece}
 use Rattle.rows.specs.Find.{First}
 use Rattle.rows.specs.Insert.{runsOf}
 use Rattle.rows.specs.Split.{RowSet, row-set, DeskSet, desk-set, entries-at}
-use Rattle.closed_forms.specs.Lists.{sum-append}
-use Rattle.split.specs.Lift.{all-first, all-rest, map-append}
 use Rattle.on_top.specs.declared.Used.{Used}
 use Rattle.on_top.specs.Run.{TopRoom, Lengthened, rowWords, withWords, above-rows, above-bytes, new-texts, new-in}
 use Rattle.on_top.specs.Apart.{rowUses, storeUses, apart-after, lengthened-uses, run-uses-front, list-uses-front, sum-uses-front}
-use Rattle.insert.specs.Piece.{side, with-side, Longer, PieceAdded}
+use Rattle.insert.specs.Piece.{side, with-side, Longer, PieceAdded, side-in}
 
 -- the piece is added to row i; its run begins at the row, and uses the bytes of the run before it and those of the text
 pub record AddedOnTop (outro front : Bool) (text : List ℕ) (row byte : ℕ) (P S t t' P' S' : List ℕ) (i : ℕ) : Type 0 where
@@ -167,8 +166,8 @@ module _ (outro front : Bool) (text : List ℕ) (row byte : ℕ) (P S t t' P' S'
           sum-append (byteUses p b) xs (e ∷ ys),
           sum-append (byteUses (p ++ z) b) xs (e' ∷ ys),
           sum-uses-front p s z b (all-front (EntryIn p s) xs (e ∷ ys) all-in),
-          sum-uses-front p s z b (all-rest mid-in),
-          side-bytes outro (rowAt t i) y p s z b (among (byte, length text) b) (all-first mid-in .runs) (new-uses b),
+          sum-uses-front p s z b (rest-of mid-in),
+          side-bytes outro (rowAt t i) y p s z b (among (byte, length text) b) (first-of mid-in .runs) (new-uses b),
         )
 
     pub found-on-top : OnTop t P t' P'
@@ -226,10 +225,6 @@ room-of t P S text l x k h f =
       narrow = omega (arith, k .lent-store);
     }
 
-side-in : (outro : Bool) {p s : List ℕ} (e : Entry) → RunsIn p s e → RunIn p s (side outro e)
-side-in true e h = h .outro
-side-in false e h = h .intro
-
 side-few : (outro : Bool) (p s : List ℕ) (e : Entry) (n : ℕ) → length (runOf p s (e .intro)) + length (runOf p s (e .outro)) ≤ n → side outro e .1 ≤ n
 side-few true p s e n h = omega (arith, run-length p s (e .outro .0) (e .outro .1))
 side-few false p s e n h = omega (arith, run-length p s (e .intro .0) (e .intro .1))
@@ -250,6 +245,6 @@ found-ready outro f t P S text i l w k =
     let xs = map (entryAt t) (w .us) in
     let ys = map (entryAt t) (w .bs) in
     let e = entries-at t (w .us) i (w .bs) (w .place) in
-    let h = side-in outro (entryAt t i) (all-first (all-back (EntryIn p s) xs (entryAt t i ∷ ys) (subst (All (EntryIn p s)) e (k .readable .chunks))) .runs) in
+    let h = side-in outro (entryAt t i) (first-of (all-back (EntryIn p s) xs (entryAt t i ∷ ys) (subst (All (EntryIn p s)) e (k .readable .chunks))) .runs) in
     let q = ap (λ (es : List Entry). sum chunk-pieces (map (chunkOf p s) es)) e ∙ ap (sum chunk-pieces) (map-append (chunkOf p s) xs (entryAt t i ∷ ys)) ∙ sum-append chunk-pieces (map (chunkOf p s) xs) (map (chunkOf p s) (entryAt t i ∷ ys)) in
     (room-of t P S text l (side outro (entryAt t i)) k h (side-few outro p s (entryAt t i) (l .pieces) (omega (arith, k .pieces, q))), h)

@@ -1,12 +1,11 @@
 -- A piece more in a run of a scratch row: the run is copied behind the lent pieces with the new text, and the row names the copy.
-use mathlib.Core.Path.{_≡_, refl, sym, ap, ap₂, _∙_, subst}
+use mathlib.Core.Path.{_≡_, refl, sym, ap, _∙_, subst}
 use mathlib.Core.Bool.{Bool, true, false, cond}
 use mathlib.Core.List.{List, [], _∷_, _++_, append-assoc, append-nil}
 use Prim.Native.Nat.{ℕ, zero, suc, _+_, _*_, _≤_, _<_}
 use native.Mathlib.Omega.{arith}
 use native.Mathlib.Nat.{add-zero}
 use lib.ListN.{length, take, drop, length-append, length-drop}
-use lib.Seq.{take-at, drop-append-add}
 use Rattle.utf8.specs.Chars.{concat}
 use Rattle.utf8.specs.CharLaws.{concat-append}
 use Rattle.table.specs.declared.Row.{Row}
@@ -15,8 +14,8 @@ use Rattle.table.specs.Table.{rowAt, Put}
 use Rattle.table.specs.Order.{Entry, entryOf, entryAt}
 use Rattle.model.specs.Text.{Text}
 use Rattle.memory.specs.Layout.{Place, runOf}
-use Rattle.memory.specs.WellFormed.{RunIn, WellFormed}
-use Rattle.texts.specs.Over.{over}
+use Rattle.memory.specs.WellFormed.{RunIn, WellFormed, RunsIn}
+use Rattle.texts.specs.Over.{over, over-behind}
 use Rattle.texts.specs.Texts.{concat-one, run-length}
 use Rattle.texts.specs.Carry.{Carried, RoomOf, withText, carried-run, carried-in, rowsFor}
 use Rattle.frame.specs.Loaded.{Loaded}
@@ -26,6 +25,10 @@ use Rattle.split.specs.Lift.{RunSmall}
 -- which of a row's two runs: the outro or the intro
 abbrev pub side : Bool → Entry → Place
 side outro e = cond outro (e .outro) (e .intro)
+
+pub side-in : (outro : Bool) {p s : List ℕ} (e : Entry) → RunsIn p s e → RunIn p s (side outro e)
+side-in true e h = h .outro
+side-in false e h = h .intro
 
 abbrev pub with-side : Bool → Place → Row → Row
 with-side outro x r =
@@ -94,11 +97,6 @@ spare-room {p} {s} {p1} {s1} front text x h k l =
       rows-narrow = h .rows-narrow;
       narrow = h .narrow;
     }
-
-over-behind : (d y xs : List ℕ) (n : ℕ) → n ≡ length d → over (d ++ y) n xs ≡ d ++ (xs ++ drop (length xs) y)
-unfolding over
-over-behind d y xs n e =
-    rw e (ap₂ (λ (a b : List ℕ). a ++ (xs ++ b)) (take-at d y (length d) refl) (drop-append-add d y (length xs)))
 
 module _ {p s p1 s1 : List ℕ} (front : Bool) (text : List ℕ) (x : Place) {p' s' : List ℕ} {byte' row' : ℕ} (h : Spare p s p1 s1)
     (c : Carried (withText front text (runOf p s x)) p1 s1 32768 2048 p' s' byte' row') (room : RoomOf (withText front text (runOf p s x)) p1 s1 32768 2048) where

@@ -6,29 +6,29 @@ use mathlib.Core.Option.{Option, none, some}
 use Prim.Native.Nat.{ℕ, suc, _+_, _*_, _≤_}
 use native.Mathlib.Omega.{arith}
 use lib.Dec.{leb, eqb}
-use lib.ListN.{length, take, length-map}
+use lib.ListN.{length, take}
 use borrow.Author.Tests.{le-leb}
 use Rattle.table.specs.Ring.{Each}
-use Rattle.table.specs.Order.{entryAt, entries, order, countOf}
+use Rattle.table.specs.Order.{entryAt, order, countOf}
 use Rattle.model.specs.Text.{Text, sum}
 use Rattle.model.specs.Chunk.{Chunk, Texts, with-texts, start-of, end-of}
 use Rattle.model.specs.MagicString.{MagicString, Result, ok, err, and-then, with-chunks, with-intro, with-outro, by-start, by-end, at-start, at-end}
 use Rattle.model.specs.Limits.{full, within, chunk-pieces, chunk-bytes, byte-count, piece-count}
-use Rattle.memory.specs.Layout.{chunkOf, magicStringOf}
+use Rattle.memory.specs.Layout.{magicStringOf}
 use Rattle.memory.specs.WellFormed.{Readable, WellFormed}
 use Rattle.memory.specs.Calls.{may-write}
+use Rattle.memory.specs.Laws.{chunk-count}
 use Rattle.texts.specs.Carry.{withText}
 use Rattle.rows.specs.Find.{meets, First}
-use Rattle.rows.specs.Split.{count-entries}
 use Rattle.uses.specs.Kept.{Kept, kept-same, kept-apart, kept-within, fewer-pieces, fewer-bytes}
 use Rattle.frame.specs.Frame.{Did, few-chunks, may-write-0, may-write-6}
 use Rattle.in_place.specs.InPlace.{ran-in-place, ran-rows}
-use Rattle.split.specs.Cuts.{CutsDone, formed-spans}
+use Rattle.split.specs.Cuts.{CutsDone, formed-spans, stop}
 use Rattle.on_top.specs.declared.Used.{Used}
 use Rattle.on_top.specs.Live.{LiveOf, Room, read-below}
 use Rattle.insert.specs.Piece.{with-length}
 use Rattle.insert.specs.Insertion.{add-to, whole-add, insert-step, insert-at, key-of, inserted-found, inserted-whole, whole-added}
-use Rattle.insert.specs.Calls.{InsertRan, WholeRan, with-sum, stop, six}
+use Rattle.insert.specs.Calls.{InsertRan, WholeRan, with-sum, six}
 use Rattle.insert.specs.OnTop.{AddedOnTop, OnTop, found-on-top, whole-on-top, TopReady}
 
 -- ── the limits ──
@@ -112,11 +112,7 @@ step-more false front q t m = go (by-start q (m .chunks))
     go none = whole-more true front t m
     go (some c) = here
 
-chunk-count : (t p s : List ℕ) → length (magicStringOf [] t p s .chunks) ≡ countOf t
-unfolding magicStringOf
-chunk-count t p s = length-map (entries t) (chunkOf p s) ∙ count-entries t
-
-no-source : (t p s : List ℕ) → leb (length (magicStringOf [] t p s .source)) 16384 ≡ true
+pub no-source : (t p s : List ℕ) → leb (length (magicStringOf [] t p s .source)) 16384 ≡ true
 unfolding magicStringOf
 no-source t p s = refl
 
@@ -128,7 +124,7 @@ within-more text t p s t' p' s' l n a b c rm o =
     let m = magicStringOf [] t' p' s' in
     rw (
       no-source t' p' s',
-      le-leb (length (m .chunks)) 512 (omega (arith, o .chunks, chunk-count t p s)),
+      le-leb (length (m .chunks)) 512 (omega (arith, o .chunks, chunk-count [] t p s)),
       le-leb (piece-count m) 1024 (omega (arith, o .pieces, rm .pieces)),
       le-leb (byte-count m) 32768 (omega (arith, o .bytes, rm .bytes)),
     )

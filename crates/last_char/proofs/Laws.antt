@@ -9,7 +9,7 @@ use lib.ListN.{length, take, drop}
 use borrow.Author.Tests.{ltb-true}
 use lib.Dec.{ltb, leb}
 use Rattle.utf8.specs.Rfc3629.{utf8, decodeAt, codeOf, LastStart}
-use Rattle.utf8.specs.Chars.{All, cons, chars, code}
+use Rattle.utf8.specs.Chars.{All, chars, code}
 use Rattle.utf8.specs.Sequences.{both}
 use Rattle.utf8.specs.Texts.{decode-drop, stops, end-past}
 use Rattle.utf8.specs.CharLaws.{chars-last, all-front, all-back}
@@ -23,6 +23,7 @@ use Rattle.model.specs.Chunk.{content}
 use Rattle.model.specs.MagicString.{last-code, last-of-pieces, or-else, last-of-chunks, last-char}
 use Rattle.model.specs.Call.{show, value-of, char-or-none, last-char as LastChar}
 use Rattle.model.specs.WellFormed.{Valid}
+use Rattle.model.specs.Lists.{first-of, rest-of}
 use Rattle.memory.specs.Layout.{magicStringOf, runOf, tabulate, chunkOf, replacementOf, bytesAt, pieceAt}
 use Rattle.memory.specs.WellFormed.{WellFormed, EntryIn}
 use Rattle.memory.specs.Calls.{Told}
@@ -107,9 +108,6 @@ module _ (p s : List ℕ) (at n : ℕ) where
 
     pub run-valid : All Valid (runOf p s (at, n)) → utf8 (bytesAt s (pieceAt p (at + (n - 1)))) ≡ true
     run-valid a = first-of (all-back Valid front _ (subst (All Valid) parts a))
-      where
-        first-of : {t : Text} {ts : List Text} → All Valid (t ∷ ts) → utf8 t ≡ true
-        first-of (cons x y) = x
 
     pub run-last : (r : ℕ) → Gives (last-code (bytesAt s (pieceAt p (at + (n - 1))))) r → Gives (last-of-pieces (runOf p s (at, n))) r
     run-last r g = subst (λ (o : Option ℕ). Gives o r) (sym (ap code-of (ap back parts ∙ back-snoc front (bytesAt s (pieceAt p (at + (n - 1))))))) g
@@ -123,16 +121,10 @@ module _ (source p s : List ℕ) (e : Entry) (a : All Valid (fragmentsOf source 
   intro-valid = all-front Valid (runOf p s (e .intro)) _ a
 
   pub content-valid : utf8 (contentAt source s (e .start) (e .end) (e .text)) ≡ true
-  content-valid = go behind
-    where
-      go : {t : Text} {ts : List Text} → All Valid (t ∷ ts) → utf8 t ≡ true
-      go (cons x y) = x
+  content-valid = first-of behind
 
   pub outro-valid : All Valid (runOf p s (e .outro))
-  outro-valid = go behind
-    where
-      go : {t : Text} {ts : List Text} → All Valid (t ∷ ts) → All Valid ts
-      go (cons x y) = y
+  outro-valid = rest-of behind
 
 module _ (source p s : List ℕ) (e : Entry) where
   abbrev outro : Option ℕ

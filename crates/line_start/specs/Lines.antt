@@ -5,7 +5,7 @@ use mathlib.Core.Option.{Option, none, some}
 use Prim.Native.Nat.{ℕ, suc, _+_, _*_, _-_, _≤_, _<_}
 use native.Mathlib.Omega.{arith}
 use lib.ListN.{length, getD, take, drop, length-append, length-drop, take-append-drop, drop-of-length-le}
-use lib.Seq.{drop-cons, drop-append-seam, drop-append-le}
+use lib.Seq.{drop-cons, drop-append-le}
 use borrow.Author.Tests.{eq-eqb, ne-eqb}
 use Rattle.utf8.specs.Chars.{concat}
 use Rattle.utf8.specs.CharLaws.{concat-append}
@@ -13,19 +13,15 @@ use Rattle.table.specs.declared.Row.{Row}
 use Rattle.table.specs.Order.{Entry, entryOf, countOf, prevOf}
 use Rattle.model.specs.Text.{Text, sum, behind-last-line-feed}
 use Rattle.model.specs.MagicString.{last-line, to-string}
-use Rattle.preservation.specs.Reports.{last-line-is, last-line-of}
+use Rattle.preservation.specs.Reports.{last-line-is, last-line-of, behind-back}
 use Rattle.memory.specs.Layout.{magicStringOf}
 use Rattle.memory.specs.WellFormed.{WellFormed, EntryIn}
 use Rattle.texts.specs.Texts.{SpanIn, concat-cons, concat-nil}
-use Rattle.fragments.specs.Sections.{SectionRow, sectionAt, section, sections, fragmentsOf, fragmentsAll, size, size-is, rowNo, row-edge, row-last, row-in, sections-drop, On, rest, rest-first, rest-end, rest-cons}
+use Rattle.fragments.specs.Sections.{SectionRow, sectionAt, section, sections, fragmentsOf, fragmentsAll, size, rowNo, row-edge, row-last, row-in, On, rest, rest-first, rest-end, rest-cons, rest-over}
 use Rattle.fragments.specs.Output.{ready, output-bound, all-append, concat-sections, sum-length}
 use Rattle.line_start.specs.Line.{LineFrom}
 
 -- ---- behind the last line feed
-behind-back : (s t u : Text) → behind-last-line-feed t ≡ some u → behind-last-line-feed (s ++ t) ≡ some u
-behind-back [] t u h = h
-behind-back (a ∷ s) t u h = rw (behind-back s t u h)
-
 behind-feed : (a : ℕ) (t : Text) → a ≡ 10 → behind-last-line-feed t ≡ none → behind-last-line-feed (a ∷ t) ≡ some t
 behind-feed a t e h = rw (h, eq-eqb a 10 e)
 
@@ -59,13 +55,6 @@ module _ (source t p s : List ℕ) where
   pub record AtByte (g item : ℕ) (x : Text) (at n : ℕ) : Type 0 where
     pub at-in : at ≤ length x
     pub line : Line (drop at x ++ left g (suc item)) n
-
-  rest-over : (g : ℕ) → g < countOf t + 2 → rest source t p s g (size (section t g)) ≡ rest source t p s (suc g) 0
-  unfolding rest
-  rest-over g h =
-      let fs = fragmentsOf source p s (section t g) in
-      let more = fragmentsAll source p s (drop (suc g) (sections t)) in
-      rw (sections-drop t g h) (ap (λ (n : ℕ). drop n (fs ++ more)) (sym (size-is source p s (section t g))) ∙ drop-append-seam fs more)
 
   pub left-cons : (g item : ℕ) → g < countOf t + 2 → item < size (section t g) → left g item ≡ getD (fragmentsOf source p s (section t g)) item [] ++ left g (suc item)
   left-cons g item h k = ap concat (rest-cons source t p s g item h k) ∙ concat-cons (getD (fragmentsOf source p s (section t g)) item []) (rest source t p s g (suc item))
@@ -139,7 +128,7 @@ module _ (source t p s : List ℕ) where
           pub section-in : AtFragment (g - 1) (r .«intro_n» + r .«outro_n» + 1) at n
           section-in =
               let e : left (g - 1) (r .«intro_n» + r .«outro_n» + 1) ≡ left g 0 =
-              ap (left (g - 1)) size-row ∙ ap concat (rest-over (g - 1) (omega (arith, v .on .inside))) ∙ ap (λ (j : ℕ). left j 0) (let q : suc (g - 1) ≡ g = omega arith in q) in
+              ap (left (g - 1)) size-row ∙ ap concat (rest-over source t p s (g - 1) (omega (arith, v .on .inside))) ∙ ap (λ (j : ℕ). left j 0) (let q : suc (g - 1) ≡ g = omega arith in q) in
               record {
                 inside = omega (arith, size-row);
                 at-is = λ z. absurd (omega arith);

@@ -6,32 +6,26 @@ use Prim.Native.Nat.{ℕ, suc, _+_, _*_, _-_, _≤_, _<_}
 use native.Mathlib.Omega.{arith}
 use native.Mathlib.Numerals.{add-one}
 use native.Mathlib.Decide.{ℕ-discrete, decLt}
-use lib.Bits.{bitOr, or-add-and, and-le-l, and-le-r}
+use lib.Bits.{bitOr}
 use lib.ListN.{length, getD, set, length-set}
 use lib.Seq.{getD-set-same, getD-set-other}
 use borrow.Author.Count.{below-more}
 use borrow.Author.Tests.{ne-eqb, eq-eqb}
 use Rattle.utf8.specs.Rfc3629.{utf8}
-use Rattle.utf8.specs.Laws.{ascii-each}
+use Rattle.utf8.specs.Laws.{ascii-each, or-left, or-right}
 use Rattle.table.specs.Order.{entryAt}
 use Rattle.memory.specs.Layout.{NONE, pieceAt}
 use Rattle.memory.specs.WellFormed.{among, runUses, replacementUses, pieceUses, listUses, byteUses}
 use Rattle.counts.specs.Counts.{Decides, sum-to}
 use Rattle.counts.specs.Sums.{is-yes, is-no, not-both, sum-mono}
 use Rattle.counts.specs.Lists.{sum-tabulate}
-use Rattle.counts.specs.Places.{among-in, among-out}
+use Rattle.memory.specs.Laws.{among-in, among-out}
 use Rattle.marks.specs.Marks.{RowsIn, BothIn, RunsApart, pieceCount, pieceTotal, TextAt, RunTexts, BothTexts, ReplacementText, EntryTexts, TextsApart, Bits, Free, Marked}
 
 pub refused : {m m′ : List ℕ} {F : Type 0} {f : ℕ → ℕ} → (Free m F f → ⊥) → Marked false m F f m′
 refused x = record { decides = is-no x; marks = λ e. not-both e }
 
 -- ── joined bits ──
-or-left : (a b : ℕ) → a ≤ bitOr a b
-or-left a b = omega (arith, or-add-and a b, and-le-r a b)
-
-or-right : (a b : ℕ) → b ≤ bitOr a b
-or-right a b = omega (arith, or-add-and a b, and-le-l a b)
-
 pub or-more : (s : List ℕ) (j x : ℕ) → ((k : ℕ) → k < j → getD s k 0 ≤ x) → (k : ℕ) → k < j + 1 → getD s k 0 ≤ bitOr x (getD s j 0)
 or-more s j x h k l =
     elim (decLt k j) [

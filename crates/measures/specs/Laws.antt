@@ -1,9 +1,9 @@
 -- Laws of the measures: of a text taken character by character, of the empty text, and that each is at most the length.
 -- Assumes nothing.
-use mathlib.Core.Path.{_≡_, refl, ap, sym, _∙_, subst}
+use mathlib.Core.Path.{_≡_, refl, ap, sym, _∙_}
 use mathlib.Core.Bool.{Bool, true, false, _&&_, cond}
-use mathlib.Core.List.{List, [], _∷_, _++_, reverse, reverse-cons, reverse-reverse, flatten, append-nil}
-use Prim.Native.Nat.{ℕ, zero, suc, _+_, _-_, _≤_, _<_}
+use mathlib.Core.List.{List, [], _∷_, _++_, reverse, reverse-reverse, flatten, append-nil}
+use Prim.Native.Nat.{ℕ, zero, suc, _+_, _-_, _≤_}
 use native.Mathlib.Omega.{arith}
 use native.Mathlib.Decide.{decLt}
 use lib.Dec.{leb, eqb}
@@ -21,6 +21,7 @@ use Rattle.utf8.specs.declared.Decoded.{Decoded}
 use Rattle.utf8.specs.declared.Decoded.the-variants.{Char, Invalid, End}
 use Rattle.model.specs.Text.{Text, LF, is-nil, all, sum, skip-while, line-feeds, trim-white-space, trim-start-matches, trim-end-matches}
 use Rattle.model.specs.MagicString.{utf16-len}
+use Rattle.model.specs.Lists.{one-most, all-skip-while, all-reverse, tests-reverse, skip-nil, nil-false, reverse-nil}
 use Rattle.measures.specs.Measures.{measureOf, filledOf, unitsOf}
 use Rattle.measures.specs.declared.Measure.{Measure}
 use Rattle.measures.specs.declared.Measure.the-variants.{Bytes, Utf16, LineFeeds}
@@ -34,10 +35,6 @@ pub feeds-concat : (ts : List Text) → line-feeds (concat ts) ≡ sum line-feed
 unfolding flatten
 feeds-concat [] = refl
 feeds-concat (t ∷ ts) = feeds-append t (concat ts) ∙ ap (λ (n : ℕ). line-feeds t + n) (feeds-concat ts)
-
-one-most : (b : Bool) → cond b 1 0 ≤ 1
-one-most true = omega arith
-one-most false = omega arith
 
 pub feeds-le : (s : Text) → line-feeds s ≤ length s
 feeds-le [] = omega arith
@@ -103,26 +100,7 @@ white-step s i v w h e =
     ap (all (λ c. whiteSpace (code c))) (char-at s i v w h e) ∙ ap (λ (n : ℕ). whiteSpace n && white (drop (i + w) s)) (code-at s i v w e)
 
 module _ (f : Text → Bool) where
-  all-append : (xs ys : List Text) → all f (xs ++ ys) ≡ (all f xs && all f ys)
-  all-append [] ys = refl
-  all-append (x ∷ xs) ys = ap (λ (b : Bool). f x && b) (all-append xs ys) ∙ sym (mathlib.Core.Bool.and-assoc (f x) (all f xs) (all f ys))
-
-  all-reverse : (xs : List Text) → all f (reverse xs) ≡ all f xs
-  all-reverse [] = refl
-  all-reverse (x ∷ xs) =
-      ap (all f) (reverse-cons x xs) ∙ all-append (reverse xs) (x ∷ []) ∙ ap (λ (b : Bool). b && (f x && true)) (all-reverse xs)
-      ∙ ap (λ (b : Bool). all f xs && b) (mathlib.Core.Bool.and-true (f x)) ∙ mathlib.Core.Bool.and-comm (all f xs) (f x)
-
-  -- nothing is left exactly where f takes all
-  pick-nil : (b : Bool) (x : Text) (xs : List Text) → is-nil (skip-while f xs) ≡ all f xs → is-nil (cond b (skip-while f xs) (x ∷ xs)) ≡ (b && all f xs)
-  pick-nil true x xs h = h
-  pick-nil false x xs h = refl
-
-  skip-nil : (xs : List Text) → is-nil (skip-while f xs) ≡ all f xs
-  skip-nil [] = refl
-  skip-nil (x ∷ xs) = pick-nil (f x) x xs (skip-nil xs)
-
-  -- and f takes all that is left exactly where it takes all
+  -- f takes all that is left exactly where it takes all
   pick-all : (b : Bool) (x : Text) (xs : List Text) → f x ≡ b → all f (skip-while f xs) ≡ all f xs → all f (cond b (skip-while f xs) (x ∷ xs)) ≡ (f x && all f xs)
   pick-all true x xs e h = rw e h
   pick-all false x xs e h = refl
@@ -130,22 +108,6 @@ module _ (f : Text → Bool) where
   skip-all : (xs : List Text) → all f (skip-while f xs) ≡ all f xs
   skip-all [] = refl
   skip-all (x ∷ xs) = pick-all (f x) x xs refl (skip-all xs)
-
-  pick-keeps : {P : Text → Type 0} (b : Bool) (x : Text) (xs : List Text) → P x → All P xs → All P (skip-while f xs) → All P (cond b (skip-while f xs) (x ∷ xs))
-  pick-keeps true x xs h k l = l
-  pick-keeps false x xs h k l = cons h k
-
-  skip-keeps : {P : Text → Type 0} (xs : List Text) → All P xs → All P (skip-while f xs)
-  skip-keeps [] nil = nil
-  skip-keeps (x ∷ xs) (cons h k) = pick-keeps (f x) x xs h k (skip-keeps xs k)
-
-append-keeps : {P : Text → Type 0} (xs ys : List Text) → All P xs → All P ys → All P (xs ++ ys)
-append-keeps [] ys nil k = k
-append-keeps (x ∷ xs) ys (cons h j) k = cons h (append-keeps xs ys j k)
-
-reverse-keeps : {P : Text → Type 0} (xs : List Text) → All P xs → All P (reverse xs)
-reverse-keeps [] nil = nil
-reverse-keeps {P} (x ∷ xs) (cons h k) = subst (All P) (sym (reverse-cons x xs)) (append-keeps (reverse xs) (x ∷ []) (reverse-keeps xs k) (cons h nil))
 
 -- the characters of characters one behind the other
 encoded-all : (cs : List Text) → All Encoded cs → utf8 (concat cs) ≡ true
@@ -163,11 +125,6 @@ chars-concat (c ∷ cs) (cons h k) =
     ap (λ (b : Text). chars (b ++ concat cs)) (h .bytes) ∙ chars-encode (h .value) (concat cs) (h .scalar) (encoded-all cs k)
     ∙ ap (λ (b : Text). b ∷ chars (concat cs)) (sym (h .bytes)) ∙ ap (λ (l : List Text). c ∷ l) (chars-concat cs k)
 
--- no character is empty
-nil-length : (s : Text) → 0 < length s → is-nil s ≡ false
-nil-length [] h = absurd (omega arith)
-nil-length (a ∷ s) h = refl
-
 units-some : (v : ℕ) → 1 ≤ unitsOf v
 units-some v = go (leb 0x10000 v)
   where
@@ -180,15 +137,7 @@ unfolding flatten
 concat-nil-is [] nil = refl
 concat-nil-is (c ∷ cs) (cons h k) =
     let l : length c ≡ length (encode (h .value)) = ap length (h .bytes) in
-    nil-length (c ++ concat cs) (omega (arith, length-append c (concat cs), encode-units (h .value), units-some (h .value)))
-
-reverse-nil-is : (xs : List Text) → is-nil (reverse xs) ≡ is-nil xs
-reverse-nil-is [] = refl
-reverse-nil-is (x ∷ xs) = ap is-nil (reverse-cons x xs) ∙ go (reverse xs)
-  where
-    go : (ys : List Text) → is-nil (ys ++ (x ∷ [])) ≡ false
-    go [] = refl
-    go (y ∷ ys) = refl
+    nil-false (c ++ concat cs) (omega (arith, length-append c (concat cs), encode-units (h .value), units-some (h .value)))
 
 pub trimmed-nil : (s : Text) → utf8 s ≡ true → is-nil (trim-white-space s) ≡ white s
 unfolding trim-white-space trim-start-matches trim-end-matches
@@ -196,11 +145,11 @@ trimmed-nil s h =
     let f : Text → Bool = λ c. whiteSpace (code c) in
     let xs = chars s in
     let ys = skip-while f xs in
-    let a : All Encoded ys = skip-keeps f xs (chars-encoded s h) in
+    let a : All Encoded ys = all-skip-while f (chars-encoded s h) in
     let zs = skip-while f (reverse ys) in
-    let b : All Encoded zs = skip-keeps f (reverse ys) (reverse-keeps ys a) in
+    let b : All Encoded zs = all-skip-while f (all-reverse a) in
     ap (λ (l : List Text). is-nil (concat (reverse (skip-while f (reverse l))))) (chars-concat ys a)
-    ∙ concat-nil-is (reverse zs) (reverse-keeps zs b) ∙ reverse-nil-is zs ∙ skip-nil f (reverse ys) ∙ all-reverse f ys ∙ skip-all f xs
+    ∙ concat-nil-is (reverse zs) (all-reverse b) ∙ reverse-nil zs ∙ skip-nil f (reverse ys) ∙ tests-reverse f ys ∙ skip-all f xs
 
 pub filled-is : (s : Text) → utf8 s ≡ true → filledOf s ≡ cond (white s) 0 1
 unfolding filledOf

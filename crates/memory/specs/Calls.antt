@@ -1,15 +1,14 @@
 -- What an exported call promises of every input. `Edited` for the calls that change a desk, `Reported` for the reports, `Opened` for the opening.
 use Prim.Native.Nat.{ℕ, zero, suc}
 use mathlib.Core.Path.{_≡_}
-use mathlib.Core.Bool.{Bool, true, false, _&&_, _||_, not, cond}
+use mathlib.Core.Bool.{Bool, true, false, _&&_, not}
 use mathlib.Core.List.{List, [], _∷_, _++_}
-use mathlib.Core.Option.{Option, none, some}
 use lib.Dec.{eqb}
 use lib.ListN.{length, drop}
-use Rattle.model.specs.Text.{is-nil}
 use Rattle.model.specs.MagicString.{MagicString, Result, new}
 use Rattle.model.specs.Limits.{full}
-use Rattle.model.specs.Call.{Edit, remove, update-with, reset, append-left, append-right, prepend-left, prepend-right, append, prepend, relocate, trim, trim-start, trim-end, trim-lines, indent-with, Report, Shown, is-update, run, show, opened}
+use Rattle.model.specs.Indent.{is-empty-indentor}
+use Rattle.model.specs.Call.{Edit, remove, update-with, reset, append-left, append-right, prepend-left, prepend-right, append, prepend, relocate, trim, trim-start, trim-end, trim-lines, indent-with, Report, Shown, may-change, run, show, opened}
 use Rattle.memory.specs.Layout.{magicStringOf}
 use Rattle.memory.specs.WellFormed.{Sized, WellFormed}
 
@@ -20,10 +19,6 @@ pub record Same (t p s t′ p′ s′ : List ℕ) : Type 0 where
   pub store : s′ ≡ s
 
 -- an edit that the Rust accepts without a step: zero width, or an empty indentor
-abbrev pub empty-indentor : Option (List ℕ) → Bool
-empty-indentor none = false
-empty-indentor (some t) = is-nil t
-
 unfoldable pub idle : Edit → Bool
 idle (remove a b) = eqb a b
 idle (update-with a b t o) = false
@@ -39,13 +34,11 @@ idle (trim p) = false
 idle (trim-start p) = false
 idle (trim-end p) = false
 idle trim-lines = false
-idle (indent-with i l) = empty-indentor i
+idle (indent-with i l) = is-empty-indentor i
 
--- "Numbers 6, 7, 9 and `update_with`'s 10 leave the desk as the Rust does .. All others change nothing": whether a call with this answer may write the tables
+-- whether a call with this answer may write the tables: where it may change the desk, and does not accept without a step
 unfoldable pub may-write : Edit → ℕ → Bool
-may-write e n =
-    (eqb n 0 && not (idle e))
-    || (eqb n 6 || (eqb n 7 || (eqb n 9 || (eqb n 10 && is-update e))))
+may-write e n = may-change e n && not (eqb n 0 && idle e)
 
 -- A call that changes a well-formed desk: its number and the desk after are the model's. Numbering, places in the store and unused bytes are the program's choice;
 -- every choice is a well-formed desk that reads as the model's

@@ -1,3 +1,4 @@
 pub mod Layout
 pub mod WellFormed
 pub mod Calls
+pub mod Laws

@@ -152,7 +152,7 @@ is-update trim-lines = false
 is-update (indent-with i l) = false
 
 -- "Numbers 6, 7, 9 and `update_with`'s 10 leave the desk as the Rust does .. All others change nothing": the numbers with which an edit may change the desk
-unfoldable pub may-change : Edit → ℕ → Bool
+abbrev pub may-change : Edit → ℕ → Bool
 may-change e n = eqb n 0 || (eqb n 6 || (eqb n 7 || (eqb n 9 || (eqb n 10 && is-update e))))
 
 -- ── a call that reports ──

@@ -1,11 +1,11 @@
 -- `remove`: what its tests give.
-use mathlib.Core.Path.{_≡_, refl, sym, ap, _∙_}
+use mathlib.Core.Path.{_≡_, refl}
 use mathlib.Core.Bool.{true, false}
 use mathlib.Core.List.{List, [], _∷_}
 use Prim.Native.Nat.{ℕ, _<_}
 use native.Mathlib.Omega.{arith}
 use borrow.Author.Tests.{ne-eqb, eq-eqb, le-ltb, lt-ltb}
-use Rattle.utf8.specs.Rfc3629.{utf8, between}
+use Rattle.utf8.specs.Rfc3629.{between}
 use Rattle.model.specs.Text.{all}
 use Rattle.model.specs.MagicString.{MagicString, ok, err}
 use Rattle.model.specs.Movement.{change-range}
@@ -15,7 +15,6 @@ use Rattle.memory.specs.Layout.{magicStringOf}
 use Rattle.memory.specs.WellFormed.{WellFormed}
 use Rattle.memory.specs.Calls.{idle, Ran}
 use Rattle.frame.specs.Frame.{ran-before, ran-same, refused-3, not-refused}
-use Rattle.split.specs.Lift.{source-of}
 use Rattle.clear_range.specs.Range.{cleared-to, RangeRan}
 
 steps-same : (a b : ℕ) (m : MagicString) → a ≡ b → steps (remove a b) m ≡ ok m
@@ -33,9 +32,6 @@ steps-range a b m h = rw (ne-eqb a b (λ e. omega arith), le-ltb b a (omega arit
 busy : (a b : ℕ) → a < b → idle (remove a b) ≡ false
 unfolding idle
 busy a b h = ne-eqb a b (λ e. omega arith)
-
-pub valid-source : {source t p s : List ℕ} → WellFormed source t p s → utf8 source ≡ true
-valid-source {source} {t} {p} {s} w = ap utf8 (sym (source-of source t p s)) ∙ w .desk .formed .source
 
 module _ {source t p s : List ℕ} (a b : ℕ) (w : WellFormed source t p s) where
   pub remove-outside : all (between source) (a ∷ b ∷ []) ≡ false → Ran (remove a b) source t p s t p s 3

@@ -12,16 +12,15 @@ use Rattle.table.specs.declared.Row.{Row}
 use Rattle.table.specs.Table.{rowAt, Put}
 use Rattle.table.specs.Ring.{follow, ring-of}
 use Rattle.table.specs.Order.{Entry, entryOf, entryAt, nextOf, prevOf, countOf, order, Linked}
-use Rattle.model.specs.Text.{Text}
 use Rattle.model.specs.Chunk.{Chunk, new-chunk}
-use Rattle.model.specs.MagicString.{MagicString, new}
+use Rattle.model.specs.MagicString.{new}
 use Rattle.model.specs.Limits.{full}
 use Rattle.model.specs.Call.{opened}
 use Rattle.memory.specs.Layout.{NONE, runOf, replacementOf, chunkOf, magicStringOf}
-use Rattle.memory.specs.WellFormed.{Sized, pieceUses, runUses, replacementUses, byteUses, WellFormed}
-use Rattle.memory.specs.Calls.{Same, Opened}
+use Rattle.memory.specs.WellFormed.{Sized, pieceUses, runUses, byteUses, WellFormed}
+use Rattle.memory.specs.Calls.{Opened}
+use Rattle.memory.specs.Laws.{among-none, no-run, no-uses, desk-same, all-same}
 use Rattle.counts.specs.Sums.{indicator-in}
-use Rattle.counts.specs.Places.{among-none}
 use Rattle.spans.specs.Spans.{Spans, Edged, Edges, startsOf, endsOf}
 use Rattle.marks.specs.Marks.{RowsIn, BothIn, RunsApart, pieceCount, pieceTotal, RunTexts, BothTexts, ReplacementText, EntryTexts, TextsApart}
 use Rattle.well_formed.specs.Bridge.{rows-formed}
@@ -43,10 +42,6 @@ abbrev bareEntry : ℕ → ℕ → Entry
 bareEntry a e = record { start = a; end = e; intro = (0, 0); outro = (0, 0); text = (NONE, 0) }
 
 module _ (p s : List ℕ) where
-  run-empty : (at : ℕ) → runOf p s (at, 0) ≡ []
-  unfolding runOf
-  run-empty at = refl
-
   bare-chunk : (a e : ℕ) → chunkOf p s (bareEntry a e) ≡ new-chunk a e
   unfolding runOf replacementOf
   bare-chunk a e = refl
@@ -67,18 +62,10 @@ module _ (p s : List ℕ) where
   unfolding runUses
   uses-empty at b = refl
 
-  uses-none : (b : ℕ) → replacementUses b (NONE, 0) ≡ 0
-  unfolding replacementUses
-  uses-none b = refl
-
 -- the only number below 1
 only : (P : ℕ → Type 0) → P 1 → (k : ℕ) → k < 1 → P (k + 1)
 only P x zero h = x
 only P x (suc k) h = absurd (omega arith)
-
-same-desk : (source : Text) {i i′ o o′ : List Text} {c c′ : List Chunk} → i ≡ i′ → o ≡ o′ → c ≡ c′
-    → _≡_ {A = MagicString} (record { source = source; intro = i; outro = o; chunks = c }) (record { source = source; intro = i′; outro = o′; chunks = c′ })
-same-desk source a b c = rw (a, b, c)
 
 module _ (t₀ t source p s : List ℕ) (f : Fresh t₀ t (length source)) where
   desk-entry : entryAt t 0 ≡ bareEntry 1 0
@@ -100,9 +87,9 @@ module _ (t₀ t source p s : List ℕ) (f : Fresh t₀ t (length source)) where
   pub fresh-desk : magicStringOf source t p s ≡ new source
   unfolding magicStringOf
   fresh-desk =
-      same-desk source
-      (ap (λ (e : Entry). runOf p s (e .intro)) desk-entry ∙ run-empty p s 0)
-      (ap (λ (e : Entry). runOf p s (e .outro)) desk-entry ∙ run-empty p s 0)
+      desk-same source
+      (ap (λ (e : Entry). runOf p s (e .intro)) desk-entry ∙ no-run p s 0)
+      (ap (λ (e : Entry). runOf p s (e .outro)) desk-entry ∙ no-run p s 0)
       (ap (λ (xs : List ℕ). map (chunkOf p s) (map (entryAt t) xs)) order-is
       ∙ ap (λ (e : Entry). chunkOf p s e ∷ []) chunk-entry
       ∙ ap (λ (c : Chunk). c ∷ []) (bare-chunk p s 0 (length source)))
@@ -143,7 +130,7 @@ module _ (t₀ t source p s : List ℕ) (f : Fresh t₀ t (length source)) where
   none-used i a e q j = ap (pieceUses j) q ∙ omega (arith, among-none 0 j)
 
   no-byte : (i a e : ℕ) → entryAt t i ≡ bareEntry a e → (b : ℕ) → byteUses p b (entryAt t i) ≡ 0
-  no-byte i a e q b = ap (byteUses p b) q ∙ omega (arith, uses-empty p s 0 b, uses-none p s b)
+  no-byte i a e q b = ap (byteUses p b) q ∙ omega (arith, uses-empty p s 0 b, no-uses b)
 
   fresh-runs : (words : ℕ) → RunsApart t 1 words
   fresh-runs words =
@@ -184,9 +171,6 @@ module _ (t₀ t source p s : List ℕ) (f : Fresh t₀ t (length source)) where
       })
 
 -- ── the answers ──
-same : (t p s : List ℕ) → Same t p s t p s
-same t p s = record { chunks = refl; pieces = refl; store = refl }
-
 module _ (source t p s : List ℕ) where
   pub refused-2 : (Sized t p s → ⊥) → Opened source t p s t p s 2
   refused-2 h =
@@ -195,7 +179,7 @@ module _ (source t p s : List ℕ) where
         number-is = λ z. absurd (h z);
         desk-is = λ e. absurd (omega arith);
         well-formed = λ e. absurd (omega arith);
-        refused = λ e. same t p s;
+        refused = λ e. all-same t p s;
       }
 
   pub refused-13 : Sized t p s → 16384 < length source → Opened source t p s t p s 13
@@ -206,7 +190,7 @@ module _ (source t p s : List ℕ) where
         number-is = λ x. rw (lt-leb (length source) 16384 h);
         desk-is = λ e. absurd (omega arith);
         well-formed = λ e. absurd (omega arith);
-        refused = λ e. same t p s;
+        refused = λ e. all-same t p s;
       }
 
   pub refused-1 : Sized t p s → length source ≤ 16384 → utf8 source ≡ false → Opened source t p s t p s 1
@@ -217,7 +201,7 @@ module _ (source t p s : List ℕ) where
         number-is = λ x. rw (le-leb (length source) 16384 h, u);
         desk-is = λ e. absurd (omega arith);
         well-formed = λ e. absurd (omega arith);
-        refused = λ e. same t p s;
+        refused = λ e. all-same t p s;
       }
 
   pub opened-0 : (t′ : List ℕ) → Sized t p s → length source ≤ 16384 → utf8 source ≡ true → Fresh t t′ (length source) → Opened source t p s t′ p s 0

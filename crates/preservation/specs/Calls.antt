@@ -18,8 +18,9 @@ use Rattle.model.specs.MagicString.{MagicString, Result, ok, err, new}
 use Rattle.model.specs.Limits.{Limits, within, judged}
 use Rattle.model.specs.Call.{Edit, remove, update-with, reset, append-left, append-right, prepend-left, prepend-right, append, prepend, relocate, trim, trim-start, trim-end, trim-lines, indent-with, Call, «open», change, report, options-valid, given, texts, positions, steps, refused-before, run, opened, perform}
 use Rattle.model.specs.WellFormed.{Valid, ValidReplacement, Covered, Formed, WellFormed}
-use Rattle.preservation.specs.Lists.{of-cond, of-number, all-true}
-use Rattle.preservation.specs.Spans.{covers-in}
+use Rattle.model.specs.Lists.{all-true}
+use Rattle.model.specs.Spans.{covers-in}
+use Rattle.preservation.specs.Lists.{of-cond, of-number}
 use Rattle.preservation.specs.Desk.{Leaves, FormedOf}
 use Rattle.preservation.specs.Retexts.{bare-valid}
 use Rattle.preservation.specs.Edits.{append-keeps, prepend-keeps, append-left-keeps, append-right-keeps, prepend-left-keeps, prepend-right-keeps, remove-keeps, reset-keeps, update-keeps}
@@ -110,7 +111,7 @@ new-covered [] v = refl
 new-covered (a ∷ s) v =
     record {
       spans = cons {x = new-chunk 0 (length (a ∷ s))} (record { proper = omega arith; inside = omega arith; start-between = between-zero (a ∷ s); end-between = between-past (a ∷ s) (length (a ∷ s)) v (omega arith) }) nil;
-      once = λ x l. omega (arith, covers-in x (new-chunk 0 (length (a ∷ s))) (omega arith) l);
+      once = λ x l. omega (arith, covers-in x (new-chunk 0 (length (a ∷ s))) (omega arith, l));
     }
 
 pub new-formed : (source : Text) → Valid source → Formed (new source)

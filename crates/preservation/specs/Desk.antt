@@ -13,7 +13,8 @@ use Rattle.model.specs.Text.{Text}
 use Rattle.model.specs.Chunk.{Chunk, start-of, end-of, first-half, second-half}
 use Rattle.model.specs.MagicString.{MagicString, Result, ok, err, and-then, with-chunks, by-end, found, holder, split-holder, refuses-split, split-at}
 use Rattle.model.specs.WellFormed.{Valid, ValidTexts, Formed}
-use Rattle.preservation.specs.Lists.{of-cond, neither}
+use Rattle.model.specs.Lists.{neither}
+use Rattle.preservation.specs.Lists.{of-cond}
 use Rattle.preservation.specs.Spans.{Rearranged, same-spans, rearranged-covered, split-all, split-covered}
 
 -- ---- one step behind the other

@@ -18,7 +18,8 @@ use Rattle.model.specs.Update.{update-walk, update-chunks, update-with}
 use Rattle.model.specs.Movement.{change-by-position, change-range, remove}
 use Rattle.model.specs.Reset.{reset}
 use Rattle.model.specs.WellFormed.{Valid}
-use Rattle.preservation.specs.Lists.{of-cond, of-option, all-append}
+use Rattle.model.specs.Lists.{all-append}
+use Rattle.preservation.specs.Lists.{of-cond, of-option}
 use Rattle.preservation.specs.Desk.{Leaves, of-and-then, FormedOf, cut-keeps}
 use Rattle.preservation.specs.Retexts.{Retexts, KeepsValid, retexts-keep, retexts-same, at-start-retexts, at-end-retexts, change-retexts, update-retexts, clear-valid, reset-valid, append-intro-valid, append-outro-valid, prepend-intro-valid, prepend-outro-valid}
 
@@ -27,7 +28,7 @@ abbrev pub KeepsPieces : (List Text → List Text) → Type 0
 KeepsPieces g = (l : List Text) → All Valid l → All Valid (g l)
 
 push-back-valid : (t : Text) → Valid t → KeepsPieces (push-back t)
-push-back-valid t v l h = all-append Valid h (cons v nil)
+push-back-valid t v l h = all-append h (cons v nil)
 
 push-front-valid : (t : Text) → Valid t → KeepsPieces (push-front t)
 push-front-valid t v l h = cons v h

@@ -2,12 +2,12 @@
 -- Assumes nothing.
 use Prim.Native.Nat.{ℕ, zero, suc, _+_, _-_, _≤_, _<_}
 use native.Mathlib.Omega.{arith}
-use mathlib.Core.Path.{_≡_, sym, ap, _∙_, subst}
+use mathlib.Core.Path.{_≡_, refl, sym, ap, _∙_, subst}
 use mathlib.Core.Bool.{Bool, true, false}
 use mathlib.Core.List.{List, [], _∷_, _++_, append-assoc, flatten}
 use mathlib.Core.Option.{Option, none, some}
 use lib.Dec.{leb}
-use lib.ListN.{length, getD, take, drop, replicate, length-append, length-take, length-drop, take-append-drop}
+use lib.ListN.{length, getD, take, drop, replicate, length-take, length-drop, take-append-drop}
 use lib.Seq.{take-add, drop-drop, take-append-seam, drop-append-seam}
 use Rattle.utf8.specs.Rfc3629.{follows, utf8, between}
 use Rattle.utf8.specs.Chars.{All, nil, cons, chars, concat, toFirst}
@@ -20,7 +20,8 @@ use Rattle.model.specs.MagicString.{MagicString, Result, ok, with-intro, with-o
 use Rattle.model.specs.Prepend.{prepend-right}
 use Rattle.model.specs.Indent.{count, spaced, tabbed, least-spaces, get-indent-string, Indented, is-line-feed, takes-mark, indent-chars, indent-frag, Pieces, indent-pieces, excluded, Starts, line-starts, prepend-at, Marked, set-edited, indent-chunk, indent-chunks, indent-by, indentor-or, is-empty-indentor, indent-with}
 use Rattle.model.specs.WellFormed.{Valid, ValidReplacement, ValidTexts}
-use Rattle.preservation.specs.Lists.{of-cond, of-either, of-option, of-number, all-imp, all-both}
+use Rattle.model.specs.Lists.{all-map, all-map₂, concat-length}
+use Rattle.preservation.specs.Lists.{of-cond, of-either, of-option, of-number}
 use Rattle.preservation.specs.Spans.{Inside, spans-inside}
 use Rattle.preservation.specs.Desk.{Leaves, of-and-then, FormedOf}
 use Rattle.preservation.specs.Retexts.{KeepsValid, at-start-retexts}
@@ -40,6 +41,11 @@ guess-valid source =
 pub indentor-valid : (indentor : Option Text) (source : Text) → ValidReplacement indentor → Valid (indentor-or indentor source)
 indentor-valid none source h = guess-valid source
 indentor-valid (some t) source h = h
+
+-- as many pieces as before
+pub pieces-length : (indentor : Text) (mark : Bool) (l : List Text) → length (indent-pieces indentor mark l .pieces) ≡ length l
+pieces-length indentor mark [] = refl
+pieces-length indentor mark (t ∷ l) = ap suc (pieces-length indentor (indent-frag indentor mark t .mark) l)
 
 -- ---- an indented text is valid
 module _ (indentor : Text) (v : Valid indentor) where
@@ -94,10 +100,6 @@ concat-cons : (c : Text) (cs : List Text) (r : Text) → concat (c ∷ cs) ++ r 
 unfolding flatten
 concat-cons c cs r = append-assoc c (concat cs) r
 
-concat-length : (c : Text) (cs : List Text) → length (concat (c ∷ cs)) ≡ length c + length (concat cs)
-unfolding flatten
-concat-length c cs = length-append c (concat cs)
-
 starts-between : (source : Text) (exclude : List ℕ) (mark : Bool) (i : ℕ) (r : Text) {cs : List Text} → All Character cs → between source i ≡ true
     → drop i source ≡ concat cs ++ r → All (Between source i (i + length (concat cs))) (line-starts exclude mark i cs .starts)
 starts-between source exclude mark i r nil b e = nil
@@ -107,7 +109,7 @@ starts-between source exclude mark i r (cons {x = c} {xs = cs} h k) b e =
     let l = concat-length c cs in
     let q = e ∙ concat-cons c cs r in
     let rest : (mark : Bool) → All (Between source i to) (line-starts exclude mark (i + length c) cs .starts) =
-    λ mark. all-imp (λ x w. record { is-between = w .is-between; from-on = omega (arith, w .from-on); below = omega (arith, w .below) })
+    λ mark. all-map (λ x w. record { is-between = w .is-between; from-on = omega (arith, w .from-on); below = omega (arith, w .below) })
     (starts-between source exclude mark (i + length c) r k (next-between source i c (concat cs ++ r) b q (h .valid)) (next-drop source i c (concat cs ++ r) q))
     in
     of-either P (excluded exclude i) (rest mark)
@@ -127,8 +129,8 @@ chunk-starts source c v h exclude mark =
     sym (take-append-drop n (drop a source)) ∙ ap (λ (l : Text). l ++ drop n (drop a source)) (sym (concat-chars t))
     in
     let l : length (concat (chars t)) ≡ n = ap length (concat-chars t) ∙ length-take n (drop a source) ∙ omega (arith, length-drop a source, h .inside, h .ordered) in
-    all-imp (λ x b. record { is-between = b .is-between; from-on = b .from-on; below = omega (arith, b .below, h .ordered) })
-    (starts-between source exclude mark a (drop n (drop a source)) (all-both {R = Character} (λ x i j. record { valid = i; some-byte = j }) (chars-utf8 t w) (chars-some t)) (h .start-between) q)
+    all-map (λ x b. record { is-between = b .is-between; from-on = b .from-on; below = omega (arith, b .below, h .ordered) })
+    (starts-between source exclude mark a (drop n (drop a source)) (all-map₂ {R = Character} (λ x i j. record { valid = i; some-byte = j }) (chars-utf8 t w) (chars-some t)) (h .start-between) q)
 
 -- ---- the walk
 module _ (source indentor : Text) (v : Valid indentor) where
@@ -152,7 +154,7 @@ module _ (source indentor : Text) (v : Valid indentor) where
       let s : Inside (m .source) c = rw (h .source-is) i in
       of-option P e
       (λ _. prepend-at-keeps
-      (all-imp (λ x b. rw (← h .source-is) (b .is-between)) (chunk-starts (m .source) c (h .formed .source) s exclude mark)) m h)
+      (all-map (λ x b. rw (← h .source-is) (b .is-between)) (chunk-starts (m .source) c (h .formed .source) s exclude mark)) m h)
       (λ t q. of-either P (excluded exclude (start-of c)) (record { desk = h })
       (record {
         desk = with-chunks-keeps source m _

@@ -19,8 +19,10 @@ use Rattle.model.specs.MagicString.{MagicString, Result, ok, and-then, with-chu
 use Rattle.model.specs.Prepend.{push-front, prepend-right}
 use Rattle.model.specs.Indent.{Pieces, indent-pieces, excluded, prepend-at, Marked, set-edited, indent-chunk, indent-chunks, indent-by, indentor-or, is-empty-indentor, indent-with}
 use Rattle.model.specs.WellFormed.{Valid, covers, Covered, Formed}
-use Rattle.preservation.specs.Lists.{of-cond, of-either, of-option, of-number, all-imp, all-both, all-every, all-each, sum-others, sum-each}
-use Rattle.preservation.specs.Spans.{Inside, spans-inside, covered-once, same-spans, covers-key, contains-true, covers-in, covers-empty, covers-halves, split-sum, split-covered}
+use Rattle.model.specs.Lists.{all-map, all-map₂, all-of, sum-part}
+use Rattle.model.specs.Spans.{covers-key, covers-in, covers-out, covers-halves}
+use Rattle.preservation.specs.Lists.{of-cond, of-either, of-option, of-number, all-each, sum-others}
+use Rattle.preservation.specs.Spans.{Inside, spans-inside, covered-once, same-spans, contains-true, split-sum, split-covered}
 use Rattle.preservation.specs.Desk.{split-cases}
 use Rattle.preservation.specs.Indent.{chunk-starts}
 
@@ -58,7 +60,7 @@ unfolding edited-at
 edited-halves x p c h k = go (is-edited c)
   where
     go : (b : Bool) → _≡_ {A = ℕ} (cond b (covers x (first-half p c)) 0 + cond b (covers x (second-half p c)) 0) (cond b (covers x c) 0)
-    go true = covers-halves x p c h k
+    go true = covers-halves x p c (h, k)
     go false = refl
 
 -- a cut where no chunk with a replacement holds the place is not refused
@@ -71,7 +73,7 @@ not-refused p [] z = λ q. false≢true q
 not-refused p (c ∷ cs) z =
     of-cond (λ (o : Option Chunk). refuses-split o ≡ true → ⊥) (contains c p)
     (λ e q. let i = contains-true c p e in
-    omega (arith, edited-true p c (filled-edited (c .texts .edited-content) q), covers-in p c (omega (arith, i .0)) (i .1)))
+    omega (arith, edited-true p c (filled-edited (c .texts .edited-content) q), covers-in p c (omega (arith, i .0), i .1)))
     (λ e. not-refused p cs (omega arith))
 
 -- a change of texts at a start keeps the count if it does so at the chunk that starts there
@@ -96,16 +98,16 @@ record Original (source : Text) (cs : List Chunk) (c : Chunk) : Type 0 where
   counted : (x : ℕ) → edited-at x c ≤ sum (edited-at x) cs
 
 proper-spans : (source : Text) (cs : List Chunk) → Covered source cs → All (λ c. 0 < length source → start-of c < end-of c) cs
-proper-spans [] cs h = all-every (λ c l. absurd (omega arith)) cs
-proper-spans (a ∷ s) cs h = all-imp (λ c k _. k .proper) (h .spans)
+proper-spans [] cs h = all-of (λ c l. absurd (omega arith)) cs
+proper-spans (a ∷ s) cs h = all-map (λ c k _. k .proper) (h .spans)
 
 unedited-none : (source : Text) (cs : List Chunk) → Covered source cs → All (λ c. (x : ℕ) → is-edited c ≡ false → start-of c ≤ x → x < end-of c → sum (edited-at x) cs ≡ 0) cs
 unedited-none source cs h =
-    all-both (λ c i w x e a b. omega (arith, w x, covered-once source cs h x (omega (arith, i .inside)), covers-in x c a b, edited-false x c e))
+    all-map₂ (λ c i w x e a b. omega (arith, w x, covered-once source cs h x (omega (arith, i .inside)), covers-in x c (a, b), edited-false x c e))
     (spans-inside source cs h) (all-each cs (λ x. sum-others (covers x) (edited-at x) (edited-le x) cs))
 
 originals : (source : Text) (cs : List Chunk) → Covered source cs → All (Original source cs) cs
-originals source cs h = go (spans-inside source cs h) (proper-spans source cs h) (unedited-none source cs h) (all-each cs (λ x. sum-each (edited-at x) cs))
+originals source cs h = go (spans-inside source cs h) (proper-spans source cs h) (unedited-none source cs h) (all-each cs (λ x. sum-part (edited-at x) cs))
   where
     go : {ds : List Chunk} → All (Inside source) ds → All (λ c. 0 < length source → start-of c < end-of c) ds
         → All (λ c. (x : ℕ) → is-edited c ≡ false → start-of c ≤ x → x < end-of c → sum (edited-at x) cs ≡ 0) ds
@@ -132,7 +134,7 @@ accepts-then P r f h g = go (r .number) (r .desk) (h .number) (h .desk)
     go (suc n) m e h = absurd (omega arith)
 
 edited-nowhere : (x : ℕ) (d : Chunk) → end-of d ≤ start-of d → edited-at x d ≡ 0
-edited-nowhere x d h = omega (arith, edited-le x d, covers-empty x d h)
+edited-nowhere x d h = omega (arith, edited-le x d, covers-out x d (λ i. omega arith))
 
 module _ (source : Text) (cs : List Chunk) where
   -- a chunk that starts where one with a replacement stood at the start has a replacement, or no byte
@@ -140,7 +142,7 @@ module _ (source : Text) (cs : List Chunk) where
       → (t : Text) (x : ℕ) → All (λ d. start-of d ≡ start-of c → edited-at x (with-texts (set-edited t) d) ≡ edited-at x d) (m .chunks)
   replaced-there c o e m w t x =
       let a : ℕ = start-of c in
-      all-both (λ d i k q. elim (decLt (start-of d) (end-of d)) [
+      all-map₂ (λ d i k q. elim (decLt (start-of d) (end-of d)) [
         | no l ↦ edited-nowhere x (with-texts (set-edited t) d) (omega arith) ∙ sym (edited-nowhere x d (omega arith))
         | yes l ↦ edited-key x d (with-texts (set-edited t) d) refl
             (sym (edited-one a d (omega (
@@ -149,11 +151,11 @@ module _ (source : Text) (cs : List Chunk) where
               i .inside,
               i .ordered,
               covered-once source (m .chunks) (w .covered) a (omega (arith, i .inside)),
-              covers-in a d (omega arith) (omega arith),
+              covers-in a d (omega arith, omega arith),
               w .same-count a,
               o .counted a,
               edited-true a c e,
-              covers-in a c (omega arith) (o .proper (omega (arith, i .inside))),
+              covers-in a c (omega arith, o .proper (omega (arith, i .inside))),
             ))))
       ])
       (spans-inside source (m .chunks) (w .covered)) (sum-others (covers a) (edited-at a) (edited-le a) (m .chunks))
@@ -198,7 +200,7 @@ module _ (source : Text) (cs : List Chunk) where
       (cut-accepted p f m w)
       (λ n k. of-option (Accepts (Walks source cs)) (by-start p (n .chunks))
       (λ _. record { number = refl; desk = other-walk n (n .intro) (push-front t (n .outro)) k })
-      (λ c _. record { number = refl; desk = texts-walk p (prepend-intro t) n k (λ x. all-every (λ d _. edited-key x d (with-texts (prepend-intro t) d) refl refl) (n .chunks)) }))
+      (λ c _. record { number = refl; desk = texts-walk p (prepend-intro t) n k (λ x. all-of (λ d _. edited-key x d (with-texts (prepend-intro t) d) refl refl) (n .chunks)) }))
 
   prepend-at-accepted : (t : Text) {l : List ℕ} → All Free l → (m : MagicString) → Walks source cs m → Accepts (Walks source cs) (prepend-at t l m)
   prepend-at-accepted t nil m w = record { number = refl; desk = w }
@@ -214,7 +216,7 @@ module _ (source : Text) (cs : List Chunk) where
         let s : m .source ≡ source = w .source-is in
         of-option P (c .texts .edited-content)
         (λ q. prepend-at-accepted indentor
-        (all-imp (λ x b. (rw (← s) (b .is-between), o .unedited x (ap is-some q) (b .from-on) (b .below)))
+        (all-map (λ x b. (rw (← s) (b .is-between), o .unedited x (ap is-some q) (b .from-on) (b .below)))
         (chunk-starts (m .source) c (rw s v) (rw s (o .inside)) exclude mark)) m w)
         (λ t q. of-either P (excluded exclude (start-of c)) (record { number = refl; desk = w })
         (record { number = refl; desk = texts-walk (start-of c) _ m w (λ x. replaced-there c o (ap is-some q) m w _ x) }))

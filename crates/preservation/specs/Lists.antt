@@ -1,14 +1,14 @@
--- Laws of `All`, `sum`, `skip-while` and `all` that the other files cite, and how a fact is carried through a test.
+-- How a fact is carried through a test, and laws of `All` and `sum` that the other files cite beside the model's Lists.
 -- Assumes nothing.
 use Prim.Native.Nat.{ℕ, zero, suc, _+_, _≤_}
 use native.Mathlib.Omega.{arith}
 use mathlib.Core.Path.{_≡_, refl}
-use mathlib.Core.Bool.{Bool, true, false, _||_, cond, true≢false}
-use mathlib.Core.List.{List, [], _∷_, _++_, map, reverse, reverseAux, head-eq-of-cons-eq, tail-eq-of-cons-eq, nil≢cons, cons≢nil}
+use mathlib.Core.Bool.{Bool, true, false, cond}
+use mathlib.Core.List.{List, [], _∷_, map, head-eq-of-cons-eq, tail-eq-of-cons-eq, nil≢cons, cons≢nil}
 use mathlib.Core.Option.{Option, none, some}
 use Rattle.utf8.specs.Chars.{All, nil, cons}
-use Rattle.utf8.specs.Sequences.{both}
-use Rattle.model.specs.Text.{sum, all, skip-while}
+use Rattle.model.specs.Text.{sum}
+use Rattle.model.specs.Lists.{first-of, rest-of, all-map}
 
 -- ---- a fact of what a test picks, from the fact of each of the two
 module _ {A : Type 0} (P : A → Type 0) where
@@ -28,67 +28,14 @@ module _ {A : Type 0} (P : A → Type 0) where
   of-number zero h k = h refl
   of-number (suc n) h k = k n refl
 
--- `||` of two tests
-pub neither : (p q : Bool) → (p || q) ≡ false → (p ≡ false) × (q ≡ false)
-neither true q e = absurd (true≢false e)
-neither false q e = (refl, e)
-
 -- ---- `All`
 module _ {A : Type 0} where
-  pub all-imp : {P Q : A → Type 0} → ((x : A) → P x → Q x) → {xs : List A} → All P xs → All Q xs
-  all-imp f nil = nil
-  all-imp f (cons {x = x} h k) = cons (f x h) (all-imp f k)
-
-  pub all-every : {P : A → Type 0} → ((x : A) → P x) → (xs : List A) → All P xs
-  all-every f [] = nil
-  all-every f (x ∷ xs) = cons (f x) (all-every f xs)
-
-  pub all-both : {P Q R : A → Type 0} → ((x : A) → P x → Q x → R x) → {xs : List A} → All P xs → All Q xs → All R xs
-  all-both f nil nil = nil
-  all-both f (cons {x = x} h k) (cons i j) = cons (f x h i) (all-both f k j)
-
-  pub all-head : {P : A → Type 0} {x : A} {xs : List A} → All P (x ∷ xs) → P x
-  all-head (cons h k) = h
-
-  pub all-tail : {P : A → Type 0} {x : A} {xs : List A} → All P (x ∷ xs) → All P xs
-  all-tail (cons h k) = k
-
   -- what holds for each b, element by element
   pub all-each : {B : Type 0} {P : B → A → Type 0} (xs : List A) → ((b : B) → All (P b) xs) → All (λ x. (b : B) → P b x) xs
   all-each [] h = nil
-  all-each (x ∷ xs) h = cons (λ b. all-head (h b)) (all-each xs (λ b. all-tail (h b)))
-
-module _ {A : Type 0} (P : A → Type 0) where
-  pub all-append : {xs ys : List A} → All P xs → All P ys → All P (xs ++ ys)
-  all-append nil k = k
-  all-append (cons h i) k = cons h (all-append i k)
-
-  all-reverseAux : {xs ys : List A} → All P xs → All P ys → All P (reverseAux xs ys)
-  all-reverseAux nil k = k
-  all-reverseAux (cons h i) k = all-reverseAux i (cons h k)
-
-  pub all-reverse : {xs : List A} → All P xs → All P (reverse xs)
-  all-reverse h = all-reverseAux h nil
-
-  pub all-skip-while : (f : A → Bool) {xs : List A} → All P xs → All P (skip-while f xs)
-  all-skip-while f nil = nil
-  all-skip-while f (cons {x = x} h k) = of-cond (All P) (f x) (λ _. all-skip-while f k) (λ _. cons h k)
-
--- `all` tests each element
-pub all-true : {A : Type 0} (f : A → Bool) (xs : List A) → all f xs ≡ true → All (λ x. f x ≡ true) xs
-all-true f [] e = nil
-all-true f (x ∷ xs) e = let h = both (f x) (all f xs) e in cons (h .0) (all-true f xs (h .1))
+  all-each (x ∷ xs) h = cons (λ b. first-of (h b)) (all-each xs (λ b. rest-of (h b)))
 
 -- ---- `sum`
-module _ {A : Type 0} (f : A → ℕ) where
-  pub sum-append : (xs ys : List A) → sum f (xs ++ ys) ≡ sum f xs + sum f ys
-  sum-append [] ys = omega arith
-  sum-append (x ∷ xs) ys = omega (arith, sum-append xs ys)
-
-  pub sum-each : (xs : List A) → All (λ x. f x ≤ sum f xs) xs
-  sum-each [] = nil
-  sum-each (x ∷ xs) = cons {x = x} (omega arith) (all-imp (λ y h. omega arith) (sum-each xs))
-
 module _ {A : Type 0} (f g : A → ℕ) (below : (x : A) → g x ≤ f x) where
   pub sum-le : (xs : List A) → sum g xs ≤ sum f xs
   sum-le [] = omega arith
@@ -98,7 +45,7 @@ module _ {A : Type 0} (f g : A → ℕ) (below : (x : A) → g x ≤ f x) where
   pub sum-others : (xs : List A) → All (λ x. sum g xs + f x ≤ sum f xs + g x) xs
   sum-others [] = nil
   sum-others (x ∷ xs) =
-      cons {x = x} (omega (arith, sum-le xs)) (all-imp (λ y h. omega (arith, below x)) (sum-others xs))
+      cons {x = x} (omega (arith, sum-le xs)) (all-map (λ y h. omega (arith, below x)) (sum-others xs))
 
 -- ---- two lists with equal keys
 module _ {A B : Type 0} (key : A → B) where

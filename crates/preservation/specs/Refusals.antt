@@ -31,19 +31,15 @@ module _ (e : Edit) where
   May r = may-change e (r .number) ≡ true
 
   may-0 : may-change e 0 ≡ true
-  unfolding may-change
   may-0 = refl
 
   may-6 : may-change e 6 ≡ true
-  unfolding may-change
   may-6 = refl
 
   may-7 : may-change e 7 ≡ true
-  unfolding may-change
   may-7 = refl
 
   may-9 : may-change e 9 ≡ true
-  unfolding may-change
   may-9 = refl
 
   may-then : (r : Result) (f : MagicString → Result) → May r → ((m : MagicString) → May (f m)) → May (and-then r f)
@@ -124,7 +120,6 @@ module _ (e : Edit) (m : MagicString) where
   may h = record { stays = λ z. absurd (true≢false (sym h ∙ z)) }
 
 update-10 : (a b : ℕ) (t : Text) (o : Bool) → may-change (update-with a b t o) 10 ≡ true
-unfolding may-change
 update-10 a b t o = refl
 
 steps-stay : (e : Edit) (m : MagicString) → Stays e m (steps e m)

@@ -14,7 +14,8 @@ use Rattle.model.specs.Text.{Text, sum}
 use Rattle.model.specs.Chunk.{Chunk, start-of, end-of}
 use Rattle.model.specs.MagicString.{MagicString, Result, and-then, by-start, split-at}
 use Rattle.model.specs.Movement.{Segment, together, apart, into-range, before-range, begins-at, range-from, segment, insert-before, stands-there, move-segment, relocate}
-use Rattle.preservation.specs.Lists.{of-cond, all-append, sum-append}
+use Rattle.model.specs.Lists.{all-append, sum-append}
+use Rattle.preservation.specs.Lists.{of-cond}
 use Rattle.preservation.specs.Spans.{Rearranged}
 use Rattle.preservation.specs.Desk.{Leaves, of-and-then, order-keeps, FormedOf, cut-keeps}
 use Rattle.preservation.specs.Edits.{two-cuts}
@@ -55,11 +56,11 @@ segment-parts start end (c ∷ cs) =
     (λ _. before-parts c cs (segment start end cs) (segment-parts start end cs))
 
 -- ---- and put together again
-insert-all : (P : Chunk → Type 0) (to : ℕ) {range cs : List Chunk} → All P range → All P cs → All P (insert-before to range cs)
+pub insert-all : (P : Chunk → Type 0) (to : ℕ) {range cs : List Chunk} → All P range → All P cs → All P (insert-before to range cs)
 insert-all P to r nil = r
-insert-all P to r (cons {x = c} h k) = of-cond (All P) (eqb (start-of c) to) (λ _. all-append P r (cons h k)) (λ _. cons h (insert-all P to r k))
+insert-all P to r (cons {x = c} h k) = of-cond (All P) (eqb (start-of c) to) (λ _. all-append r (cons h k)) (λ _. cons h (insert-all P to r k))
 
-insert-sum : (f : Chunk → ℕ) (to : ℕ) (range cs : List Chunk) → sum f (insert-before to range cs) ≡ sum f range + sum f cs
+pub insert-sum : (f : Chunk → ℕ) (to : ℕ) (range cs : List Chunk) → sum f (insert-before to range cs) ≡ sum f range + sum f cs
 insert-sum f to range [] = omega arith
 insert-sum f to range (c ∷ cs) =
     of-cond (λ (l : List Chunk). sum f l ≡ sum f range + (f c + sum f cs)) (eqb (start-of c) to)
@@ -70,7 +71,7 @@ insert-rearranged to cs before range behind e =
     record {
       every = λ P h. let k = subst (All P) e h in
           let i = all-back P before (range ++ behind) k in
-          insert-all P to (all-front P range behind i) (all-append P (all-front P before (range ++ behind) k) (all-back P range behind i));
+          insert-all P to (all-front P range behind i) (all-append (all-front P before (range ++ behind) k) (all-back P range behind i));
       total = λ f. omega (arith, insert-sum f to range (before ++ behind), sum-append f before behind, sum-append f before (range ++ behind), sum-append f range behind, ap (sum f) e);
     }
 

@@ -8,33 +8,29 @@ use mathlib.Core.Bool.{Bool, true, false, _||_, not, cond, or-true, true≢false
 use mathlib.Core.List.{List, [], _∷_, _++_, reverse, reverse-cons, reverse-reverse, append-assoc, append-nil, flatten}
 use mathlib.Core.Option.{Option, none, some, Option·map}
 use lib.Dec.{eqb}
-use lib.ListN.{length, length-append}
+use lib.ListN.{length}
 use borrow.Author.Tests.{eqb-true, eq-eqb}
 use Rattle.utf8.specs.Chars.{concat}
 use Rattle.utf8.specs.CharLaws.{concat-append}
 use Rattle.utf8.specs.Sequences.{both}
-use Rattle.model.specs.Text.{Text, LF, same, sum, behind-last-line-feed, line-feeds}
+use Rattle.model.specs.Text.{Text, LF, same, behind-last-line-feed, line-feeds}
 use Rattle.model.specs.Chunk.{Chunk}
 use Rattle.model.specs.Chunk as chunk
 use Rattle.model.specs.MagicString.{MagicString, chunk-fragments, fragments, to-string, len, output-len, has-changed, Scan, scan-last-line, unless-done, scan-chunks, last-line}
-use Rattle.preservation.specs.Lists.{of-cond, of-option, sum-append}
+use Rattle.model.specs.Lists.{sum-append, concat-sum}
+use Rattle.preservation.specs.Lists.{of-cond, of-option}
 
 -- ---- lengths
-concat-length : (l : List Text) → length (concat l) ≡ sum length l
-unfolding flatten
-concat-length [] = refl
-concat-length (t ∷ l) = length-append t (concat l) ∙ ap (λ (n : ℕ). length t + n) (concat-length l)
-
 -- `len`: chunks only
 pub len-is : (m : MagicString) → len m ≡ length (concat (chunk-fragments (m .source) (m .chunks)))
 unfolding len
-len-is m = sym (concat-length (chunk-fragments (m .source) (m .chunks)))
+len-is m = sym (concat-sum (chunk-fragments (m .source) (m .chunks)))
 
 pub output-len-is : (m : MagicString) → output-len m ≡ length (to-string m)
 unfolding output-len len to-string
 output-len-is m =
     let cs : List Text = chunk-fragments (m .source) (m .chunks) in
-    omega (arith, concat-length (fragments m), sum-append length (m .intro) (cs ++ m .outro), sum-append length cs (m .outro))
+    omega (arith, concat-sum (fragments m), sum-append length (m .intro) (cs ++ m .outro), sum-append length cs (m .outro))
 
 -- ---- `has_changed`
 pub same-refl : (s : Text) → same s s ≡ true
@@ -86,7 +82,7 @@ behind-is (a ∷ s) = go (behind-last-line-feed s) (behind-is s)
         (λ e. rw e (omega arith))
     go (some t) h = (a ∷ h .0, ap (λ (l : Text). a ∷ l) (h .1), h .2)
 
-behind-back : (s t u : Text) → behind-last-line-feed t ≡ some u → behind-last-line-feed (s ++ t) ≡ some u
+pub behind-back : (s t u : Text) → behind-last-line-feed t ≡ some u → behind-last-line-feed (s ++ t) ≡ some u
 behind-back [] t u h = h
 behind-back (a ∷ s) t u h = rw (behind-back s t u h)
 

@@ -14,7 +14,8 @@ use Rattle.model.specs.MagicString.{MagicString, by-start, at-start, at-end}
 use Rattle.model.specs.Update.{Walk, clear-run, update-walk}
 use Rattle.model.specs.Movement.{change-by-position}
 use Rattle.model.specs.WellFormed.{Valid, ValidTexts, Formed}
-use Rattle.preservation.specs.Lists.{of-cond, of-either, of-option, all-append}
+use Rattle.model.specs.Lists.{all-append}
+use Rattle.preservation.specs.Lists.{of-cond, of-either, of-option}
 use Rattle.preservation.specs.Desk.{texts-keep}
 
 -- ---- the second list has the spans of the first, and valid texts
@@ -70,10 +71,10 @@ pub reset-valid : KeepsValid reset-texts
 reset-valid x h = bare-valid
 
 pub append-intro-valid : (t : Text) → Valid t → KeepsValid (append-intro t)
-append-intro-valid t v x h = record { intro = all-append Valid (h .intro) (cons v nil); outro = h .outro; replacement = h .replacement }
+append-intro-valid t v x h = record { intro = all-append (h .intro) (cons v nil); outro = h .outro; replacement = h .replacement }
 
 pub append-outro-valid : (t : Text) → Valid t → KeepsValid (append-outro t)
-append-outro-valid t v x h = record { intro = h .intro; outro = all-append Valid (h .outro) (cons v nil); replacement = h .replacement }
+append-outro-valid t v x h = record { intro = h .intro; outro = all-append (h .outro) (cons v nil); replacement = h .replacement }
 
 pub prepend-intro-valid : (t : Text) → Valid t → KeepsValid (prepend-intro t)
 prepend-intro-valid t v x h = record { intro = cons v (h .intro); outro = h .outro; replacement = h .replacement }

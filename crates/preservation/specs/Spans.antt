@@ -3,12 +3,11 @@
 use Prim.Native.Nat.{ℕ, _+_, _≤_, _<_}
 use native.Mathlib.Omega.{arith}
 use mathlib.Core.Path.{_≡_, refl, ap, _∙_}
-use mathlib.Core.Bool.{Bool, true, false, _&&_, cond}
+use mathlib.Core.Bool.{true}
 use mathlib.Core.List.{List, [], _∷_, map, head-eq-of-cons-eq, tail-eq-of-cons-eq, nil≢cons, cons≢nil}
-use lib.Dec.{ltb, leb}
+use lib.Dec.{ltb}
 use lib.ListN.{length}
-use borrow.Author.Tests.{lt-ltb, le-ltb, le-leb, lt-leb, ltb-true}
-use native.Mathlib.Decide.{decLt}
+use borrow.Author.Tests.{ltb-true}
 use Rattle.utf8.specs.Rfc3629.{between}
 use Rattle.utf8.specs.Boundaries.{between-zero}
 use Rattle.utf8.specs.Chars.{All, nil, cons}
@@ -17,7 +16,9 @@ use Rattle.model.specs.Text.{Text, sum}
 use Rattle.model.specs.Chunk.{Chunk, Span, new-chunk, start-of, end-of, contains, first-half, second-half}
 use Rattle.model.specs.MagicString.{split-holder}
 use Rattle.model.specs.WellFormed.{covers, ProperSpan, Covered}
-use Rattle.preservation.specs.Lists.{of-cond, all-imp, all-key, sum-key}
+use Rattle.model.specs.Lists.{all-map}
+use Rattle.model.specs.Spans.{covers-key, covers-halves}
+use Rattle.preservation.specs.Lists.{of-cond, all-key, sum-key}
 
 -- ---- each span, of an empty source too
 -- a span inside the source with ends between characters, empty or not
@@ -39,7 +40,7 @@ pub spans-inside : (source : Text) (cs : List Chunk) → Covered source cs → A
 spans-inside [] cs h =
     all-key (λ (c : Chunk). c .span) (Inside []) (inside-key []) (new-chunk 0 0 ∷ []) cs h
     (cons (record { ordered = omega arith; inside = omega arith; start-between = between-zero []; end-between = between-zero [] }) nil)
-spans-inside (a ∷ s) cs h = all-imp (proper-inside (a ∷ s)) (h .spans)
+spans-inside (a ∷ s) cs h = all-map (proper-inside (a ∷ s)) (h .spans)
 
 -- each byte of the source is in one span
 pub covered-once : (source : Text) (cs : List Chunk) → Covered source cs → (x : ℕ) → x < length source → sum (covers x) cs ≡ 1
@@ -50,10 +51,6 @@ covered-once (a ∷ s) cs h x l = h .once x l
 proper-key : (source : Text) (c d : Chunk) → d .span ≡ c .span → ProperSpan source c → ProperSpan source d
 proper-key source c d e h =
     record { proper = rw e (h .proper); inside = rw e (h .inside); start-between = rw e (h .start-between); end-between = rw e (h .end-between) }
-
-pub covers-key : (x : ℕ) (c d : Chunk) → d .span ≡ c .span → covers x d ≡ covers x c
-unfolding covers
-covers-key x c d e = rw e
 
 pub same-spans : (source : Text) (cs ds : List Chunk) → map (λ c. c .span) ds ≡ map (λ c. c .span) cs → Covered source cs → Covered source ds
 same-spans [] cs ds e h = e ∙ h
@@ -93,39 +90,6 @@ contains-true c p e =
     let h = both (ltb (start-of c) p) (ltb p (end-of c)) e in
     (ltb-true (start-of c) p (h .0), ltb-true p (end-of c) (h .1))
 
-pub covers-in : (x : ℕ) (c : Chunk) → start-of c ≤ x → x < end-of c → covers x c ≡ 1
-unfolding covers
-covers-in x c h k = rw (le-leb (start-of c) x h, lt-ltb x (end-of c) k)
-
-pub covers-before : (x : ℕ) (c : Chunk) → x < start-of c → covers x c ≡ 0
-unfolding covers
-covers-before x c h = rw (lt-leb (start-of c) x h)
-
-pub covers-behind : (x : ℕ) (c : Chunk) → end-of c ≤ x → covers x c ≡ 0
-unfolding covers
-covers-behind x c h = go (leb (start-of c) x)
-  where
-    go : (b : Bool) → _≡_ {A = ℕ} (cond (b && ltb x (end-of c)) 1 0) 0
-    go true = rw (le-ltb x (end-of c) h)
-    go false = refl
-
-pub covers-empty : (x : ℕ) (c : Chunk) → end-of c ≤ start-of c → covers x c ≡ 0
-covers-empty x c h = elim (decLt x (start-of c)) [ yes l ↦ covers-before x c l | no l ↦ covers-behind x c (omega arith) ]
-
--- the two halves have the bytes of the whole
-pub covers-halves : (x p : ℕ) (c : Chunk) → start-of c < p → p < end-of c → covers x (first-half p c) + covers x (second-half p c) ≡ covers x c
-covers-halves x p c h k =
-    elim (decLt x (start-of c)) [
-      | yes l ↦ rw (covers-before x c l, covers-before x (first-half p c) l, covers-before x (second-half p c) (omega arith))
-      | no l ↦ elim (decLt x p) [
-        | yes m ↦ rw (covers-in x c (omega arith) (omega arith), covers-in x (first-half p c) (omega arith) m, covers-before x (second-half p c) m)
-        | no m ↦ elim (decLt x (end-of c)) [
-          | yes n ↦ rw (covers-in x c (omega arith) n, covers-behind x (first-half p c) (omega arith), covers-in x (second-half p c) (omega arith) n)
-          | no n ↦ rw (covers-behind x c (omega arith), covers-behind x (first-half p c) (omega arith), covers-behind x (second-half p c) (omega arith))
-        ]
-      ]
-    ]
-
 -- a sum of parts that a chunk's halves share keeps what it is
 pub split-sum : (f : Chunk → ℕ) (p : ℕ) → ((c : Chunk) → start-of c < p → p < end-of c → f (first-half p c) + f (second-half p c) ≡ f c)
     → (cs : List Chunk) → sum f (split-holder p cs) ≡ sum f cs
@@ -156,5 +120,5 @@ split-covered [] p l b cs h = absurd (omega arith)
 split-covered (a ∷ s) p l b cs h =
     record {
       spans = split-all (ProperSpan (a ∷ s)) p (halves-proper (a ∷ s) p b) (h .spans);
-      once = λ x m. split-sum (covers x) p (covers-halves x p) cs ∙ h .once x m;
+      once = λ x m. split-sum (covers x) p (λ c i j. covers-halves x p c (i, j)) cs ∙ h .once x m;
     }

@@ -16,7 +16,8 @@ use Rattle.model.specs.Chunk.{Chunk, start-of, end-of, span-text, content-or, c
 use Rattle.model.specs.MagicString.{MagicString}
 use Rattle.model.specs.Trim.{matches, trim-start-pattern, trim-end-pattern, trim-deque-start, trim-reversed, trim-deque-end, Trimmed, trim-chunk-start, trim-chunk-end, trim-chunks, trim-start, trim-end, trim}
 use Rattle.model.specs.WellFormed.{Valid, ValidReplacement, ValidTexts}
-use Rattle.preservation.specs.Lists.{of-cond, of-either, all-reverse, all-skip-while}
+use Rattle.model.specs.Lists.{all-reverse, all-skip-while}
+use Rattle.preservation.specs.Lists.{of-cond, of-either}
 use Rattle.preservation.specs.Spans.{Inside, spans-inside}
 use Rattle.preservation.specs.Desk.{FormedOf}
 use Rattle.preservation.specs.Retexts.{Retexts, none, more, retexts-keep, retexts-same, retexts-backwards}
@@ -25,11 +26,11 @@ use Rattle.preservation.specs.Edits.{with-intro-keeps, with-outro-keeps}
 -- ---- texts
 pub trim-start-valid : (f : ℕ → Bool) (s : Text) → Valid s → Valid (trim-start-matches f s)
 unfolding trim-start-matches
-trim-start-valid f s h = concat-utf8 _ (all-skip-while Valid (λ c. f (code c)) (chars-utf8 s h))
+trim-start-valid f s h = concat-utf8 _ (all-skip-while (λ c. f (code c)) (chars-utf8 s h))
 
 pub trim-end-valid : (f : ℕ → Bool) (s : Text) → Valid s → Valid (trim-end-matches f s)
 unfolding trim-end-matches
-trim-end-valid f s h = concat-utf8 _ (all-reverse Valid (all-skip-while Valid (λ c. f (code c)) (all-reverse Valid (chars-utf8 s h))))
+trim-end-valid f s h = concat-utf8 _ (all-reverse (all-skip-while (λ c. f (code c)) (all-reverse (chars-utf8 s h))))
 
 content-or-valid : (e : Option Text) (s : Text) → ValidReplacement e → Valid s → Valid (content-or e s)
 content-or-valid Option.none s h k = k
@@ -54,7 +55,7 @@ module _ (p : ℕ) where
       of-cond (All Valid) (is-nil (trim-end-pattern p s)) (λ _. reversed-valid k) (λ _. cons (trim-end-valid (matches p) s h) k)
 
   pub deque-end-valid : {l : List Text} → All Valid l → All Valid (trim-deque-end p l)
-  deque-end-valid h = all-reverse Valid (reversed-valid (all-reverse Valid h))
+  deque-end-valid h = all-reverse (reversed-valid (all-reverse h))
 
 -- ---- one chunk
 record Trims (c : Chunk) (t : Trimmed) : Type 0 where
@@ -121,7 +122,7 @@ module _ (source : Text) (p : ℕ) (m : MagicString) (h : FormedOf source m) whe
       let f = h .formed in
       let a = deque-end-valid p (f .outro) in
       let r = trim-retexts (m .source) (trim-chunk-end p (m .source)) (λ c. chunk-end-trims p (m .source) c (f .source))
-      (all-reverse (Inside (m .source)) (spans-inside (m .source) (m .chunks) (f .covered))) (all-reverse (λ c. ValidTexts (c .texts)) (f .texts)) in
+      (all-reverse (spans-inside (m .source) (m .chunks) (f .covered))) (all-reverse {P = λ c. ValidTexts (c .texts)} (f .texts)) in
       of-cond (FormedOf source) (is-nil (trim-deque-end p (m .outro)))
       (λ _. record { formed = retexts-keep m _ _ _ f (f .intro) a (retexts-backwards (m .chunks) _ r); source-is = h .source-is })
       (λ _. with-outro-keeps source m _ a h)

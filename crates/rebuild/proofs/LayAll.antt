@@ -1,7 +1,7 @@
 -- The loop of a rebuild: entries laid in list order into rows 1, 2, ..
 use mathlib.Core.Path.{_≡_, refl, sym, ap, ap₂, _∙_, subst}
 use mathlib.Core.Bool.{Bool, true, false, _&&_, cond}
-use mathlib.Core.List.{List, [], _∷_, _++_, map, append-assoc, append-nil}
+use mathlib.Core.List.{List, [], _∷_, _++_, map, map-append, append-assoc, append-nil}
 use mathlib.Core.Option.{Option, none, some}
 use Prim.Native.Nat.{ℕ, zero, suc, _+_, _*_, _-_, _≤_, _<_, min}
 use native.Mathlib.Omega.{arith}
@@ -13,54 +13,20 @@ use borrow.Author.Tests.{leb-true, eqb-true, eq-eqb, ne-eqb}
 use Rattle.utf8.specs.Chars.{All, nil, cons}
 use Rattle.utf8.specs.CharLaws.{all-back}
 use Rattle.table.specs.declared.Row.{Row}
-use Rattle.table.specs.Ring.{Each, each-append, each-map, Edge, Links, links-append, ring-of, follow, length-follow}
+use Rattle.table.specs.Ring.{Each, map-same, each-append, each-map, Edge, Links, links-append, ring-of, follow}
 use Rattle.table.specs.Table.{rowAt, Put}
-use Rattle.table.specs.Order.{Entry, entryOf, entryAt, entries, order, nextOf, prevOf, countOf, Linked, inside-at}
+use Rattle.table.specs.Order.{Entry, entryOf, entryAt, entries, order, nextOf, prevOf, countOf, Linked, inside-at, count-entries}
 use Rattle.model.specs.Text.{Text, sum}
 use Rattle.model.specs.Chunk.{Chunk, chunk-of}
-use Rattle.model.specs.MagicString.{MagicString}
 use Rattle.model.specs.Limits.{full, within, chunk-pieces, chunk-bytes, piece-count, byte-count}
+use Rattle.model.specs.Lists.{no-tf, bool-elim, sum-snoc, all-map, all-snoc, first-of, rest-of}
 use Rattle.memory.specs.Layout.{NONE, Place, runOf, replacementOf, chunkOf, magicStringOf}
 use Rattle.memory.specs.WellFormed.{Sized, PieceIn, RunIn, ReplacementIn, RunsIn, EntryIn, Readable, times, HoldsEach, pieceUses, listUses, byteUses, replacementUses, Disjoint}
+use Rattle.memory.specs.Laws.{desk-same, no-uses}
 use Rattle.texts.specs.Carry.{Below}
 use Rattle.rebuild.specs.Lay.{EntryBelow, Grown, LaidEntry, RoomEntry, Laying, ownOf, own, upTo, left, nextFor, LayAt, SeqRow, TopRow}
 use Rattle.rebuild.specs.Rebuilt.{Rebuilt}
-use Rattle.rebuild.proofs.LayOne.{bool-elim, grown-run, grown-below, grown-uses, grown-text}
-
-no-tf : {X : Type 0} → _≡_ {A = Bool} true false → X
-no-tf z = let y : _≡_ {A = ℕ} 0 1 = cc in absurd (omega arith)
-
--- ── lists ──
-module _ {A B : Type 0} (f : A → B) where
-  map-snoc : (xs : List A) (x : A) → map f (xs ++ (x ∷ [])) ≡ map f xs ++ (f x ∷ [])
-  map-snoc [] x = refl
-  map-snoc (y ∷ ys) x = ap (λ (l : List B). f y ∷ l) (map-snoc ys x)
-
-  map-append : (xs ys : List A) → map f (xs ++ ys) ≡ map f xs ++ map f ys
-  map-append [] ys = refl
-  map-append (x ∷ xs) ys = ap (λ (l : List B). f x ∷ l) (map-append xs ys)
-
-map-same : {B : Type 0} (f g : ℕ → B) (xs : List ℕ) → Each (λ x. f x ≡ g x) xs → map f xs ≡ map g xs
-map-same f g [] e = refl
-map-same {B} f g (x ∷ xs) e = ap₂ (λ (a : B) (l : List B). a ∷ l) (e .0) (map-same f g xs (e .1))
-
-sum-snoc : {A : Type 0} (w : A → ℕ) (xs : List A) (x : A) → sum w (xs ++ (x ∷ [])) ≡ sum w xs + w x
-sum-snoc w [] x = omega arith
-sum-snoc w (y ∷ ys) x = omega (arith, sum-snoc w ys x)
-
-all-map : {A : Type 0} {P Q : A → Type 0} → ((x : A) → P x → Q x) → {xs : List A} → All P xs → All Q xs
-all-map f nil = nil
-all-map f (cons {x = x} h k) = cons (f x h) (all-map f k)
-
-all-snoc : {A : Type 0} {P : A → Type 0} {xs : List A} {x : A} → All P xs → P x → All P (xs ++ (x ∷ []))
-all-snoc nil p = cons p nil
-all-snoc (cons h k) p = cons h (all-snoc k p)
-
-all-first : {A : Type 0} {P : A → Type 0} {x : A} {xs : List A} → All P (x ∷ xs) → P x
-all-first (cons h k) = h
-
-all-rest : {A : Type 0} {P : A → Type 0} {x : A} {xs : List A} → All P (x ∷ xs) → All P xs
-all-rest (cons h k) = k
+use Rattle.rebuild.proofs.LayOne.{grown-run, grown-below, grown-uses, grown-text}
 
 -- ── one entry more ──
 module _ {P S : List ℕ} {byte row : ℕ} {P' S' : List ℕ} {byte' row' : ℕ} (g : Grown P S byte row P' S' byte' row') where
@@ -91,9 +57,9 @@ lay-more : {p s : List ℕ} {us vs : List Entry} {P S : List ℕ} {byte row : �
 lay-more {p} {s} {us} {vs} {P} {S} {byte} {row} {e} {e'} {P'} {S'} {byte'} {row'} l d =
     record {
       chunks =
-          map-snoc (chunkOf P' S') vs e'
+          map-append (chunkOf P' S') vs (e' ∷ [])
           ∙ ap₂ (λ (xs : List Chunk) (x : Chunk). xs ++ (x ∷ [])) (stay-chunks (d .grown) (l .below) ∙ l .chunks) (d .chunk)
-          ∙ sym (map-snoc (chunkOf p s) us e);
+          ∙ sym (map-append (chunkOf p s) us (e ∷ []));
       below = all-snoc (all-map (λ x h. stay-below (d .grown) x h) (l .below)) (d .below);
       rows = λ j. sum-snoc (pieceUses j) vs e' ∙ ap (λ (x : ℕ). x + pieceUses j e') (l .rows j) ∙ d .rows j;
       bytes = λ b. sum-snoc (byteUses P' b) vs e' ∙ ap (λ (x : ℕ). x + byteUses P' b e') (stay-total (d .grown) b (l .below) ∙ l .bytes b) ∙ d .bytes b;
@@ -164,14 +130,6 @@ module _ (P S : List ℕ) (byte row : ℕ) (hr : row * 2 ≤ length P) (hb : byt
 head-eq : {A : Type 0} {x y : A} {xs ys : List A} → x ∷ xs ≡ y ∷ ys → (x ≡ y) × (xs ≡ ys)
 head-eq e = (cc, cc)
 
-desk-same : (source : List ℕ) {h h' t t' : List Text} {c c' : List Chunk} → h ≡ h' → t ≡ t' → c ≡ c'
-    → _≡_ {A = MagicString} (record { source = source; intro = h; outro = t; chunks = c }) (record { source = source; intro = h'; outro = t'; chunks = c' })
-desk-same source a b d = cc
-
-no-bytes : (b : ℕ) → replacementUses b (NONE, 0) ≡ 0
-unfolding replacementUses
-no-bytes b = refl
-
 one-at-most : (x y n : ℕ) → x + y ≡ min 1 n → x + y ≤ 1
 one-at-most x y n e = omega arith
 
@@ -180,14 +138,14 @@ lay-done : {t p s t' P S : List ℕ} {n byte row : ℕ} → Laying p s (own t �
 unfolding magicStringOf
 lay-done {t} {p} {s} {t'} {P} {S} {n} {byte} {row} l o c k z hr hb =
     let e = head-eq (l .chunks) in
-    let w = all-first (l .below) in
+    let w = first-of (l .below) in
     record {
       sized = z;
       readable =
           record {
             linked = k;
             desk = record { intro = run-below-in P S byte row hr hb (entryAt t' 0 .intro) (w .intro); outro = run-below-in P S byte row hr hb (entryAt t' 0 .outro) (w .outro) };
-            chunks = all-map (λ x h. entry-below-in P S byte row hr hb x h) (all-rest (l .below));
+            chunks = all-map (λ x h. entry-below-in P S byte row hr hb x h) (rest-of (l .below));
           };
       each = λ i h m. ap (times i) o ∙ up-times n i h (omega (arith, c));
       disjoint =
@@ -196,7 +154,7 @@ lay-done {t} {p} {s} {t'} {P} {S} {n} {byte} {row} l o c k z hr hb =
             bytes =
                 λ b.
                 one-at-most (listUses P b (entryAt t' 0)) (sum (byteUses P b) (entries t')) (byte - b)
-                (let q : listUses P b (entryAt t' 0) + replacementUses b (NONE, 0) ≡ listUses P b (entryAt t' 0) = omega (arith, no-bytes b) in
+                (let q : listUses P b (entryAt t' 0) + replacementUses b (NONE, 0) ≡ listUses P b (entryAt t' 0) = omega (arith, no-uses b) in
                 ap (λ (x : ℕ). x + sum (byteUses P b) (entries t')) (sym q) ∙ l .bytes b);
           };
       desk = λ source. desk-same source (ap (λ (c : Chunk). c .texts .intro) (e .0)) (ap (λ (c : Chunk). c .texts .outro) (e .0)) (e .1);
@@ -206,7 +164,7 @@ lay-done {t} {p} {s} {t'} {P} {S} {n} {byte} {row} l o c k z hr hb =
 module _ {t p s : List ℕ} {k m cur byte row : ℕ} {C P S : List ℕ} (h : Readable t p s) (l : LayAt t p s k (suc m) cur byte row C P S) where
   turn-in : EntryIn p s (entryAt t cur)
   turn-in =
-      all-first (all-back (EntryIn p s) (map (entryAt t) (l .done)) (map (entryAt t) (follow (nextOf t) (suc m) cur))
+      first-of (all-back (EntryIn p s) (map (entryAt t) (l .done)) (map (entryAt t) (follow (nextOf t) (suc m) cur))
       (subst (All (EntryIn p s)) (ap (map (entryAt t)) (l .place) ∙ map-append (entryAt t) (l .done) (follow (nextOf t) (suc m) cur)) (h .chunks)))
 
   turn-row : cur * 12 + 12 ≤ length t
@@ -231,11 +189,11 @@ module _ {t p s : List ℕ} {k m cur byte row : ℕ} {C P S : List ℕ} (h : Rea
       (each-map (λ i. (0 < i) × (i ≤ k)) (λ i. entryAt C' i ≡ entryAt C i) (λ i g. ap entryOf (w .off i (λ e. omega (arith, g .1)))) (upTo k) (up-in k k (omega arith))) in
       let mine : own C' ≡ own C = ap ownOf (w .off 0 (λ e. omega arith)) in
       let vs : own C' ∷ map (entryAt C') (upTo (suc k)) ≡ (own C ∷ map (entryAt C) (upTo k)) ++ (e' ∷ []) =
-      ap₂ (λ (a : Entry) (r : List Entry). a ∷ r) mine (map-snoc (entryAt C') (upTo k) (suc k) ∙ ap₂ (λ (r : List Entry) (a : Entry). r ++ (a ∷ [])) same (ap entryOf (w .at) ∙ ex)) in
+      ap₂ (λ (a : Entry) (r : List Entry). a ∷ r) mine (map-append (entryAt C') (upTo k) (suc k ∷ []) ∙ ap₂ (λ (r : List Entry) (a : Entry). r ++ (a ∷ [])) same (ap entryOf (w .at) ∙ ex)) in
       record {
         done = l .done ++ (cur ∷ []);
         place = l .place ∙ sym (append-assoc (l .done) (cur ∷ []) (follow (nextOf t) m (nextOf t cur)));
-        laying = rw (vs, map-snoc (entryAt t) (l .done) cur) (lay-more (l .laying) d);
+        laying = rw (vs, map-append (entryAt t) (l .done) (cur ∷ [])) (lay-more (l .laying) d);
         fwd =
             λ i g.
             elim (ℕ-discrete i k) [
@@ -273,10 +231,6 @@ four true true true w e = (refl, refl, e)
 four true true false w e = (refl, e, no-tf (sym e))
 four true false z w e = (e, no-tf (sym e), no-tf (sym e))
 four false y z w e = (no-tf (sym e), no-tf (sym e), no-tf (sym e))
-
-count-entries : (t : List ℕ) → length (entries t) ≡ countOf t
-unfolding order
-count-entries t = length-map (order t) (entryAt t) ∙ length-follow (nextOf t) (countOf t) (nextOf t 0)
 
 pub within-room : (t p s : List ℕ) → within full (magicStringOf [] t p s) ≡ true
     → (chunk-pieces (chunkOf p s (own t)) + sum chunk-pieces (map (chunkOf p s) (entries t)) ≤ 1024)
@@ -378,10 +332,6 @@ module _ {t p s : List ℕ} {n k cur byte row : ℕ} {C P S : List ℕ} (h : Rea
 
 pub loop-done : {t p s : List ℕ} {n k cur byte row : ℕ} {C P S : List ℕ} → Loop t p s n k cur byte row C P S → n ≤ k → n ≤ 512 → Rebuilt t p s C P S
 loop-done {n = n} {k = k} l h g = let e : n - k ≡ 0 = omega arith in turn-done (rw e at (l .at)) (l .sized) (omega (arith, l .below))
-
-pub own-in : {t p s : List ℕ} → Readable t p s → EntryIn p s (own t)
-unfolding ReplacementIn
-own-in h = record { runs = record { intro = h .desk .intro; outro = h .desk .outro }; replacement = λ n. absurd (n refl) }
 
 pub own-room : (t p s : List ℕ) {C P S : List ℕ} → within full (magicStringOf [] t p s) ≡ true → Sized C P S → RoomEntry p s (own t) P S 0 0
 own-room t p s e z =

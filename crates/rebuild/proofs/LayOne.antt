@@ -1,29 +1,26 @@
 -- One entry laid: two runs and a replacement.
 use mathlib.Core.Path.{_≡_, refl, sym, ap, ap₂, _∙_, subst}
-use mathlib.Core.Bool.{Bool, true, false, cond}
+use mathlib.Core.Bool.{cond}
 use mathlib.Core.List.{List, [], _∷_, _++_, append-nil}
 use Prim.Native.Nat.{ℕ, zero, suc, _+_, _*_, _-_, _≤_, _<_, min}
 use native.Mathlib.Omega.{arith}
 use native.Mathlib.Nat.{add-zero}
 use lib.Dec.{eqb}
-use lib.ListN.{length, take, drop, length-append, length-take, length-drop, drop-of-length-le}
-use lib.Seq.{take-at, drop-at, length-take-le, take-all, drop-drop}
+use lib.ListN.{length, take, drop, length-append, length-take, length-drop}
+use lib.Seq.{take-at, drop-at, length-take-le}
 use borrow.Author.Tests.{eqb-true, eqb-false, ne-eqb, eq-eqb}
 use Rattle.utf8.specs.Chars.{concat}
 use Rattle.table.specs.Order.{Entry}
 use Rattle.model.specs.Text.{Text, sum}
 use Rattle.model.specs.Limits.{replacement-bytes}
+use Rattle.model.specs.Lists.{bool-elim, concat-sum}
 use Rattle.memory.specs.Layout.{NONE, Place, bytesAt, pieceAt, tabulate, runOf, replacementOf, chunkOf}
 use Rattle.memory.specs.WellFormed.{ReplacementIn, among, runUses, replacementUses, pieceUses, byteUses}
 use Rattle.texts.specs.Over.{over, take-over, part-kept}
 use Rattle.texts.specs.Texts.{tabulate-ext, run-tabulate, run-length}
 use Rattle.texts.specs.Carry.{Carried, RoomOf, Below, carried-run, carried-below, kept-piece, kept-bytes}
 use Rattle.rebuild.specs.Lay.{EntryBelow, Grown, LaidText, LaidEntry, RoomEntry}
-use Rattle.rebuild.proofs.Uses.{among-stack, carried-uses, concat-sum}
-
-pub bool-elim {ℓ} : {A : Type ℓ} (b : Bool) → (b ≡ true → A) → (b ≡ false → A) → A
-bool-elim true f g = f refl
-bool-elim false f g = g refl
+use Rattle.rebuild.proofs.Uses.{among-stack, carried-uses}
 
 -- ── what lies below stays ──
 module _ {P S : List ℕ} {byte row : ℕ} {P' S' : List ℕ} {byte' row' : ℕ} (g : Grown P S byte row P' S' byte' row') where
@@ -106,14 +103,6 @@ laid-run p s at n {P} {S} {byte} {row} {P'} {S'} {byte'} {row'} c room =
     }
 
 -- ── a replacement ──
--- what a slice is whose tail from o was lent to a callee that put a text to the tail's front
-pub put-back : (d t t' ys : List ℕ) (o : ℕ) → o + length t ≤ length d → ys ≡ t ++ drop (length t) (take (length d - o) (drop o d)) → t ≡ t'
-    → take o d ++ (ys ++ drop (length d - o) (drop o d)) ≡ over d o t'
-unfolding over
-put-back d t t' ys o h e e' =
-    let l : length (drop o d) ≤ length d - o = simp length-drop (omega arith) in
-    rw (e, e', take-all (length d - o) (drop o d), drop-of-length-le (drop o d) l, append-nil, drop-drop)
-
 back-of : (S xs : List ℕ) (byte : ℕ) → byte ≤ length S → take (length xs) (drop byte (over S byte xs)) ≡ xs
 unfolding over
 back-of S xs byte h =

@@ -1,45 +1,30 @@
 -- Places that stand one behind the other belong to one each: the counting behind `Disjoint`.
 use mathlib.Core.Path.{_≡_, refl, sym, ap, ap₂, _∙_}
-use mathlib.Core.Bool.{Bool, true, false, _&&_, cond}
+use mathlib.Core.Bool.{cond}
 use mathlib.Core.List.{List, [], _∷_, _++_}
-use Prim.Native.Nat.{ℕ, zero, suc, _+_, _*_, _-_, _≤_, _<_, min}
+use Prim.Native.Nat.{ℕ, zero, suc, _+_, _*_, _-_, _<_, min}
 use native.Mathlib.Omega.{arith}
 use native.Mathlib.Decide.{decLt}
 use native.Mathlib.Nat.{add-assoc}
-use lib.Dec.{ltb, leb, eqb}
-use lib.ListN.{length, getD, take, drop, length-append, length-take}
+use lib.Dec.{ltb, eqb}
+use lib.ListN.{length, getD, take, drop, length-take}
 use lib.Seq.{split-at}
-use borrow.Author.Tests.{le-leb, lt-leb, lt-ltb, le-ltb}
 use Rattle.utf8.specs.Chars.{concat}
 use Rattle.model.specs.Text.{Text, sum}
+use Rattle.model.specs.Lists.{concat-length}
 use Rattle.memory.specs.Layout.{Place, pieceAt, tabulate}
 use Rattle.memory.specs.WellFormed.{among, runUses}
-use Rattle.texts.specs.Texts.{tabulate-ext, tabulate-list, concat-cons, concat-nil}
+use Rattle.memory.specs.Laws.{among-in, among-out}
+use Rattle.texts.specs.Texts.{tabulate-ext, tabulate-list, concat-nil}
 use Rattle.texts.specs.Carry.{Carried, RoomOf, carried-piece}
-
-among-in : (r : Place) (j : ℕ) → r .0 ≤ j → j < r .0 + r .1 → among r j ≡ 1
-unfolding among
-among-in r j h k = rw (le-leb (r .0) j h, lt-ltb j (r .0 + r .1) k)
-
-among-before : (r : Place) (j : ℕ) → j < r .0 → among r j ≡ 0
-unfolding among
-among-before r j h = rw (lt-leb (r .0) j h)
-
-and-false : (b : Bool) → b && false ≡ false
-and-false true = refl
-and-false false = refl
-
-among-behind : (r : Place) (j : ℕ) → r .0 + r .1 ≤ j → among r j ≡ 0
-unfolding among
-among-behind r j h = rw (le-ltb j (r .0 + r .1) h, and-false (leb (r .0) j))
 
 pub among-stack : (a n j : ℕ) → min 1 (a - j) + among (a, n) j ≡ min 1 (a + n - j)
 among-stack a n j =
     elim (decLt j a) [
-      | yes h ↦ omega (arith, among-before (a, n) j h)
+      | yes h ↦ omega (arith, among-out a n j (λ u v. omega arith))
       | no h ↦ elim (decLt j (a + n)) [
-        | yes k ↦ omega (arith, among-in (a, n) j (omega arith) k)
-        | no k ↦ omega (arith, among-behind (a, n) j (omega arith))
+        | yes k ↦ omega (arith, among-in a n j (omega arith) k)
+        | no k ↦ omega (arith, among-out a n j (λ u v. omega arith))
       ]
     ]
 
@@ -48,13 +33,10 @@ abbrev stack : ℕ → List Text → List Place
 stack byte [] = []
 stack byte (t ∷ ts) = (byte, length t) ∷ stack (byte + length t) ts
 
-concat-size : (t : Text) (ts : List Text) → length (concat (t ∷ ts)) ≡ length t + length (concat ts)
-concat-size t ts = ap length (concat-cons t ts) ∙ length-append t (concat ts)
-
 stack-sum : (b byte : ℕ) (ts : List Text) → min 1 (byte - b) + sum (λ x. among x b) (stack byte ts) ≡ min 1 (byte + length (concat ts) - b)
 stack-sum b byte [] = rw concat-nil (omega arith)
 stack-sum b byte (t ∷ ts) =
-    let e : byte + length t + length (concat ts) ≡ byte + length (concat (t ∷ ts)) = omega (arith, concat-size t ts) in
+    let e : byte + length t + length (concat ts) ≡ byte + length (concat (t ∷ ts)) = omega (arith, concat-length t ts) in
     sym (add-assoc (min 1 (byte - b)) (among (byte, length t) b) (sum (λ x. among x b) (stack (byte + length t) ts)))
     ∙ ap (λ (x : ℕ). x + sum (λ x. among x b) (stack (byte + length t) ts)) (among-stack byte (length t) b)
     ∙ stack-sum b (byte + length t) ts
@@ -68,7 +50,7 @@ stack-at : (byte : ℕ) (ts : List Text) (k : ℕ) → k < length ts → getD (s
 stack-at byte [] k h = absurd (omega arith)
 stack-at byte (t ∷ ts) zero h = let e : byte + length (concat []) ≡ byte = rw concat-nil (omega arith) in rw e
 stack-at byte (t ∷ ts) (suc k) h =
-    let e : byte + length (concat (t ∷ take k ts)) ≡ byte + length t + length (concat (take k ts)) = omega (arith, concat-size t (take k ts)) in
+    let e : byte + length (concat (t ∷ take k ts)) ≡ byte + length t + length (concat (take k ts)) = omega (arith, concat-length t (take k ts)) in
     rw e (stack-at (byte + length t) ts k (omega arith))
 
 module _ {ts : List Text} {P S : List ℕ} {byte row : ℕ} {P' S' : List ℕ} {byte' row' : ℕ} (c : Carried ts P S byte row P' S' byte' row')
@@ -92,7 +74,3 @@ module _ {ts : List Text} {P S : List ℕ} {byte row : ℕ} {P' S' : List ℕ} {
   unfolding runUses
   carried-uses b =
       ap (λ (l : List Place). min 1 (byte - b) + sum (λ x. among x b) l) places ∙ stack-sum b byte ts ∙ ap (λ (x : ℕ). min 1 (x - b)) (sym (c .byte-is))
-
-pub concat-sum : (ts : List Text) → length (concat ts) ≡ sum length ts
-concat-sum [] = ap length concat-nil
-concat-sum (t ∷ ts) = concat-size t ts ∙ ap (λ (n : ℕ). length t + n) (concat-sum ts)

@@ -1,5 +1,5 @@
 -- Chunks laid into other tables one after the other, from a byte of the store and a row of the piece table on: what a rebuild shows of each, and of all so far.
-use mathlib.Core.Path.{_≡_}
+use mathlib.Core.Path.{_≡_, refl}
 use mathlib.Core.List.{List, [], _∷_, _++_, map}
 use Prim.Native.Nat.{ℕ, zero, suc, _+_, _*_, _-_, _≤_, _<_, min}
 use lib.ListN.{length}
@@ -11,7 +11,7 @@ use Rattle.model.specs.Text.{sum}
 use Rattle.model.specs.Chunk.{Chunk}
 use Rattle.model.specs.Limits.{chunk-pieces, chunk-bytes, replacement-bytes}
 use Rattle.memory.specs.Layout.{NONE, Place, bytesAt, pieceAt, replacementOf, chunkOf}
-use Rattle.memory.specs.WellFormed.{pieceUses, byteUses, replacementUses}
+use Rattle.memory.specs.WellFormed.{ReplacementIn, EntryIn, Readable, pieceUses, byteUses, replacementUses}
 use Rattle.texts.specs.Carry.{Below}
 
 -- an entry whose piece rows lie below a row and whose texts end at or before a byte
@@ -66,6 +66,10 @@ ownOf r = record { start = 0; end = 0; intro = (r .«intro_at», r .«intro_n»)
 
 abbrev pub own : List ℕ → Entry
 own t = record { start = 0; end = 0; intro = entryAt t 0 .intro; outro = entryAt t 0 .outro; text = (NONE, 0) }
+
+pub own-in : {t p s : List ℕ} → Readable t p s → EntryIn p s (own t)
+unfolding ReplacementIn
+own-in h = record { runs = record { intro = h .desk .intro; outro = h .desk .outro }; replacement = λ n. absurd (n refl) }
 
 -- 1, 2, .., n
 abbrev pub upTo : ℕ → List ℕ

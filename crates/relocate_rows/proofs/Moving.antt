@@ -3,20 +3,21 @@ use mathlib.Core.Path.{_≡_, refl, sym, ap, ap₂, _∙_, subst, fun-ext}
 use mathlib.Core.Bool.{Bool, true, false, _&&_, cond}
 use mathlib.Core.List.{List, [], _∷_, _++_, map}
 use mathlib.Core.Logic.{_⊎_, inl, inr, ⊎-elim}
-use Prim.Native.Nat.{ℕ, zero, suc, _+_, _*_, _≤_, _<_}
+use Prim.Native.Nat.{ℕ, _+_, _*_, _≤_, _<_}
 use native.Mathlib.Omega.{arith}
 use lib.Dec.{leb}
 use lib.ListN.{length}
 use borrow.Author.Tests.{eqb-true, eqb-false, le-leb}
-use Rattle.utf8.specs.Chars.{All, nil, cons}
+use Rattle.utf8.specs.Chars.{All, cons}
 use Rattle.table.specs.Ring.{Each, each-map, each-append, each-left, each-right}
 use Rattle.table.specs.declared.Row.{Row}
 use Rattle.table.specs.Order.{Entry, entryOf, entryAt, entries, order, nextOf, Linked}
 use Rattle.model.specs.Chunk.{Chunk}
-use Rattle.model.specs.MagicString.{MagicString, Result, ok, err, and-then, with-chunks, by-start}
+use Rattle.model.specs.MagicString.{ok, err, and-then, with-chunks, by-start}
 use Rattle.model.specs.Movement.{Segment, together, apart, segment, insert-before, stands-there, move-segment}
 use Rattle.memory.specs.Layout.{chunkOf, magicStringOf}
 use Rattle.memory.specs.WellFormed.{EntryIn, Readable}
+use Rattle.memory.specs.Laws.{each-all}
 use Rattle.closed_forms.specs.Spans.{Proper, Once}
 use Rattle.closed_forms.specs.SplitAt.{cuts-then}
 use Rattle.rows.specs.declared.Key.the-variants.{Start}
@@ -28,7 +29,7 @@ use Rattle.uses.specs.Kept.{kept-same, kept-then}
 use Rattle.uses.specs.Steps.{move-kept}
 use Rattle.frame.specs.Frame.{Did}
 use Rattle.split.specs.Lift.{Reordered, still-readable, with-entries}
-use Rattle.split.specs.Cuts.{Spans, CutsDone, cuts-spans}
+use Rattle.split.specs.Cuts.{Spans, CutsDone, cuts-spans, stop}
 use Rattle.segment.specs.declared.Range.{Range}
 use Rattle.segment.specs.declared.Range.the-variants.{Whole, Broken, Nothing}
 use Rattle.segment.specs.Range.{Walked, WholeRange, BrokenRange, RangeIn, last-in}
@@ -42,10 +43,6 @@ module _ {P : Entry → Type 0} (g : ℕ → Entry) where
   rows-of : (xs : List ℕ) → All P (map g xs) → Each (λ x. P (g x)) xs
   rows-of [] h = tt
   rows-of (x ∷ xs) (cons h k) = (h, rows-of xs k)
-
-  of-rows : (xs : List ℕ) → Each (λ x. P (g x)) xs → All P (map g xs)
-  of-rows [] h = nil
-  of-rows (x ∷ xs) h = cons (h .0) (of-rows xs (h .1))
 
 each-swap : (P : ℕ → Type 0) {t : List ℕ} (s : Parts t) → Each P (order t) → Each P (swapped s)
 each-swap P s h =
@@ -194,7 +191,7 @@ module _ (a b to : ℕ) (t : List ℕ) where
                     record {
                       readable =
                           still-readable t p s t' h reordered
-                          (of-rows (entryAt t) (swapped (g .parts)) (each-swap (λ x. EntryIn p s (entryAt t x)) (g .parts) (rows-of (entryAt t) (order t) (h .chunks))));
+                          (each-all (entryAt t) (swapped (g .parts)) (each-swap (λ x. EntryIn p s (entryAt t x)) (g .parts) (rows-of (entryAt t) (order t) (h .chunks))));
                       result =
                           as-rows source p s (found p s)
                           ∙ ap (λ (z : Bool). cond z (ok m) (ok (with-chunks m (insert-before to (chunksAt t p s (f ∷ xs)) (chunksAt t p s us ++ chunksAt t p s ys)))))
@@ -210,10 +207,6 @@ module _ (a b to : ℕ) (t : List ℕ) where
               }
 
 -- ── the cuts, and what is behind them ──
-stop : (r : ℕ) (m : MagicString) (f : MagicString → Result) → (r ≡ 0 → ⊥) → and-then (err r m) f ≡ err r m
-stop zero m f n = absurd (n refl)
-stop (suc r) m f n = refl
-
 module _ (a b to : ℕ) (t t' : List ℕ) (r : ℕ) (d : CutsDone (a ∷ b ∷ to ∷ []) t t' r) where
   pub rows-refused : (r ≡ 0 → ⊥) → RelocateDone a b to t t' r
   rows-refused n =

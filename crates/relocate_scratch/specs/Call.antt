@@ -1,5 +1,5 @@
 -- `relocate` as a call: what its tests give, and what its steps come to.
-use mathlib.Core.Path.{_≡_, refl, sym, ap, _∙_, subst}
+use mathlib.Core.Path.{_≡_, refl, ap, _∙_, subst}
 use mathlib.Core.Bool.{Bool, true, false, _&&_, cond}
 use mathlib.Core.List.{List, [], _∷_}
 use mathlib.Core.Logic.{_⊎_, inl, inr}
@@ -8,7 +8,7 @@ use native.Mathlib.Omega.{arith}
 use lib.Dec.{ltb, leb, eqb}
 use lib.ListN.{length}
 use borrow.Author.Tests.{ne-eqb, eq-eqb, le-ltb, lt-ltb}
-use Rattle.utf8.specs.Rfc3629.{utf8, between}
+use Rattle.utf8.specs.Rfc3629.{between}
 use Rattle.table.specs.Order.{countOf}
 use Rattle.model.specs.Text.{all}
 use Rattle.model.specs.MagicString.{MagicString, ok, err}
@@ -17,12 +17,12 @@ use Rattle.model.specs.Call.{relocate, steps, refused-before}
 use Rattle.memory.specs.Layout.{magicStringOf}
 use Rattle.memory.specs.WellFormed.{Readable, WellFormed}
 use Rattle.memory.specs.Calls.{idle, may-write, Ran}
+use Rattle.memory.specs.Laws.{source-of}
 use Rattle.closed_forms.specs.SplitAt.{cuts-then}
 use Rattle.rebuild.specs.Rebuilt.{Finished}
 use Rattle.frame.specs.Loaded.{Loaded}
 use Rattle.frame.specs.Frame.{Scratch, Did, did-loaded, loaded-readable, ran-before, ran-same, ran-finished, refused-3, not-refused, may-write-0, may-write-6, may-write-9}
 use Rattle.in_place.specs.InPlace.{ran-rows}
-use Rattle.split.specs.Lift.{source-of}
 use Rattle.split.specs.Cuts.{formed-spans, loaded-spans}
 use Rattle.relocate_rows.specs.Relocated.{Spanned, Movable, move-step, RelocateDone}
 use Rattle.relocate_scratch.specs.Tested.{Tested}
@@ -58,9 +58,6 @@ writes : (a b to r : ℕ) → a < b → (r ≡ 0) ⊎ ((r ≡ 6) ⊎ (r ≡ 9)) 
 writes a b to r h (inl z) = rw z (may-write-0 (relocate a b to) (busy a b to h))
 writes a b to r h (inr (inl z)) = rw z (may-write-6 (relocate a b to))
 writes a b to r h (inr (inr z)) = rw z (may-write-9 (relocate a b to))
-
-pub valid-source : {source t p s : List ℕ} → WellFormed source t p s → utf8 source ≡ true
-valid-source {source} {t} {p} {s} w = ap utf8 (sym (source-of source t p s)) ∙ w .desk .formed .source
 
 -- ── past the tests, on the lent rows ──
 module _ {a b to : ℕ} {source t p s : List ℕ} (w : WellFormed source t p s) (k : Tested a b to source t p s) where

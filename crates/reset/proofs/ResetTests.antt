@@ -1,12 +1,12 @@
 -- `reset`: what its tests give.
-use mathlib.Core.Path.{_≡_, refl, sym, ap, _∙_}
-use mathlib.Core.Bool.{Bool, true, false, cond}
+use mathlib.Core.Path.{_≡_, refl, ap}
+use mathlib.Core.Bool.{true, false}
 use mathlib.Core.List.{List, [], _∷_}
-use Prim.Native.Nat.{ℕ, suc, _≤_, _<_}
+use Prim.Native.Nat.{ℕ, _≤_, _<_}
 use native.Mathlib.Omega.{arith}
 use lib.ListN.{length}
 use borrow.Author.Tests.{ne-eqb, eq-eqb, le-ltb, lt-ltb}
-use Rattle.utf8.specs.Rfc3629.{utf8, between}
+use Rattle.utf8.specs.Rfc3629.{between}
 use Rattle.model.specs.Text.{all}
 use Rattle.model.specs.MagicString.{MagicString, ok, err}
 use Rattle.model.specs.Movement.{change-range}
@@ -15,8 +15,8 @@ use Rattle.model.specs.Call.{reset, steps}
 use Rattle.memory.specs.Layout.{NONE, magicStringOf}
 use Rattle.memory.specs.WellFormed.{WellFormed}
 use Rattle.memory.specs.Calls.{idle, Ran}
+use Rattle.memory.specs.Laws.{source-of}
 use Rattle.frame.specs.Frame.{ran-before, ran-same, refused-3, not-refused}
-use Rattle.split.specs.Lift.{source-of}
 use Rattle.clear_range.specs.Range.{cleared-to, RangeRan}
 
 steps-same : (a b : ℕ) (m : MagicString) → a ≡ b → steps (reset a b) m ≡ ok m
@@ -38,9 +38,6 @@ steps-range a b m h k = rw (ne-eqb a b (λ e. omega arith), le-ltb b a (omega ar
 busy : (a b : ℕ) → a < b → idle (reset a b) ≡ false
 unfolding idle
 busy a b h = ne-eqb a b (λ e. omega arith)
-
-pub valid-source : {source t p s : List ℕ} → WellFormed source t p s → utf8 source ≡ true
-valid-source {source} {t} {p} {s} w = ap utf8 (sym (source-of source t p s)) ∙ w .desk .formed .source
 
 module _ {source t p s : List ℕ} (a b : ℕ) (w : WellFormed source t p s) where
   size : length (magicStringOf source t p s .source) ≡ length source

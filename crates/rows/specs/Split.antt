@@ -1,14 +1,16 @@
 -- Writes to a row of the list that keep its links, and the split of a row in two (`Chunk::split`).
-use mathlib.Core.Path.{_≡_, refl, sym, ap, ap₂, _∙_, subst}
-use mathlib.Core.List.{List, [], _∷_, _++_, map}
+use mathlib.Core.Path.{_≡_, sym, ap, _∙_, subst}
+use mathlib.Core.List.{List, _∷_, _++_, map}
 use Prim.Native.Nat.{ℕ, zero, suc, _+_, _*_, _-_, _≤_, _<_}
 use native.Mathlib.Omega.{arith}
-use lib.ListN.{length, length-map}
+use lib.ListN.{length}
 use Rattle.table.specs.declared.Row.{Row}
-use Rattle.table.specs.Ring.{Each, each-map, each-both, Not, length-follow}
+use Rattle.table.specs.Ring.{Each, each-map, each-both, Not}
 use Rattle.table.specs.Table.{rowAt, Put}
 use Rattle.table.specs.Order.{Entry, entryOf, entryAt, entries, order, nextOf, prevOf, countOf, Linked, put-keep, same-links, others, ranges, inside-at, write-keeps}
 use Rattle.rows.specs.Insert.{LinkedIn, Placed, runsOf, startF}
+pub use mathlib.Core.List.{map-append}
+pub use Rattle.table.specs.Ring.{map-same}
 
 -- the first half keeps the intro, the second takes the outro, a replacement goes to both
 abbrev pub first : ℕ → Entry → Entry
@@ -18,23 +20,11 @@ abbrev pub second : ℕ → Entry → Entry
 second p c = record { start = p; end = c .end; intro = (0, 0); outro = c .outro; text = c .text }
 
 -- ── on lists of rows ──
-pub map-same : (f g : ℕ → Entry) (xs : List ℕ) → Each (λ x. f x ≡ g x) xs → map f xs ≡ map g xs
-map-same f g [] e = refl
-map-same f g (x ∷ xs) e = ap₂ (λ (a : Entry) (l : List Entry). a ∷ l) (e .0) (map-same f g xs (e .1))
-
-pub map-append : (f : ℕ → Entry) (xs ys : List ℕ) → map f (xs ++ ys) ≡ map f xs ++ map f ys
-map-append f [] ys = refl
-map-append f (x ∷ xs) ys = ap (λ (l : List Entry). f x ∷ l) (map-append f xs ys)
-
 join : {us us' : List Entry} {x x' y y' : Entry} {bs bs' : List Entry} → us ≡ us' → x ≡ x' → y ≡ y' → bs ≡ bs' → us ++ x ∷ y ∷ bs ≡ us' ++ x' ∷ y' ∷ bs'
 join a b c d = cc
 
 join-one : {us us' : List Entry} {x x' : Entry} {bs bs' : List Entry} → us ≡ us' → x ≡ x' → bs ≡ bs' → us ++ x ∷ bs ≡ us' ++ x' ∷ bs'
 join-one a b d = cc
-
-pub count-entries : (t : List ℕ) → length (entries t) ≡ countOf t
-unfolding order
-count-entries t = length-map (order t) (entryAt t) ∙ length-follow (nextOf t) (countOf t) (nextOf t 0)
 
 -- the entries where row i stands in the list
 pub entries-at : (t us : List ℕ) (i : ℕ) (bs : List ℕ) → order t ≡ us ++ i ∷ bs → entries t ≡ map (entryAt t) us ++ entryAt t i ∷ map (entryAt t) bs

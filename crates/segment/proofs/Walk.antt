@@ -1,6 +1,6 @@
 -- The walk of `find_range`, turn by turn.
 use mathlib.Core.Path.{_≡_, refl, sym, ap, _∙_, subst}
-use mathlib.Core.Bool.{Bool, true, false, _&&_, not}
+use mathlib.Core.Bool.{true, false, _&&_, not}
 use mathlib.Core.List.{List, [], _∷_, _++_, append-assoc}
 use Prim.Native.Nat.{ℕ, zero, suc, _+_, _*_, _≤_, _<_}
 use native.Mathlib.Omega.{arith}
@@ -13,10 +13,8 @@ use Rattle.table.specs.Order.{entryAt, order, nextOf, countOf, Linked}
 use Rattle.rows.specs.declared.Key.the-variants.{Start}
 use Rattle.rows.specs.Find.{meets, First}
 use Rattle.rows.specs.Swap.{lastOf}
+use Rattle.model.specs.Lists.{no-tf}
 use Rattle.segment.specs.Range.{goes-on, Follows, Walked, Gap, WholeRange, BrokenRange, LeadsTo, last-in, next-in, leads-to}
-
-no-tf : {X : Type 0} → _≡_ {A = Bool} true false → X
-no-tf z = let y : _≡_ {A = ℕ} 0 1 = cc in absurd (omega arith)
 
 -- k rows behind the first have been passed
 pub record WalkAt (t : List ℕ) (a b f l k : ℕ) : Type 0 where

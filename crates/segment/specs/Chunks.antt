@@ -1,6 +1,6 @@
 -- The chunks of some rows of a table, and what it says of the rows that the chunks of the list cover the source once.
 use mathlib.Core.Path.{_≡_, refl, sym, ap, _∙_, subst}
-use mathlib.Core.List.{List, [], _∷_, _++_, map}
+use mathlib.Core.List.{List, [], _∷_, _++_, map, map-append}
 use Prim.Native.Nat.{ℕ, _+_, _≤_, _<_}
 use native.Mathlib.Omega.{arith}
 use lib.ListN.{length}
@@ -10,8 +10,8 @@ use Rattle.table.specs.Ring.{Each, each-map}
 use Rattle.table.specs.Order.{Entry, entryAt, order}
 use Rattle.model.specs.Chunk.{Chunk, start-of, end-of}
 use Rattle.model.specs.WellFormed.{covers}
+use Rattle.model.specs.Lists.{sum-append}
 use Rattle.memory.specs.Layout.{chunkOf, magicStringOf}
-use Rattle.closed_forms.specs.Lists.{sum-append, map-append}
 use Rattle.closed_forms.specs.Spans.{Proper, Once, one-start, Cover}
 use Rattle.closed_forms.specs.SplitAt.{cover-once}
 use Rattle.closed_forms.specs.Steps.{cover-proper}

@@ -1,27 +1,27 @@
 -- What a slice gives, from the walk's two answers to the report. Assumes nothing.
 use mathlib.Core.Path.{_≡_, refl, ap, sym, _∙_, subst}
-use mathlib.Core.Bool.{Bool, true, false, _&&_, _||_, not, cond}
+use mathlib.Core.Bool.{Bool, true, false, _&&_, not, cond}
 use mathlib.Core.List.{List, [], _∷_, _++_, map}
 use mathlib.Core.Option.{Option, none, some}
 use Prim.Native.Nat.{ℕ, zero, suc, _+_, _*_, _-_, _^_, _≤_, _<_}
 use native.Mathlib.Omega.{arith}
 use lib.Dec.{ltb, leb, eqb}
 use lib.ListN.{length, drop}
-use borrow.Author.Tests.{le-leb, lt-leb, leb-true, ltb-false, leb-false}
+use borrow.Author.Tests.{le-leb, lt-leb, ltb-false, leb-false}
 use Rattle.utf8.specs.Rfc3629.{between}
-use Rattle.utf8.specs.Sequences.{both}
 use Rattle.table.specs.declared.Row.{Row}
 use Rattle.table.specs.Table.{rowAt}
 use Rattle.table.specs.Order.{Entry, entryOf, entryAt, entries, countOf, Linked}
 use Rattle.model.specs.Text.{Text, all}
-use Rattle.model.specs.Chunk.{Chunk, start-of, end-of, is-edited, is-some}
+use Rattle.model.specs.Chunk.{Chunk, start-of, end-of, is-edited}
 use Rattle.model.specs.MagicString.{MagicString}
-use Rattle.model.specs.Limits.{full, within, piece-count, byte-count}
+use Rattle.model.specs.Limits.{full}
 use Rattle.model.specs.Slice.{Sliced, text, refused, Start, from, nothing, contains-end, ends-inside, chunk-slice, before, slice-rest, slice-from, find-start, slice}
 use Rattle.model.specs.Call.{Shown, show, refusal, into, sliced-into, slice-positions, end-or, slice as Slice}
-use Rattle.memory.specs.Layout.{chunkOf, replacementOf, bytesAt, magicStringOf, NONE}
-use Rattle.memory.specs.WellFormed.{WellFormed}
+use Rattle.model.specs.Lists.{neither}
+use Rattle.memory.specs.Layout.{chunkOf, magicStringOf}
 use Rattle.memory.specs.Calls.{Told}
+use Rattle.memory.specs.Laws.{edited-is}
 use Rattle.texts.specs.Over.{over, over-front}
 use Rattle.fragments.specs.Sections.{section, rowNo, section-chunk, row-in, entries-drop}
 use Rattle.slice.specs.declared.Found.the-variants.{At, Nothing}
@@ -97,14 +97,6 @@ given-nothing source t p s start end d f =
     let e : slice start end (magicStringOf source t p s) ≡ text [] = slice-is source t p s start end ∙ ap (slice-from source start end) (f p s) in
     subst (λ (x : Sliced). Gives (sliced-into (length d) x) d d 0 0) (sym e) (rw (le-leb 0 (length d) (omega arith)) (record { number-is = refl; value-is = refl; written = refl }))
 
-edited-is : (s : List ℕ) (r : ℕ × ℕ) → is-some (replacementOf s r) ≡ not (eqb (r .0) NONE)
-unfolding replacementOf
-edited-is s r = go (eqb (r .0) NONE)
-  where
-    go : (b : Bool) → is-some (cond b none (some (bytesAt s r))) ≡ not b
-    go true = refl
-    go false = refl
-
 starts-of : {t : List ℕ} {start end k row : ℕ} → FoundStart t start end (At k row) → Starts t start end k row
 unfolding FoundStart
 starts-of f = f
@@ -131,10 +123,6 @@ module _ (source t p s : List ℕ) (start end k row : ℕ) (found : FoundStart t
         let h = f .holds in
         let b = neither (ltb start (section t (suc k) .start)) (leb (section t (suc k) .end) start) h in
         omega (arith, ltb-false start (section t (suc k) .start) (b .0), ap (λ (x : Entry). x .start) entry)
-      where
-        neither : (x y : Bool) → (x || y) ≡ false → (x ≡ false) × (y ≡ false)
-        neither true y h = let z : _≡_ {A = ℕ} 0 1 = cc in absurd (omega arith)
-        neither false y h = (refl, h)
 
     abbrev walk : Sliced
     walk = sliceWalk source (eqb (r .start) start) (start - r .start) end (chunksOf p s (drop k (entries t)))
@@ -200,10 +188,3 @@ module _ (source t p s : List ℕ) (start end : ℕ) (d : List ℕ) where
   pub told-all : (b : Bool) (d' : List ℕ) (number value : ℕ) → b ≡ false → between source start ≡ true
       → Gives (sliced-into (length d) (slice start (length source) m)) d d' number value → Told (Slice start (endOf b end) (length d)) m d d' number value
   told-all b d' number value q e g = rw q (told start none m d d' number value _ (shown-none e) g)
-
--- the source is short
-pub source-short : (source t p s : List ℕ) → WellFormed source t p s → length source ≤ 16384
-unfolding within magicStringOf
-source-short source t p s w =
-    let m = magicStringOf source t p s in
-    leb-true (length source) 16384 (both (leb (length source) 16384) (leb (length (m .chunks)) 512 && (leb (piece-count m) 1024 && leb (byte-count m) 32768)) (w .desk .limits) .0)

@@ -34,7 +34,7 @@ module _ (start end : ℕ) (c : Chunk) (cs : List Chunk) where
   find-on e f =
       ap (λ (m : Bool). step m (contains-end c end) c cs (find-start start end cs)) e ∙ ap (λ (m : Bool). step true m c cs (find-start start end cs)) f
 
-contains-is : (p s : List ℕ) (e : Entry) (end : ℕ) → contains-end (chunkOf p s e) end ≡ holdsEnd (e .start) (e .end) end
+pub contains-is : (p s : List ℕ) (e : Entry) (end : ℕ) → contains-end (chunkOf p s e) end ≡ holdsEnd (e .start) (e .end) end
 unfolding contains-end
 contains-is p s e end = refl
 

@@ -1,27 +1,29 @@
 -- The second loop of a slice. Assumes nothing.
 use mathlib.Core.Path.{_≡_, refl, ap, sym, _∙_, subst}
 use mathlib.Core.Bool.{Bool, true, false, _&&_, _||_, not, cond}
-use mathlib.Core.List.{List, [], _∷_, _++_, map, append-nil, append-assoc}
-use mathlib.Core.Option.{Option, none, some}
-use Prim.Native.Nat.{ℕ, zero, suc, _+_, _*_, _-_, _^_, _≤_, _<_}
+use mathlib.Core.List.{List, [], _∷_, _++_, append-nil, append-assoc}
+use Prim.Native.Nat.{ℕ, suc, _+_, _*_, _-_, _^_, _≤_, _<_}
 use native.Mathlib.Omega.{arith}
 use native.Mathlib.Numerals.{add-one}
-use lib.Dec.{ltb, leb, eqb}
+use lib.Dec.{eqb}
 use lib.ListN.{length, take, drop, length-append, length-take, length-drop, take-append-drop}
 use Rattle.utf8.specs.Chars.{concat}
 use Rattle.table.specs.declared.Row.{Row}
 use Rattle.table.specs.Table.{rowAt}
 use Rattle.table.specs.Order.{Entry, entryOf, entryAt, entries, countOf, nextOf, Linked}
 use Rattle.model.specs.Text.{Text, sum}
-use Rattle.model.specs.Chunk.{Chunk, start-of, end-of, is-edited, is-some, content}
+use Rattle.model.specs.Chunk.{Chunk, end-of, content}
 use Rattle.model.specs.Chunk as chunk
 use Rattle.model.specs.MagicString.{chunk-fragments, fragments}
 use Rattle.model.specs.Slice.{Sliced, text, refused, contains-end, ends-inside, part, chunk-slice, before, slice-rest}
-use Rattle.memory.specs.Layout.{chunkOf, replacementOf, bytesAt, magicStringOf, NONE}
+use Rattle.model.specs.Lists.{sum-append}
+use Rattle.memory.specs.Layout.{chunkOf, magicStringOf}
 use Rattle.memory.specs.WellFormed.{WellFormed, EntryIn}
+use Rattle.memory.specs.Laws.{edited-is}
 use Rattle.texts.specs.Texts.{SpanIn}
 use Rattle.fragments.specs.Sections.{section, rowNo, row-edge, row-in, section-chunk, entries-drop, entries-end, fragmentsAll, fragmentsOf}
-use Rattle.fragments.specs.Output.{ready, sum-append, sum-length, all-append, output-short}
+use Rattle.fragments.specs.Output.{ready, sum-length, all-append, output-short}
+use Rattle.slice.proofs.Seek.{contains-is}
 use Rattle.chunk_slice.specs.Emit.{overIf, Emitted, Room, emitted-none, emitted-then}
 use Rattle.chunk_slice.specs.Given.{holdsEnd, chunkSlice}
 use Rattle.slice.specs.Walk.{endsInside, chunksOf, sliceWalk, walk-rest, Fits, Out}
@@ -68,21 +70,9 @@ rest-short source t p s k w =
     omega (arith, chunks-short source t p s w, ap (sum length) e, sum-append length (F (take k (entries t))) (F (drop k (entries t))))
 
 -- ---- a chunk's tests
-edited-is : (s : List ℕ) (r : ℕ × ℕ) → is-some (replacementOf s r) ≡ not (eqb (r .0) NONE)
-unfolding replacementOf
-edited-is s r = go (eqb (r .0) NONE)
-  where
-    go : (b : Bool) → is-some (cond b none (some (bytesAt s r))) ≡ not b
-    go true = refl
-    go false = refl
-
 pub ends-is : (p s : List ℕ) (e : Entry) (end : ℕ) → ends-inside (chunkOf p s e) end ≡ endsInside (e .start) (e .end) (e .text .0) end
 unfolding ends-inside contains-end
 ends-is p s e end = ap (λ (b : Bool). (holdsEnd (e .start) (e .end) end && b) && not (eqb (e .end) end)) (edited-is s (e .text))
-
-holds-is : (p s : List ℕ) (e : Entry) (end : ℕ) → contains-end (chunkOf p s e) end ≡ holdsEnd (e .start) (e .end) end
-unfolding contains-end
-holds-is p s e end = refl
 
 -- ---- one chunk of the walk
 abbrev unless : Bool → Sliced → Sliced
@@ -172,7 +162,7 @@ module _ {w : Bool} {source t p s : List ℕ} {end : ℕ} {whole : Sliced} {d₀
           ∙ ap (λ (y : List Entry). before (c .done) (sliceWalk source wi begin end (chunksOf p s y))) (entries-drop t k l inside)
           ∙ ap (λ (y : Entry). before (c .done) (step (ends-inside (chunkOf p s y) end) (contains-end (chunkOf p s y) end) (chunkSlice source p s wi begin end y) rest)) (sym entry)
           ∙ ap (λ (b : Bool). before (c .done) (step b (contains-end (chunkOf p s (entryOf r)) end) x rest)) (ends-is p s (entryOf r) end)
-          ∙ ap (λ (b : Bool). before (c .done) (step (endsInside (r .start) (r .end) (r .«text_at») end) b x rest)) (holds-is p s (entryOf r) end)
+          ∙ ap (λ (b : Bool). before (c .done) (step (endsInside (r .start) (r .end) (r .«text_at») end) b x rest)) (contains-is p s (entryOf r) end)
 
       pub slicing-refused : endsInside (r .start) (r .end) (r .«text_at») end ≡ true → Out w whole d₀ d 12 0
       slicing-refused q =

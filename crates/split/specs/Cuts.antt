@@ -1,7 +1,7 @@
 -- Cuts of a chunk table: what they leave, in the model's words, with any pieces and store.
 use mathlib.Core.Path.{_≡_, refl, sym, ap, ap₂, _∙_, subst}
-use mathlib.Core.Bool.{Bool, true, false, _&&_, not, cond}
-use mathlib.Core.List.{List, [], _∷_, _++_, map}
+use mathlib.Core.Bool.{Bool, true, false, not, cond, and-true}
+use mathlib.Core.List.{List, [], _∷_, _++_, map, map-append}
 use mathlib.Core.Logic.{_⊎_, inl, inr}
 use Prim.Native.Nat.{ℕ, zero, suc, _+_, _*_, _≤_, _<_}
 use native.Mathlib.Omega.{arith}
@@ -15,13 +15,15 @@ use Rattle.model.specs.Text.{Text, all, sum}
 use Rattle.model.specs.Chunk.{Chunk, contains, is-filled, first-half, second-half}
 use Rattle.model.specs.MagicString.{MagicString, Result, ok, err, and-then, with-chunks, split-at}
 use Rattle.model.specs.WellFormed.{covers}
+use Rattle.model.specs.Lists.{true-all, sum-append, first-of, rest-of, all-append}
 use Rattle.memory.specs.Layout.{chunkOf, magicStringOf}
 use Rattle.memory.specs.WellFormed.{EntryIn, Readable, WellFormed}
-use Rattle.closed_forms.specs.Lists.{true-all, sum-append}
-use Rattle.closed_forms.specs.Lists as lists
+use Rattle.memory.specs.Laws.{chunks-of, source-of}
+use Rattle.model.specs.Lists as lists
+use Rattle.model.specs.Spans.{covers-in}
 use Rattle.closed_forms.specs.Plan.{split, cut, cut-all, splittable}
 use Rattle.closed_forms.specs.Cuts.{Contains, contains-true, contains-of, split-in, cut-append, cut-none, splittable-true}
-use Rattle.closed_forms.specs.Spans.{covers-in, none-cover, Once, Cover, formed-cover}
+use Rattle.closed_forms.specs.Spans.{none-cover, Once, Cover, formed-cover}
 use Rattle.closed_forms.specs.SplitAt.{cover-once, cover-cut, cover-cut-all, split-at-cover, aligned-splittable, cuts-then}
 use Rattle.rows.specs.declared.Key.the-variants.{Inside}
 use Rattle.rows.specs.Find.{meets, First}
@@ -30,7 +32,7 @@ use Rattle.uses.specs.Kept.{Kept, kept-same, kept-then}
 use Rattle.uses.specs.Steps.{split-kept}
 use Rattle.frame.specs.Loaded.{Loaded}
 use Rattle.frame.specs.Frame.{Roomy, Scratch, loaded-desk}
-use Rattle.split.specs.Lift.{RunSmall, EntrySmall, DeskSmall, same-head, same-tail, first-small, second-small, all-first, all-rest, all-append, map-append, Reordered, still-readable, with-entries, chunks-of, source-of, lift-first, lift-second, first-in, second-in, lift-filled, not-filled}
+use Rattle.split.specs.Lift.{RunSmall, EntrySmall, DeskSmall, same-head, same-tail, first-small, second-small, Reordered, still-readable, with-entries, lift-first, lift-second, first-in, second-in, lift-filled, not-filled}
 use Rattle.split.specs.Lift as lift
 
 abbrev pub filled : Entry → Bool
@@ -71,10 +73,6 @@ others q xs c ys o i =
 
 all-mid : {A : Type 0} (f : A → Bool) (xs : List A) (c : A) (ys : List A) → all f xs ≡ true → all f ys ≡ true → all f (xs ++ c ∷ ys) ≡ f c
 all-mid f [] c ys a b = rw b (and-true (f c))
-  where
-    and-true : (x : Bool) → x && true ≡ x
-    and-true true = refl
-    and-true false = refl
 all-mid f (x ∷ xs) c ys a b = rw (lists.and-left (f x) (all f xs) a) (all-mid f xs c ys (lists.and-right (f x) (all f xs) a) b)
 
 module _ (q : ℕ) (m : MagicString) (v : Cover (m .source) (m .chunks)) where
@@ -161,7 +159,7 @@ module _ (q : ℕ) (t : List ℕ) (i : ℕ) (w : First (meets Inside q) t i) whe
     mid-in = all-back (EntryIn p s) xs (entryAt t i ∷ ys) all-in
 
     fills : is-filled (chunkOf p s (entryAt t i) .texts .edited-content) ≡ filled (entryAt t i)
-    fills = lift-filled s (entryAt t i) (all-first mid-in .replacement)
+    fills = lift-filled s (entryAt t i) (first-of mid-in .replacement)
 
     refused-leave : filled (entryAt t i) ≡ true → CutsLeave (q ∷ []) source t p s t 6
     refused-leave f =
@@ -179,7 +177,7 @@ module _ (q : ℕ) (t : List ℕ) (i : ℕ) (w : First (meets Inside q) t i) whe
         with-entries t p s t' h k source ∙ ap (with-chunks m) b in
         one-cut
         (still-readable t p s t' h k
-        (all-append (all-front (EntryIn p s) xs (e ∷ ys) all-in) (cons (first-in p s q e (all-first mid-in)) (cons (second-in p s q e (all-first mid-in)) (all-rest mid-in)))))
+        (all-append (all-front (EntryIn p s) xs (e ∷ ys) all-in) (cons (first-in p s q e (first-of mid-in)) (cons (second-in p s q e (first-of mid-in)) (rest-of mid-in)))))
         (c .0 ∙ ap ok (sym g))
         (λ _. ap (λ (x : MagicString). x .chunks) g ∙ sym (c .1))
 
@@ -196,7 +194,7 @@ module _ (q : ℕ) (t : List ℕ) (i : ℕ) (w : First (meets Inside q) t i) whe
         let b = all-back (EntryIn p s) xs (e ∷ ys) a in
         let k : Reordered t t' (xs ++ first q e ∷ second q e ∷ ys) = record { linked = d .linked; chunks = d .place (w .us) (w .bs) (w .place); desk = d .desk } in
         still-readable t p s t' h k
-        (all-append (all-front (EntryIn p s) xs (e ∷ ys) a) (cons (first-in p s q e (all-first b)) (cons (second-in p s q e (all-first b)) (all-rest b))))
+        (all-append (all-front (EntryIn p s) xs (e ∷ ys) a) (cons (first-in p s q e (first-of b)) (cons (second-in p s q e (first-of b)) (rest-of b))))
 
     split-small : DeskSmall t p s → DeskSmall t' p s
     split-small h =
@@ -209,7 +207,7 @@ module _ (q : ℕ) (t : List ℕ) (i : ℕ) (w : First (meets Inside q) t i) whe
           desk = record { intro = subst (RunSmall p s) (sym (same-head t t' (d .desk))) (h .desk .intro); outro = subst (RunSmall p s) (sym (same-tail t t' (d .desk))) (h .desk .outro) };
           chunks =
               subst (All (EntrySmall p s)) (sym (d .place (w .us) (w .bs) (w .place)))
-              (all-append (all-front (EntrySmall p s) xs (e ∷ ys) a) (cons (first-small p s q e (all-first b)) (cons (second-small p s q e (all-first b)) (all-rest b))));
+              (all-append (all-front (EntrySmall p s) xs (e ∷ ys) a) (cons (first-small p s q e (first-of b)) (cons (second-small p s q e (first-of b)) (rest-of b))));
         }
 
   pub found-filled : Linked t → filled (entryAt t i) ≡ true → CutsDone (q ∷ []) t t 6
@@ -228,9 +226,10 @@ module _ (q : ℕ) (t : List ℕ) (i : ℕ) (w : First (meets Inside q) t i) whe
       }
 
 -- ── cuts one after another ──
-and-then-none : (r : ℕ) (m : MagicString) (f g : MagicString → Result) → (r ≡ 0 → ⊥) → and-then (err r m) f ≡ and-then (err r m) g
-and-then-none zero m f g n = absurd (n refl)
-and-then-none (suc r) m f g n = refl
+-- behind a refusal no step is taken
+pub stop : (r : ℕ) (m : MagicString) (f : MagicString → Result) → (r ≡ 0 → ⊥) → and-then (err r m) f ≡ err r m
+stop zero m f n = absurd (n refl)
+stop (suc r) m f n = refl
 
 pub cuts-stop : (q : ℕ) (ps : List ℕ) (t t' : List ℕ) (r : ℕ) → CutsDone (q ∷ []) t t' r → (r ≡ 0 → ⊥) → CutsDone (q ∷ ps) t t' r
 cuts-stop q ps t t' r d n =
@@ -239,7 +238,7 @@ cuts-stop q ps t t' r d n =
           let k = d .leave source p s h v in
           record {
             readable = k .readable;
-            result = λ step. k .result (cuts-then ps step) ∙ and-then-none r (magicStringOf source t' p s) (cuts-then ps step) step n;
+            result = λ step. k .result (cuts-then ps step) ∙ stop r (magicStringOf source t' p s) (cuts-then ps step) n ∙ sym (stop r (magicStringOf source t' p s) step n);
             chunks = λ z. absurd (n z);
           };
       readable = d .readable;

@@ -1,15 +1,14 @@
 -- From entries to the model: what a change of the rows of a chunk table means for the desk that it holds with given pieces and store.
-use mathlib.Core.Path.{_≡_, refl, sym, ap, ap₂, _∙_, subst}
-use mathlib.Core.Bool.{Bool, true, false, _&&_, not, cond}
-use mathlib.Core.List.{List, [], _∷_, _++_, map}
+use mathlib.Core.Path.{_≡_, refl, sym, ap, ap₂, subst}
+use mathlib.Core.Bool.{Bool, true, false, not, cond}
+use mathlib.Core.List.{List, [], _∷_, map}
 use mathlib.Core.Option.{Option, none, some}
 use mathlib.Core.Logic.{inl, inr}
 use Prim.Native.Nat.{ℕ, zero, suc, _+_, _≤_, _<_}
 use native.Mathlib.Omega.{arith}
 use lib.Dec.{ltb, leb, eqb}
-use lib.ListN.{length, take, drop, length-drop, length-append}
+use lib.ListN.{length, take, drop, length-drop}
 use borrow.Author.Tests.{eqb-true, eqb-false, lt-ltb, ltb-false, leb-true}
-use Rattle.utf8.specs.Rfc3629.{utf8}
 use Rattle.utf8.specs.Chars.{All, nil, cons, concat}
 use Rattle.table.specs.Ring.{Each}
 use Rattle.table.specs.Table.{rowAt}
@@ -18,29 +17,14 @@ use Rattle.model.specs.Text.{Text, is-nil, sum}
 use Rattle.model.specs.Limits.{full, within, chunk-pieces, chunk-bytes, piece-count, byte-count}
 use Rattle.model.specs.Chunk.{Chunk, Texts, is-filled, first-half, second-half}
 use Rattle.model.specs.MagicString.{MagicString, with-chunks}
+use Rattle.model.specs.Lists.{bool-elim, and-left, and-right, concat-sum}
 use Rattle.memory.specs.Layout.{NONE, Place, runOf, replacementOf, chunkOf, magicStringOf}
-use Rattle.memory.specs.WellFormed.{RunIn, ReplacementIn, RunsIn, EntryIn, Readable, WellFormed}
-use Rattle.texts.specs.Texts.{concat-cons, concat-nil}
+use Rattle.memory.specs.WellFormed.{RunIn, ReplacementIn, RunsIn, EntryIn, Readable}
+use Rattle.memory.specs.Laws.{desk-same, no-run, no-run-in}
+use Rattle.texts.specs.Texts.{concat-nil}
 use Rattle.rows.specs.Insert.{runsOf}
 use Rattle.rows.specs.Split.{first, second}
 use Rattle.uses.specs.Steps.{Unfilled}
-use Rattle.frame.specs.Front.{bool-elim, desk-same}
-
--- ── lists ──
-module _ {A : Type 0} {P : A → Type 0} where
-  pub all-first : {x : A} {xs : List A} → All P (x ∷ xs) → P x
-  all-first (cons h k) = h
-
-  pub all-rest : {x : A} {xs : List A} → All P (x ∷ xs) → All P xs
-  all-rest (cons h k) = k
-
-  pub all-append : {xs ys : List A} → All P xs → All P ys → All P (xs ++ ys)
-  all-append nil q = q
-  all-append (cons p ps) q = cons p (all-append ps q)
-
-pub map-append : {A B : Type 0} (f : A → B) (xs ys : List A) → map f (xs ++ ys) ≡ map f xs ++ map f ys
-map-append f [] ys = refl
-map-append {A} {B} f (x ∷ xs) ys = ap (λ (l : List B). f x ∷ l) (map-append f xs ys)
 
 -- ── the runs of row 0 stay ──
 module _ (t t' : List ℕ) (k : runsOf (rowAt t' 0) ≡ runsOf (rowAt t 0)) where
@@ -73,17 +57,6 @@ module _ (t p s t' : List ℕ) {es : List Entry} (h : Readable t p s) (d : Reord
   unfolding magicStringOf
   with-entries source = desk-same source (ap (runOf p s) (same-head t t' (d .desk))) (ap (runOf p s) (same-tail t t' (d .desk))) (ap (map (chunkOf p s)) (d .chunks))
 
-pub chunks-of : (source t p s : List ℕ) → magicStringOf source t p s .chunks ≡ map (chunkOf p s) (entries t)
-unfolding magicStringOf
-chunks-of source t p s = refl
-
-pub source-of : (source t p s : List ℕ) → magicStringOf source t p s .source ≡ source
-unfolding magicStringOf
-source-of source t p s = refl
-
-pub valid-source : {source t p s : List ℕ} → WellFormed source t p s → utf8 source ≡ true
-valid-source {source} {t} {p} {s} w = ap utf8 (sym (source-of source t p s)) ∙ w .desk .formed .source
-
 -- ── runs that keep the limits by themselves ──
 pub record RunSmall (p s : List ℕ) (r : Place) : Type 0 where
   pub pieces : length (runOf p s r) ≤ 1024
@@ -98,10 +71,6 @@ pub record DeskSmall (t p s : List ℕ) : Type 0 where
   pub desk : EntrySmall p s (entryAt t 0)
   pub chunks : All (EntrySmall p s) (entries t)
 
-concat-sum : (ts : List Text) → length (concat ts) ≡ sum length ts
-concat-sum [] = ap length concat-nil
-concat-sum (t ∷ ts) = ap length (concat-cons t ts) ∙ length-append t (concat ts) ∙ ap (λ (n : ℕ). length t + n) (concat-sum ts)
-
 small-entry : (p s : List ℕ) (e : Entry) → chunk-pieces (chunkOf p s e) ≤ 1024 → chunk-bytes (chunkOf p s e) ≤ 32768 → EntrySmall p s e
 small-entry p s e h k =
     record {
@@ -114,14 +83,6 @@ small-entries p s a b [] h k = nil
 small-entries p s a b (e ∷ es) h k =
     let c = small-entry p s e (omega arith) (omega arith) in
     cons c (small-entries p s (a + chunk-pieces (chunkOf p s e)) (b + chunk-bytes (chunkOf p s e)) es (omega arith) (omega arith))
-
-and-right : (x y : Bool) → x && y ≡ true → y ≡ true
-and-right true y e = e
-and-right false y e = let z : _≡_ {A = ℕ} 0 1 = cc in absurd (omega arith)
-
-and-left : (x y : Bool) → x && y ≡ true → x ≡ true
-and-left true y e = refl
-and-left false y e = e
 
 -- a desk that keeps the limits
 pub desk-small : (source t p s : List ℕ) → within full (magicStringOf source t p s) ≡ true → DeskSmall t p s
@@ -146,14 +107,6 @@ desk-small source t p s e =
         }
 
 -- ── an empty run, and the two halves of a chunk ──
-pub no-run : (p s : List ℕ) (a : ℕ) → runOf p s (a, 0) ≡ []
-unfolding runOf
-no-run p s a = refl
-
-pub no-run-in : (p s : List ℕ) (a : ℕ) → RunIn p s (a, 0)
-unfolding RunIn
-no-run-in p s a k h = absurd (omega arith)
-
 module _ (p s : List ℕ) (q : ℕ) (e : Entry) where
   pub lift-first : chunkOf p s (first q e) ≡ first-half q (chunkOf p s e)
   lift-first = rw (no-run p s 0)

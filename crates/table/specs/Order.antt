@@ -5,9 +5,9 @@ use mathlib.Core.Logic.{⊎-elim, _⊎_, inl, inr}
 use Prim.Native.Nat.{ℕ, zero, suc, _+_, _*_, _-_, _≤_, _<_}
 use native.Mathlib.Omega.{arith}
 use native.Mathlib.Decide.{ℕ-discrete}
-use lib.ListN.{length, getD, drop, length-drop}
+use lib.ListN.{length, getD, drop, length-drop, length-map}
 use Rattle.table.specs.declared.Row.{Row}
-use Rattle.table.specs.Ring.{Each, each-right, each-left, Not, follow, Ring, Inserted, ring-insert, next-le, links-right, Edge, later, earlier, Pos, each-map}
+use Rattle.table.specs.Ring.{Each, each-right, each-left, Not, follow, length-follow, Ring, Inserted, ring-insert, next-le, links-right, Edge, later, earlier, Pos, each-map}
 use Rattle.table.specs.Table.{rowAt, Put}
 
 abbrev pub nextOf : List ℕ → ℕ → ℕ
@@ -52,6 +52,14 @@ entryAt t i = entryOf (rowAt t i)
 -- the chunk list, decoded as far as the runs
 abbrev pub entries : List ℕ → List Entry
 entries t = map (entryAt t) (order t)
+
+-- as many as the count says
+pub order-length : (t : List ℕ) → length (order t) ≡ countOf t
+unfolding order
+order-length t = length-follow (nextOf t) (countOf t) (nextOf t 0)
+
+pub count-entries : (t : List ℕ) → length (entries t) ≡ countOf t
+count-entries t = length-map (order t) (entryAt t) ∙ order-length t
 
 -- a write that keeps what f reads keeps it everywhere
 pub put-keep : {X : Type 0} (f : Row → X) (t t' : List ℕ) (i : ℕ) (r : Row) → Put t t' i r → f r ≡ f (rowAt t i)

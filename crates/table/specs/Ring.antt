@@ -1,7 +1,7 @@
 -- A circular list, linked both ways, with the sentinel 0: what it is to be linked, that the order is what following the links gives,
 -- that no index stands in it twice, and how the order changes.
-use mathlib.Core.Path.{_≡_, refl, sym, ap, _∙_, subst}
-use mathlib.Core.List.{List, [], _∷_, _++_}
+use mathlib.Core.Path.{_≡_, refl, sym, ap, ap₂, _∙_, subst}
+use mathlib.Core.List.{List, [], _∷_, _++_, map}
 use mathlib.Core.Logic.{⊎-elim, _⊎_, inl, inr}
 use Prim.Native.Nat.{ℕ, zero, suc, _+_, _-_, _≤_, _<_}
 use native.Mathlib.Nat.{le-of-suc-le-suc, not-suc-le-zero}
@@ -48,6 +48,11 @@ Not i x = x ≡ i → ⊥
 pub each-map {ℓ} : {A : Type ℓ} (P Q : A → Type 0) → ((a : A) → P a → Q a) → (xs : List A) → Each P xs → Each Q xs
 each-map P Q f [] p = tt
 each-map P Q f (x ∷ xs) p = (f x (p .0), each-map P Q f xs (p .1))
+
+-- two functions that agree on every element
+pub map-same : {B : Type 0} (f g : ℕ → B) (xs : List ℕ) → Each (λ x. f x ≡ g x) xs → map f xs ≡ map g xs
+map-same f g [] e = refl
+map-same {B} f g (x ∷ xs) e = ap₂ (λ (a : B) (l : List B). a ∷ l) (e .0) (map-same f g xs (e .1))
 
 -- the indices that n steps along nx give, from i on
 abbrev pub follow : (ℕ → ℕ) → ℕ → ℕ → List ℕ

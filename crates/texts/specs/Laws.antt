@@ -1,13 +1,13 @@
 -- Laws of the loops that copy, write and carry texts. Assumes nothing.
 use mathlib.Core.Path.{_≡_, refl, ap, sym, _∙_}
-use mathlib.Core.List.{List, [], _∷_, _++_, append-assoc, append-nil}
+use mathlib.Core.List.{List, [], _∷_, _++_, append-nil}
 use Prim.Native.Nat.{ℕ, zero, suc, _+_, _*_, _-_, _≤_, _<_}
 use native.Mathlib.Numerals.{add-one}
 use native.Mathlib.Nat.{add-zero, add-assoc}
 use native.Mathlib.Omega.{arith}
 use native.Mathlib.Decide.{le-ind}
 use lib.ListN.{length, getD, take, drop, set, length-append, length-drop, drop-of-length-le}
-use lib.Seq.{take-suc, drop-cons, set-at, append-snoc, length-take-le, take-length, take-all, drop-drop, sets-eq}
+use lib.Seq.{take-suc, drop-cons, set-at, append-snoc, length-take-le, take-length, take-all, drop-drop}
 use Rattle.utf8.specs.Chars.{concat}
 use Rattle.model.specs.Text.{Text}
 use Rattle.memory.specs.Layout.{bytesAt, pieceAt, tabulate, runOf}
@@ -27,10 +27,6 @@ pub front-all : (t o d : List ℕ) (i : ℕ) → i ≤ length t → length t ≤
 front-all t o d i h k e =
     let l : i ≡ length t = omega arith in
     rw (e, l, take-length)
-
-pub two-sets : (p : List ℕ) (w a b : ℕ) → w + 1 < length p → set (set p w a) (w + 1) b ≡ over p w (a ∷ b ∷ [])
-unfolding over
-two-sets p w a b h = rw (add-one w, ← append-assoc) (sets-eq (a ∷ b ∷ []) p w (omega arith))
 
 -- the texts of a run, by number
 abbrev pub texts : List ℕ → List ℕ → ℕ → ℕ → Text

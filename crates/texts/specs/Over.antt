@@ -1,11 +1,12 @@
 -- A list written over a part of another, as `put` leaves it.
-use mathlib.Core.Path.{_≡_, refl, ap, sym, _∙_}
+use mathlib.Core.Path.{_≡_, refl, ap, ap₂, sym, _∙_}
 use mathlib.Core.List.{List, [], _∷_, _++_, append-assoc, append-nil}
 use Prim.Native.Nat.{ℕ, zero, suc, _+_, _-_, _≤_, _<_}
 use native.Mathlib.Nat.{add-zero, add-assoc}
 use native.Mathlib.Omega.{arith}
-use lib.ListN.{length, take, drop, length-append, length-take, length-drop, take-append-drop, drop-of-length-le}
-use lib.Seq.{drop-drop, take-at, drop-at, take-take, take-all}
+use native.Mathlib.Numerals.{add-one}
+use lib.ListN.{length, take, drop, set, length-append, length-take, length-drop, take-append-drop, drop-of-length-le}
+use lib.Seq.{drop-drop, take-at, drop-at, take-take, take-all, drop-append-add, sets-eq}
 
 -- d, with xs in the place of what stood there from at
 unfoldable pub over : List ℕ → ℕ → List ℕ → List ℕ
@@ -71,6 +72,17 @@ unfolding over
 put-back d t t' ys o h e e' =
     let l : length (drop o d) ≤ length d - o = simp length-drop (omega arith) in
     rw (e, e', take-all (length d - o) (drop o d), drop-of-length-le (drop o d) l, append-nil, drop-drop)
+
+-- two words
+pub two-sets : (p : List ℕ) (w a b : ℕ) → w + 1 < length p → set (set p w a) (w + 1) b ≡ over p w (a ∷ b ∷ [])
+unfolding over
+two-sets p w a b h = rw (add-one w, ← append-assoc) (sets-eq (a ∷ b ∷ []) p w (omega arith))
+
+-- behind all of d
+pub over-behind : (d y xs : List ℕ) (n : ℕ) → n ≡ length d → over (d ++ y) n xs ≡ d ++ (xs ++ drop (length xs) y)
+unfolding over
+over-behind d y xs n e =
+    rw e (ap₂ (λ (a b : List ℕ). a ++ (xs ++ b)) (take-at d y (length d) refl) (drop-append-add d y (length xs)))
 
 -- two writes
 pub wrote-then : {d : List ℕ} {a : ℕ} {xs d' : List ℕ} {r : ℕ} {ys d'' : List ℕ} {r' : ℕ} → Wrote d a xs d' r → Wrote d' r ys d'' r' → a + length (xs ++ ys) ≤ length d → Wrote d a (xs ++ ys) d'' r'

@@ -14,6 +14,7 @@ use Rattle.model.specs.Chunk.{content-or}
 use Rattle.model.specs.Chunk as chunk
 use Rattle.memory.specs.Layout.{Place, bytesAt, pieceAt, tabulate, runOf, replacementOf, chunkOf}
 use Rattle.memory.specs.WellFormed.{PieceIn, RunIn, ReplacementIn}
+pub use Rattle.memory.specs.Laws.{length-tabulate}
 
 -- a span inside the source
 pub record SpanIn (source : List ℕ) (e : Entry) : Type 0 where
@@ -34,10 +35,6 @@ abbrev pub chunkText : List ℕ → List ℕ → List ℕ → Entry → Text
 chunkText source p s e = concat (chunk.fragments source (chunkOf p s e))
 
 -- ---- lists f 0, f 1, ..
-pub length-tabulate : {A : Type 0} (f : ℕ → A) (n : ℕ) → length (tabulate f n) ≡ n
-length-tabulate f zero = refl
-length-tabulate f (suc n) = simp (length-append, length-tabulate f n) (omega arith)
-
 pub tabulate-ext : {A : Type 0} (f g : ℕ → A) (n : ℕ) → ((k : ℕ) → k < n → f k ≡ g k) → tabulate f n ≡ tabulate g n
 tabulate-ext f g zero h = refl
 tabulate-ext f g (suc n) h = rw (tabulate-ext f g n (λ k hk. h k (omega arith)), h n (omega arith))

@@ -9,12 +9,11 @@ use lib.Dec.{leb}
 use lib.ListN.{length, take, drop, length-map, take-append-drop}
 use lib.Seq.{length-take-le}
 use borrow.Author.Tests.{le-leb}
-use Rattle.table.specs.Order.{entries, countOf}
+use Rattle.table.specs.Order.{entries, countOf, count-entries}
 use Rattle.model.specs.MagicString.{MagicString, ok}
 use Rattle.model.specs.Limits.{full, within, piece-count, byte-count}
 use Rattle.memory.specs.Layout.{chunkOf, magicStringOf}
 use Rattle.memory.specs.WellFormed.{WellFormed}
-use Rattle.rows.specs.Split.{count-entries}
 use Rattle.uses.specs.Kept.{kept-same, kept-within}
 use Rattle.frame.specs.Frame.{few-chunks, may-write-0}
 use Rattle.in_place.specs.InPlace.{ran-in-place}

@@ -18,9 +18,10 @@ use Rattle.model.specs.WellFormed.{covers, Formed}
 use Rattle.model.specs.Trim.{matches, trim-start-pattern, trim-end-pattern, trim-deque-start, trim-reversed, trim-deque-end, Trimmed, trim-chunk-start, trim-chunk-end, trim-chunks, trim-start, trim-end}
 use Rattle.counts.specs.Counts.{sum-to, indicator}
 use Rattle.counts.specs.Sums.{sum-ones, sum-indicator}
-use Rattle.counts.specs.Lists.{sum-same-list, sum-swap}
+use Rattle.counts.specs.Lists.{sum-swap}
 use Rattle.fragments.specs.Output.{sum-length}
-use Rattle.preservation.specs.Lists.{of-cond, of-either, all-imp, all-every, sum-le}
+use Rattle.model.specs.Lists.{all-of, all-map, sum-same}
+use Rattle.preservation.specs.Lists.{of-cond, of-either, sum-le}
 use Rattle.preservation.specs.Spans.{Inside, spans-inside, covered-once}
 use Rattle.trim_row.specs.Plain.{plain-or, plain, plain-bytes}
 use Rattle.trim_chunks.specs.Sums.{sum-reverse}
@@ -210,11 +211,11 @@ plain-small m h =
     let n = length (m .source) in
     let cs = m .chunks in
     let once : (x : ℕ) → x < n → sum (λ c. has c x) cs ≤ 1 =
-    λ x l. omega (arith, sum-same-list (λ c. has c x) (covers x) cs (all-every (has-covers x) cs), covered-once (m .source) cs (h .covered) x l) in
+    λ x l. omega (arith, sum-same (λ c. has c x) (covers x) (all-of (has-covers x) cs), covered-once (m .source) cs (h .covered) x l) in
     omega (
       arith,
       sum-le width plain plain-width cs,
-      sum-same-list width (λ c. sum-to (has c) n) cs (all-imp (width-counts (m .source)) (spans-inside (m .source) cs (h .covered))),
+      sum-same width (λ c. sum-to (has c) n) (all-map (width-counts (m .source)) (spans-inside (m .source) cs (h .covered))),
       sum-swap has cs n,
       sum-ones (λ x. sum (λ c. has c x) cs) n once,
     )

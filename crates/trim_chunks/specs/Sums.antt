@@ -8,7 +8,7 @@ use native.Mathlib.Omega.{arith}
 use Rattle.table.specs.Ring.{Each}
 use Rattle.table.specs.Order.{Entry, entryAt, entries, order}
 use Rattle.model.specs.Text.{sum}
-use Rattle.counts.specs.Lists.{sum-append, sum-map}
+use Rattle.model.specs.Lists.{sum-append, sum-map}
 
 -- the list in the direction of the trim
 abbrev pub way : {A : Type 0} → Bool → List A → List A

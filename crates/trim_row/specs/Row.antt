@@ -29,7 +29,7 @@ use Rattle.trim_text.specs.Sides.{trim-text, blank, PlaceTrimmed}
 use Rattle.trim_run.specs.Deque.{trim-deque, all-nil-deque, deque-nil}
 use Rattle.trim_run.specs.Low.{RowsKept, BytesKept, rows-same, bytes-same, TextLow, RunsLow, EntryLow, run-same, run-still, run-in}
 use Rattle.trim_run.specs.Run.{RunReady, RowRoom, RunTrimmed}
-use Rattle.counts.specs.Places.{among-none}
+use Rattle.memory.specs.Laws.{among-none}
 use Rattle.trim_row.specs.Uses.{NoMore, no-more-none, no-more-same, no-more-trimmed, rows-above, among-most, text-before, text-within, text-empty, Fewer, RowApart, row-apart}
 use Rattle.trim_row.specs.Plain.{plainOf, plain-width, Behind, spent-of}
 use Rattle.trim_row.specs.Sides.{trim-chunk, near, far, sides, with-sides, near-left, content-left, content-blank}

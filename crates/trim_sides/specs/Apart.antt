@@ -12,7 +12,7 @@ use Rattle.model.specs.Text.{sum}
 use Rattle.memory.specs.Layout.{Place}
 use Rattle.memory.specs.WellFormed.{among, pieceUses, runUses, listUses, byteUses, Disjoint}
 use Rattle.texts.specs.Carry.{Below}
-use Rattle.counts.specs.Places.{among-out}
+use Rattle.memory.specs.Laws.{among-out}
 use Rattle.trim_run.specs.Low.{RowsKept, RunsLow, EntryLow, DeskLow}
 use Rattle.trim_row.specs.Row.{nearOf, farOf, withSides}
 use Rattle.trim_row.specs.Uses.{NoMore, no-more-same, among-most, rows-above, row-above, lists-above, same-fewer}

@@ -21,7 +21,7 @@ use Rattle.memory.specs.Layout.{Place, runOf, chunkOf, magicStringOf}
 use Rattle.memory.specs.WellFormed.{Disjoint}
 use Rattle.texts.specs.Texts.{run-length}
 use Rattle.texts.specs.Carry.{Below}
-use Rattle.preservation.specs.Lists.{sum-each}
+use Rattle.model.specs.Lists.{sum-part}
 use Rattle.preservation.specs.Spans.{Inside, spans-inside}
 use Rattle.preservation.specs.Trim.{content-valid}
 use Rattle.frame.specs.Front.{desk-same}
@@ -214,7 +214,7 @@ module _ (source p s : List ℕ) (top byte : ℕ) where
       let a = rows-pieces p s (entries t) in
       let b = plain-rows p s (entries t) in
       fit-all (chunkRows t) (sum plainOf (entries t)) (h .formed .source) (omega (arith, a, h .few, h .rows)) (h .narrow) (omega (arith, b, h .bytes)) (h .small) (entries t) (h .low .chunks)
-      (spans-inside source (map (chunkOf p s) (entries t)) (h .formed .covered)) (h .formed .texts) (sum-each piecesOf (entries t)) (sum-each plainOf (entries t))
+      (spans-inside source (map (chunkOf p s) (entries t)) (h .formed .covered)) (h .formed .texts) (sum-part piecesOf (entries t)) (sum-part plainOf (entries t))
 
 -- ---- one side
 module _ (front : Bool) (pattern : ℕ) (source t p s : List ℕ) (top wide byte : ℕ) (h : SideReady source t p s top wide byte) where

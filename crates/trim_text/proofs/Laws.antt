@@ -3,7 +3,7 @@
 use mathlib.Core.Path.{_≡_, refl, sym, ap, _∙_}
 use mathlib.Core.Bool.{Bool, true, false, _||_}
 use mathlib.Core.List.{List, [], _∷_}
-use Prim.Native.Nat.{ℕ, zero, suc, _+_, _-_, _≤_, _<_}
+use Prim.Native.Nat.{ℕ, zero, suc, _+_, _-_, _≤_}
 use native.Mathlib.Omega.{arith}
 use native.Mathlib.Decide.{ℕ-discrete}
 use lib.Dec.{eqb}
@@ -13,6 +13,7 @@ use borrow.Author.Tests.{eq-eqb, ne-eqb}
 use Rattle.utf8.specs.WhiteSpace.{whiteSpace}
 use Rattle.model.specs.Text.{Text, is-nil}
 use Rattle.model.specs.Trim.{matches, trim-start-pattern, trim-end-pattern}
+use Rattle.model.specs.Lists.{nil-true, nil-false}
 use Rattle.trim_text.specs.Sides.{trim-text, blank, trim-nil, PlaceTrimmed}
 
 pub matches-space : (p v : ℕ) → p ≡ 0 → matches p v ≡ whiteSpace v
@@ -23,19 +24,11 @@ pub matches-line : (p v : ℕ) → (p ≡ 0 → ⊥) → matches p v ≡ (eqb v 
 matches-line zero v e = absurd (e refl)
 matches-line (suc p) v e = refl
 
-nil-of : (l : Text) → length l ≡ 0 → is-nil l ≡ true
-nil-of [] e = refl
-nil-of (x ∷ l) e = absurd (omega arith)
-
-some-of : (l : Text) → 0 < length l → is-nil l ≡ false
-some-of [] h = absurd (omega arith)
-some-of (x ∷ l) h = refl
-
 drop-nil : (r : ℕ) (s : Text) → r ≤ length s → is-nil (drop r s) ≡ eqb r (length s)
 drop-nil r s h =
     elim (ℕ-discrete r (length s)) [
-      | yes e ↦ nil-of (drop r s) (omega (arith, length-drop r s)) ∙ sym (eq-eqb r (length s) e)
-      | no e ↦ some-of (drop r s) (omega (arith, length-drop r s)) ∙ sym (ne-eqb r (length s) e)
+      | yes e ↦ nil-true (drop r s) (omega (arith, length-drop r s)) ∙ sym (eq-eqb r (length s) e)
+      | no e ↦ nil-false (drop r s) (omega (arith, length-drop r s)) ∙ sym (ne-eqb r (length s) e)
     ]
 
 pub blank-test : (p : ℕ) (s : Text) (r : ℕ) → r ≤ length s → drop r s ≡ trim-start-pattern p s → eqb r (length s) ≡ blank p s

@@ -1,8 +1,8 @@
 -- A trim of one text, from either end, and the texts of which nothing is left: the same from both ends.
 -- Assumes nothing.
 use mathlib.Core.Path.{_≡_, refl, sym, ap, _∙_, subst}
-use mathlib.Core.Bool.{Bool, true, false, _&&_, cond}
-use mathlib.Core.List.{List, [], _∷_, _++_, reverse, reverse-cons, reverse-append, reverse-reverse, append-nil, flatten}
+use mathlib.Core.Bool.{Bool, true, false}
+use mathlib.Core.List.{List, [], _∷_, _++_, reverse, reverse-append, reverse-reverse, append-nil, flatten}
 use Prim.Native.Nat.{ℕ, zero, suc, _+_, _≤_, _<_}
 use native.Mathlib.Omega.{arith}
 use lib.ListN.{length, getD, take, drop, length-take, drop-of-length-le}
@@ -14,8 +14,10 @@ use Rattle.utf8.specs.Texts.{turn, stops, invalid-below, end-past, decode-drop}
 use Rattle.utf8.specs.Laws.{between-take}
 use Rattle.utf8.specs.CharLaws.{concat-chars, concat-append, char-at, code-at, chars-last}
 use Rattle.model.specs.Text.{Text, is-nil, all, skip-while, trim-start-matches, trim-end-matches}
-use Rattle.preservation.specs.Lists.{of-cond, all-reverse, all-skip-while}
+use Rattle.preservation.specs.Lists.{of-cond}
+pub use Rattle.model.specs.Lists.{tests-append as all-append, tests-reverse as backwards, reverse-nil}
 use Rattle.model.specs.Trim.{matches, trim-start-pattern, trim-end-pattern}
+use Rattle.model.specs.Lists.{all-reverse, all-skip-while, skip-nil, tests-reverse}
 
 -- `trim_start_pattern` (from the front) or `trim_end_pattern`
 abbrev pub trim-text : Bool → ℕ → Text → Text
@@ -31,46 +33,6 @@ pub record PlaceTrimmed (front : Bool) (p : ℕ) (l : List ℕ) (at n r k : ℕ)
   pub first : at ≤ r
   pub last : r + k ≤ at + n
   pub text : take k (drop r l) ≡ trim-text front p (take n (drop at l))
-
--- ---- elements taken off until one stays
-module _ {A : Type 0} (f : A → Bool) where
-  skip-nil : (l : List A) → is-nil (skip-while f l) ≡ all f l
-  skip-nil [] = refl
-  skip-nil (x ∷ l) = go (f x) (skip-nil l)
-    where
-      go : (b : Bool) → is-nil (skip-while f l) ≡ all f l → is-nil (cond b (skip-while f l) (x ∷ l)) ≡ (b && all f l)
-      go true h = h
-      go false h = refl
-
-  pub all-append : (l m : List A) → all f (l ++ m) ≡ (all f l && all f m)
-  all-append [] m = refl
-  all-append (x ∷ l) m = go (f x) (all-append l m)
-    where
-      go : (b : Bool) → all f (l ++ m) ≡ (all f l && all f m) → (b && all f (l ++ m)) ≡ ((b && all f l) && all f m)
-      go true h = h
-      go false h = refl
-
-  and-comm : (a b : Bool) → (a && b) ≡ (b && a)
-  and-comm true true = refl
-  and-comm true false = refl
-  and-comm false true = refl
-  and-comm false false = refl
-
-  and-true : (a : Bool) → (a && true) ≡ a
-  and-true true = refl
-  and-true false = refl
-
-  pub backwards : (l : List A) → all f (reverse l) ≡ all f l
-  backwards [] = refl
-  backwards (x ∷ l) = ap (all f) (reverse-cons x l) ∙ all-append (reverse l) (x ∷ []) ∙ rw (backwards l, and-true (f x)) (and-comm (all f l) (f x))
-
-snoc-nil : {A : Type 0} (l : List A) (x : A) → is-nil (l ++ (x ∷ [])) ≡ false
-snoc-nil [] x = refl
-snoc-nil (y ∷ l) x = refl
-
-pub reverse-nil : {A : Type 0} (l : List A) → is-nil (reverse l) ≡ is-nil l
-reverse-nil [] = refl
-reverse-nil (x ∷ l) = ap is-nil (reverse-cons x l) ∙ snoc-nil (reverse l) x
 
 -- ---- characters have bytes
 Some : List ℕ → Type 0
@@ -95,13 +57,13 @@ concat-is-nil (cons {x = a ∷ c} h k) = refl
 -- nothing is left of a blank text, from either end
 pub trim-nil : (front : Bool) (p : ℕ) (s : Text) → is-nil (trim-text front p s) ≡ blank p s
 unfolding blank trim-start-matches trim-end-matches
-trim-nil true p s = concat-is-nil (all-skip-while Some (λ c. matches p (code c)) (chars-some s)) ∙ skip-nil (λ c. matches p (code c)) (chars s)
+trim-nil true p s = concat-is-nil (all-skip-while (λ c. matches p (code c)) (chars-some s)) ∙ skip-nil (λ c. matches p (code c)) (chars s)
 trim-nil false p s =
     let f : List ℕ → Bool = λ c. matches p (code c) in
-    concat-is-nil (all-reverse Some (all-skip-while Some f (all-reverse Some (chars-some s))))
+    concat-is-nil (all-reverse (all-skip-while f (all-reverse (chars-some s))))
     ∙ reverse-nil (skip-while f (reverse (chars s)))
     ∙ skip-nil f (reverse (chars s))
-    ∙ backwards f (chars s)
+    ∙ tests-reverse f (chars s)
 
 pub blank-nil : (p : ℕ) → blank p [] ≡ true
 unfolding blank chars

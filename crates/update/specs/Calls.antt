@@ -1,13 +1,12 @@
 -- `update_with` as a call.
-use mathlib.Core.Path.{_≡_, refl, sym, ap, ap₂, _∙_, subst}
+use mathlib.Core.Path.{_≡_, refl, sym, ap, _∙_, subst}
 use mathlib.Core.Bool.{Bool, true, false, _&&_, cond}
 use mathlib.Core.List.{List, [], _∷_, _++_, map}
 use mathlib.Core.Logic.{_⊎_, inl, inr, ⊎-elim}
-use Prim.Native.Nat.{ℕ, zero, suc, _+_, _*_, _-_, _≤_, _<_}
+use Prim.Native.Nat.{ℕ, _+_, _*_, _-_, _≤_, _<_}
 use native.Mathlib.Omega.{arith}
 use lib.Dec.{ltb}
 use lib.ListN.{length, drop, take, length-append, length-drop}
-use lib.Seq.{take-at, drop-append-add}
 use borrow.Author.Tests.{le-ltb, lt-ltb}
 use Rattle.table.specs.Order.{entries, countOf}
 use Rattle.model.specs.MagicString.{MagicString, Result, ok, err, and-then, with-chunks, at-start}
@@ -18,15 +17,15 @@ use Rattle.model.specs.Call.{Edit, update-with, steps, refused-before}
 use Rattle.memory.specs.Layout.{magicStringOf}
 use Rattle.memory.specs.WellFormed.{Readable, WellFormed}
 use Rattle.memory.specs.Calls.{may-write, idle, Ran}
-use Rattle.texts.specs.Over.{over, take-over}
+use Rattle.memory.specs.Laws.{source-of}
+use Rattle.texts.specs.Over.{over, take-over, over-behind}
 use Rattle.closed_forms.specs.SplitAt.{cuts-then}
 use Rattle.rows.specs.declared.Found.the-variants.{At, Nothing}
 use Rattle.rebuild.specs.Rebuilt.{Finished}
 use Rattle.frame.specs.Front.{desk-front}
 use Rattle.frame.specs.Loaded.{Loaded}
 use Rattle.frame.specs.Frame.{Scratch, Did, loaded-readable, loaded-desk, ran-finished, ran-past-limits, may-write-0, may-write-6, may-write-7}
-use Rattle.split.specs.Lift.{source-of}
-use Rattle.split.specs.Cuts.{Spans, CutsDone, CutsLeave, loaded-spans}
+use Rattle.split.specs.Cuts.{Spans, CutsDone, CutsLeave, loaded-spans, stop}
 use Rattle.insert.specs.Calls.{past-bytes}
 use Rattle.rows.specs.Insert.{Placed}
 use Rattle.uses.specs.Kept.{Kept, kept-then}
@@ -54,20 +53,11 @@ busy : (a b : ℕ) (text : List ℕ) (o : Bool) → idle (update-with a b text o
 unfolding idle
 busy a b text o = refl
 
-stop : (r : ℕ) (m : MagicString) (g : MagicString → Result) → (r ≡ 0 → ⊥) → and-then (err r m) g ≡ err r m
-stop zero m g n = absurd (n refl)
-stop (suc r) m g n = refl
-
 -- steps that leave the scratch store as it was
 kept : {f : MagicString → Result} {source t p s t' : List ℕ} {r : ℕ} (y z : List ℕ) {s1 : List ℕ} → s1 ≡ s ++ z → Did f source t p s t' p s r → Did f source t p s t' (p ++ y) s1 r
 kept {source = source} {p = p} {s = s} {t' = t'} {r = r} y z e d =
     let g = desk-front p s y z t' (d .readable) in
     rw e (record { readable = g .0; result = d .result ∙ ap (err r) (sym (g .1 source)) })
-
-over-behind : (d y xs : List ℕ) (n : ℕ) → n ≡ length d → over (d ++ y) n xs ≡ d ++ (xs ++ drop (length xs) y)
-unfolding over
-over-behind d y xs n e =
-    rw e (ap₂ (λ (a b : List ℕ). a ++ (xs ++ b)) (take-at d y (length d) refl) (drop-append-add d y (length xs)))
 
 module _ (a b : ℕ) (text : List ℕ) (o : Bool) (n at : ℕ) (t t1 s1 : List ℕ) (r : ℕ) (c : CutsDone (a ∷ b ∷ []) t t1 r) where
   pub update-refused : (r ≡ 0 → ⊥) → UpdateSteps a b text o n at t s1 t1 s1 r

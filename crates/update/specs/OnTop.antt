@@ -1,22 +1,23 @@
 -- `update_with` on the lent tables themselves: the cuts and clears of their rows, and the replacement above all texts in use.
-use mathlib.Core.Path.{_≡_, refl, sym, ap, ap₂, _∙_, subst}
+use mathlib.Core.Path.{_≡_, sym, ap, ap₂, _∙_, subst}
 use mathlib.Core.Bool.{Bool, true}
 use mathlib.Core.List.{List, [], _++_}
 use Prim.Native.Nat.{ℕ, _+_, _*_, _≤_, _<_}
 use native.Mathlib.Omega.{arith}
-use lib.Dec.{leb, eqb}
-use lib.ListN.{length, take, drop, length-take, length-map, take-append-drop}
+use lib.Dec.{eqb}
+use lib.ListN.{length, take, drop, length-take, take-append-drop}
 use lib.Seq.{length-take-le}
 use borrow.Author.Tests.{le-leb}
 use Rattle.table.specs.Order.{entries, countOf}
 use Rattle.model.specs.MagicString.{MagicString}
 use Rattle.model.specs.Limits.{full, within, piece-count, byte-count, replacement-bytes}
 use Rattle.model.specs.Call.{update-with, refused-before}
-use Rattle.memory.specs.Layout.{NONE, Place, replacementOf, chunkOf, magicStringOf}
+use Rattle.memory.specs.Layout.{NONE, Place, replacementOf, magicStringOf}
 use Rattle.memory.specs.WellFormed.{Readable, WellFormed, Disjoint, among, runUses, replacementUses}
 use Rattle.memory.specs.Calls.{Ran}
-use Rattle.rows.specs.Split.{count-entries}
+use Rattle.memory.specs.Laws.{chunk-count}
 use Rattle.uses.specs.Counted.{nothing, counts-rows, counts-store, sum-lists}
+use Rattle.uses.specs.Kept.{own-lists}
 use Rattle.closed_forms.specs.Spans.{Cover}
 use Rattle.frame.specs.Front.{bool-elim, desk-front}
 use Rattle.frame.specs.Frame.{Did}
@@ -26,7 +27,8 @@ use Rattle.on_top.specs.declared.Used.{Used}
 use Rattle.on_top.specs.Live.{LiveOf, Room, read-below}
 use Rattle.on_top.specs.Apart.{rowUses, storeUses, apart-after, store-uses-front}
 use Rattle.update_rows.specs.Steps.{update-past, update-is}
-use Rattle.update_rows.specs.Replaced.{Replaced, own-lists, replaced-pieces, replaced-bytes}
+use Rattle.update_rows.specs.Replaced.{Replaced, replaced-pieces, replaced-bytes}
+use Rattle.insert.specs.TopCalls.{no-source}
 use Rattle.update.specs.Calls.{UpdateSteps}
 
 -- ── rows and bytes stay apart ──
@@ -45,7 +47,7 @@ module _ (t t' P S : List ℕ) (row byte n : ℕ) (h : Readable t (take (row * 2
   rows j =
       omega (
         arith,
-        own-lists k (λ r. among r j),
+        own-lists t t' (k .desk) (λ r. among r j),
         sum-lists (λ r. among r j) (entries t),
         sum-lists (λ r. among r j) (entries t'),
         k .less (λ r. among r j) nothing (counts-rows j),
@@ -55,7 +57,7 @@ module _ (t t' P S : List ℕ) (row byte n : ℕ) (h : Readable t (take (row * 2
   bytes b =
       omega (
         arith,
-        own-lists k (runUses (p ++ y) b),
+        own-lists t t' (k .desk) (runUses (p ++ y) b),
         k .less (runUses (p ++ y) b) (replacementUses b) (counts-store (p ++ y) b),
         text-uses b (byte, n),
         store-uses-front p (take byte S) y b t h,
@@ -72,19 +74,11 @@ text-few : (s : List ℕ) (x : Place) → replacement-bytes (replacementOf s x) 
 unfolding replacementOf
 text-few s x = bool-elim (eqb (x .0) NONE) (λ e. rw e (omega arith)) (λ e. rw e (simp length-take (omega arith)))
 
-chunk-count : (t p s : List ℕ) → length (magicStringOf [] t p s .chunks) ≡ countOf t
-unfolding magicStringOf
-chunk-count t p s = length-map (entries t) (chunkOf p s) ∙ count-entries t
-
-no-source : (t p s : List ℕ) → leb (length (magicStringOf [] t p s .source)) 16384 ≡ true
-unfolding magicStringOf
-no-source t p s = refl
-
 within-few : (t p s : List ℕ) → countOf t ≤ 512 → piece-count (magicStringOf [] t p s) ≤ 1024 → byte-count (magicStringOf [] t p s) ≤ 32768 → within full (magicStringOf [] t p s) ≡ true
 unfolding within
 within-few t p s c a b =
     let m = magicStringOf [] t p s in
-    rw (no-source t p s, le-leb (length (m .chunks)) 512 (omega (arith, chunk-count t p s)), le-leb (piece-count m) 1024 a, le-leb (byte-count m) 32768 b)
+    rw (no-source t p s, le-leb (length (m .chunks)) 512 (omega (arith, chunk-count [] t p s)), le-leb (piece-count m) 1024 a, le-leb (byte-count m) 32768 b)
 
 module _ (t t' P S S' : List ℕ) (l : Used) (n m : ℕ) (lv : LiveOf t P S l) (rm : Room l m n) (k : Replaced t t' (l .byte, n)) (same : take (l .byte) S' ≡ take (l .byte) S) where
   -- the desk before, with the store after

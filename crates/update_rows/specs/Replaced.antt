@@ -7,18 +7,18 @@ use native.Mathlib.Omega.{arith}
 use lib.Dec.{eqb}
 use lib.ListN.{length}
 use Rattle.table.specs.Table.{rowAt}
-use Rattle.table.specs.Order.{Entry, entryOf, entryAt, entries, order, countOf, Linked}
+use Rattle.table.specs.Order.{Entry, entryOf, entryAt, entries, order, countOf, Linked, order-length}
 use Rattle.model.specs.Text.{sum}
 use Rattle.model.specs.Limits.{piece-count, byte-count, replacement-bytes}
+use Rattle.model.specs.Lists.{sum-append}
 use Rattle.memory.specs.Layout.{Place, runOf, replacementOf, magicStringOf}
 use Rattle.memory.specs.WellFormed.{times, HoldsEach}
 use Rattle.rows.specs.declared.Found.{Found}
 use Rattle.rows.specs.Insert.{Placed, runsOf}
 use Rattle.rows.specs.Split.{RowSet, row-set, entries-at}
-use Rattle.closed_forms.specs.Lists.{sum-append}
-use Rattle.uses.specs.Counted.{countIn, Counts, nothing, counts-pieces, counts-bytes, sum-pieces, sum-bytes}
-use Rattle.uses.specs.Kept.{Kept}
-use Rattle.update_rows.specs.Walk.{onto, emptied, runs, walkFrom, Walked, order-length}
+use Rattle.uses.specs.Counted.{countIn, Counts, nothing, counts-pieces, counts-bytes, sum-bytes}
+use Rattle.uses.specs.Kept.{Kept, own-lists, less-pieces}
+use Rattle.update_rows.specs.Walk.{onto, emptied, runs, walkFrom, Walked}
 use Rattle.update_rows.specs.Steps.{editedEntry, FirstEdited}
 
 -- as `Kept`, with a replacement more, at the place x
@@ -106,18 +106,12 @@ module _ {o : Bool} {at : ℕ} {text t s t' s' : List ℕ} {i : ℕ} (w : Placed
 
 -- ── what the desk has ──
 module _ {t t' : List ℕ} {x : Place} (k : Replaced t t' x) where
-  pub own-lists : (f : Place → ℕ) → f (entryAt t' 0 .intro) + f (entryAt t' 0 .outro) ≡ f (entryAt t 0 .intro) + f (entryAt t 0 .outro)
-  own-lists f = ap (λ (y : Place × Place). f (y .0) + f (y .1)) (k .desk)
-
   pub replaced-pieces : (p s : List ℕ) → piece-count (magicStringOf [] t' p s) ≤ piece-count (magicStringOf [] t p s)
-  unfolding magicStringOf
-  replaced-pieces p s =
-      let f : Place → ℕ = λ r. length (runOf p s r) in
-      omega (arith, own-lists f, sum-pieces p s (entries t), sum-pieces p s (entries t'), k .less f nothing (counts-pieces p s))
+  replaced-pieces p s = less-pieces t t' (k .desk) p s (omega (arith, k .less (λ r. length (runOf p s r)) nothing (counts-pieces p s)))
 
   pub replaced-bytes : (p s : List ℕ) → byte-count (magicStringOf [] t' p s) ≤ byte-count (magicStringOf [] t p s) + replacement-bytes (replacementOf s x)
   unfolding magicStringOf
   replaced-bytes p s =
       let f : Place → ℕ = λ r. sum length (runOf p s r) in
       let g : Place → ℕ = λ r. replacement-bytes (replacementOf s r) in
-      omega (arith, own-lists f, sum-bytes p s (entries t), sum-bytes p s (entries t'), k .less f g (counts-bytes p s))
+      omega (arith, own-lists t t' (k .desk) f, sum-bytes p s (entries t), sum-bytes p s (entries t'), k .less f g (counts-bytes p s))

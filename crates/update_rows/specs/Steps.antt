@@ -1,14 +1,14 @@
 -- `update_with` past its tests: two cuts, 10, the walk, and the edit of the first chunk.
 use mathlib.Core.Path.{_≡_, refl, sym, ap, ap₂, _∙_, subst}
 use mathlib.Core.Bool.{Bool, true, false, _&&_, cond}
-use mathlib.Core.List.{List, [], _∷_, _++_, map, append-assoc}
+use mathlib.Core.List.{List, [], _∷_, _++_, map, append-assoc, map-append}
 use mathlib.Core.Option.{Option, none, some}
 use mathlib.Core.Logic.{_⊎_, inl, inr, ⊎-elim}
 use Prim.Native.Nat.{ℕ, zero, suc, _+_, _*_, _-_, _≤_, _<_}
 use native.Mathlib.Omega.{arith}
 use lib.Dec.{ltb, eqb}
-use lib.ListN.{length, take, drop, length-append}
-use lib.Seq.{take-at, drop-at, drop-append-add}
+use lib.ListN.{length, take, length-append}
+use lib.Seq.{take-at, drop-at}
 use borrow.Author.Tests.{eq-eqb, ne-eqb, le-ltb, lt-ltb}
 use Rattle.utf8.specs.Chars.{All, nil, cons}
 use Rattle.utf8.specs.CharLaws.{all-front, all-back}
@@ -23,12 +23,14 @@ use Rattle.model.specs.Limits.{full, within, chunk-bytes, byte-count}
 use Rattle.model.specs.Update.{Walk, clear-run, update-walk, update-chunks}
 use Rattle.model.specs.Update as update-rs
 use Rattle.model.specs.Call.{Edit, update-with, steps, refused-before}
+use Rattle.model.specs.Lists.{sum-append, first-of, rest-of, all-append, same-around}
 use Rattle.memory.specs.Layout.{NONE, Place, bytesAt, runOf, replacementOf, chunkOf, magicStringOf}
 use Rattle.memory.specs.WellFormed.{RunIn, ReplacementIn, EntryIn, Readable, WellFormed}
 use Rattle.memory.specs.Calls.{may-write, idle, Ran}
+use Rattle.memory.specs.Laws.{chunks-of, source-of, no-run, no-run-in}
 use Rattle.texts.specs.Over.{over}
-use Rattle.closed_forms.specs.Lists.{sum-append}
 use Rattle.closed_forms.specs.SplitAt.{cuts-then}
+use Rattle.closed_forms.specs.Found.{start-set}
 use Rattle.rows.specs.declared.Found.the-variants.{At, Nothing}
 use Rattle.rows.specs.declared.Key.the-variants.{Start}
 use Rattle.rows.specs.Find.{meets, First}
@@ -38,7 +40,7 @@ use Rattle.rebuild.specs.Rebuilt.{Finished}
 use Rattle.frame.specs.Front.{bool-elim, desk-same, run-in-front, run-front, text-in-front, text-front, entries-front, chunks-front, desk-front}
 use Rattle.frame.specs.Loaded.{Loaded}
 use Rattle.frame.specs.Frame.{Scratch, Did, loaded-readable, loaded-desk, ran-finished, ran-past-limits, may-write-0, may-write-6, may-write-7}
-use Rattle.split.specs.Lift.{all-first, all-rest, all-append, map-append, Reordered, still-readable, with-entries, chunks-of, source-of, no-run, no-run-in}
+use Rattle.split.specs.Lift.{Reordered, still-readable, with-entries}
 use Rattle.split.specs.Cuts.{Spans, CutsDone, CutsLeave, loaded-spans}
 use Rattle.update_rows.specs.Walk.{RunWalk, onto, emptied, runs, walkFrom, Walked}
 
@@ -144,11 +146,6 @@ pub record FirstEdited (o : Bool) (at : ℕ) (text t s t' s' : List ℕ) (i : �
   pub put : Put t t' i row
   pub store : s' ≡ over s at text
 
-over-behind : (d y xs : List ℕ) (n : ℕ) → n ≡ length d → over (d ++ y) n xs ≡ d ++ (xs ++ drop (length xs) y)
-unfolding over
-over-behind d y xs n e =
-    rw e (ap₂ (λ (a b : List ℕ). a ++ (xs ++ b)) (take-at d y (length d) refl) (drop-append-add d y (length xs)))
-
 behind-is : (at : ℕ) (s text z : List ℕ) → at ≤ 32768 → length s ≡ at → replacementOf (s ++ (text ++ z)) (at, length text) ≡ some text
 unfolding replacementOf
 behind-is at s text z few h = rw (ne-eqb at NONE (λ e. omega arith)) (ap some (ap (take (length text)) (drop-at s (text ++ z) at h) ∙ take-at text z (length text) refl))
@@ -175,11 +172,6 @@ module _ (o : Bool) (at : ℕ) (text p s y z : List ℕ) (few : at ≤ 32768) (l
             runs = record { intro = run-in-front p s y (text ++ z) (e .intro) (h .runs .intro); outro = run-in-front p s y (text ++ z) (e .outro) (h .runs .outro) };
             replacement = λ n. fits;
           }
-
-start-set : (q : ℕ) {xs : List Chunk} (f : Texts → Texts) (c : Chunk) (ys : List Chunk) → All (λ d. eqb (start-of d) q ≡ false) xs → eqb (start-of c) q ≡ true
-    → at-start q f (xs ++ c ∷ ys) ≡ xs ++ with-texts f c ∷ ys
-start-set q f c ys nil h = rw h
-start-set q f c ys (cons {x = d} n ns) h = rw n (ap (λ (l : List Chunk). d ∷ l) (start-set q f c ys ns h))
 
 none-start : (p s : List ℕ) (q : ℕ) (t xs : List ℕ) → Each (λ x. meets Start q (entryAt t x) ≡ false) xs → All (λ d. eqb (start-of d) q ≡ false) (map (chunkOf p s) (map (entryAt t) xs))
 none-start p s q t [] h = nil
@@ -213,7 +205,7 @@ module _ (a : ℕ) (o : Bool) (at : ℕ) (text p s y z t t' : List ℕ) (i : ℕ
             };
         chunks =
             subst (All (EntryIn (p ++ y) (s ++ (text ++ z)))) (sym list)
-            (all-append (entries-front p s y (text ++ z) front-in) (cons (edit-in o at text p s y z few ls (entryAt t i) (all-first mid)) (entries-front p s y (text ++ z) (all-rest mid))));
+            (all-append (entries-front p s y (text ++ z) front-in) (cons (edit-in o at text p s y z few ls (entryAt t i) (first-of mid)) (entries-front p s y (text ++ z) (rest-of mid))));
       }
 
   pub edit-desk : (source : List ℕ) → magicStringOf source t' (p ++ y) (s ++ (text ++ z))
@@ -224,12 +216,9 @@ module _ (a : ℕ) (o : Bool) (at : ℕ) (text p s y z t t' : List ℕ) (i : ℕ
       (ap (λ (x : (ℕ × ℕ) × (ℕ × ℕ)). runOf (p ++ y) (s ++ (text ++ z)) (x .1)) (set .desk) ∙ run-front p s y (text ++ z) _ (h .desk .outro))
       (ap (map (chunkOf (p ++ y) (s ++ (text ++ z)))) list
       ∙ map-append (chunkOf (p ++ y) (s ++ (text ++ z))) (map (entryAt t) (w .us)) (editedEntry o at (length text) (entryAt t i) ∷ map (entryAt t) (w .bs))
-      ∙ three (chunks-front p s y (text ++ z) front-in) (lift-edit o at text p s y z few ls (entryAt t i) (all-first mid)) (chunks-front p s y (text ++ z) (all-rest mid))
+      ∙ same-around (chunks-front p s y (text ++ z) front-in) (lift-edit o at text p s y z few ls (entryAt t i) (first-of mid)) (chunks-front p s y (text ++ z) (rest-of mid))
       ∙ sym (start-set a (edit text o) (chunkOf p s (entryAt t i)) (map (chunkOf p s) (map (entryAt t) (w .bs))) (none-start p s a t (w .us) (w .none)) (w .here))
       ∙ ap (at-start a (edit text o)) (sym (ap (map (chunkOf p s)) (entries-at t (w .us) i (w .bs) (w .place)) ∙ map-append (chunkOf p s) (map (entryAt t) (w .us)) (entryAt t i ∷ map (entryAt t) (w .bs)))))
-    where
-      three : {xs xs' : List Chunk} {c c' : Chunk} {ys ys' : List Chunk} → xs ≡ xs' → c ≡ c' → ys ≡ ys' → xs ++ c ∷ ys ≡ xs' ++ c' ∷ ys'
-      three a b c = cc
 
 -- ── a text longer than the store ──
 edit-big : (t : Text) (o : Bool) (c : Chunk) → length t ≤ chunk-bytes (with-texts (edit t o) c)

@@ -9,9 +9,9 @@ use lib.Dec.{eqb}
 use lib.ListN.{length, length-append, length-map}
 use borrow.Author.Tests.{eq-eqb, ne-eqb}
 use Rattle.table.specs.declared.Row.{Row}
-use Rattle.table.specs.Ring.{Each, each-map, each-right, Not, Edge, Links, links-right, length-follow}
+use Rattle.table.specs.Ring.{Each, each-map, each-right, Not, Edge, Links, links-right}
 use Rattle.table.specs.Table.{rowAt, Put}
-use Rattle.table.specs.Order.{Entry, entryOf, entryAt, entries, order, nextOf, prevOf, countOf, Linked, put-keep, inside-at, others}
+use Rattle.table.specs.Order.{Entry, entryOf, entryAt, entries, order, nextOf, prevOf, countOf, Linked, put-keep, inside-at, others, order-length}
 use Rattle.rows.specs.declared.Found.{Found}
 use Rattle.rows.specs.declared.Found.the-variants.{At, Nothing}
 use Rattle.rows.specs.declared.Key.the-variants.{Start}
@@ -84,10 +84,6 @@ pub record Running (t₀ t : List ℕ) (cur at end k : ℕ) (goal : List Entry) 
 
 abbrev pub goalOf : List ℕ → ℕ → ℕ → List ℕ → List ℕ → List Entry
 goalOf t i end us bs = map (entryAt t) us ++ entryAt t i ∷ runs (entryAt t i .end) end (map (entryAt t) bs) .list
-
-pub order-length : (t : List ℕ) → length (order t) ≡ countOf t
-unfolding order
-order-length t = length-follow (nextOf t) (countOf t) (nextOf t 0)
 
 pub running-start : (t : List ℕ) (i end : ℕ) → Linked t → (w : Placed t i)
     → Running t t i (entryAt t i .end) end 0 (goalOf t i end (w .us) (w .bs)) (runs (entryAt t i .end) end (map (entryAt t) (w .bs)) .done)

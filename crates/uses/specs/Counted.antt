@@ -5,15 +5,14 @@ use mathlib.Core.List.{List, [], _∷_, map}
 use mathlib.Core.Option.{none, some}
 use Prim.Native.Nat.{ℕ, _+_}
 use native.Mathlib.Omega.{arith}
-use native.Mathlib.Decide.{decLe}
 use lib.Dec.{eqb}
 use lib.ListN.{length}
-use borrow.Author.Tests.{le-leb, lt-leb, le-ltb}
 use Rattle.table.specs.Order.{Entry}
 use Rattle.model.specs.Text.{sum}
 use Rattle.model.specs.Limits.{chunk-pieces, chunk-bytes, replacement-bytes}
 use Rattle.memory.specs.Layout.{NONE, Place, runOf, replacementOf, chunkOf}
 use Rattle.memory.specs.WellFormed.{among, runUses, replacementUses}
+use Rattle.memory.specs.Laws.{among-none}
 
 -- f for the two piece lists of a row, g for its replacement
 abbrev pub countIn : (Place → ℕ) → (Place → ℕ) → Entry → ℕ
@@ -26,14 +25,6 @@ pub record Counts (f g : Place → ℕ) : Type 0 where
 
 abbrev pub nothing : Place → ℕ
 nothing r = 0
-
-among-none : (a j : ℕ) → among (a, 0) j ≡ 0
-unfolding among
-among-none a j =
-    elim (decLe a j) [
-      | yes h ↦ rw (le-leb a j h, le-ltb j (a + 0) (omega arith))
-      | no h ↦ rw (lt-leb a j (omega arith))
-    ]
 
 -- ── the four counts ──
 pub counts-rows : (j : ℕ) → Counts (λ r. among r j) nothing

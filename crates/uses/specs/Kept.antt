@@ -1,6 +1,6 @@
 -- What a change of chunk rows alone keeps of a well-formed desk: every row stands in the list once, and no count of pieces or bytes grows.
 use mathlib.Core.Path.{_≡_, refl, ap, _∙_}
-use mathlib.Core.Bool.{Bool, true, false, _&&_}
+use mathlib.Core.Bool.{true}
 use mathlib.Core.List.{List, []}
 use Prim.Native.Nat.{ℕ, _+_, _≤_}
 use native.Mathlib.Omega.{arith}
@@ -8,13 +8,13 @@ use lib.Dec.{leb}
 use lib.ListN.{length, length-map}
 use borrow.Author.Tests.{leb-true, le-leb}
 use Rattle.table.specs.Table.{rowAt}
-use Rattle.table.specs.Order.{entryAt, entries, countOf}
+use Rattle.table.specs.Order.{entryAt, entries, countOf, count-entries}
 use Rattle.model.specs.Text.{sum}
 use Rattle.model.specs.Limits.{full, within, piece-count, byte-count, replacement-bytes}
+use Rattle.model.specs.Lists.{and-left, and-right}
 use Rattle.memory.specs.Layout.{Place, runOf, replacementOf, chunkOf, magicStringOf}
 use Rattle.memory.specs.WellFormed.{HoldsEach, Disjoint, among, runUses, replacementUses}
 use Rattle.rows.specs.Insert.{runsOf}
-use Rattle.rows.specs.Split.{count-entries}
 use Rattle.uses.specs.Counted.{countIn, Counts, nothing, counts-rows, counts-store, counts-pieces, counts-bytes, sum-lists, sum-pieces, sum-bytes}
 
 pub record Kept (t t' : List ℕ) : Type 0 where
@@ -28,10 +28,17 @@ kept-same t = record { each = λ h. h; desk = refl; less = λ f g c. omega arith
 pub kept-then : {t t1 t2 : List ℕ} → Kept t t1 → Kept t1 t2 → Kept t t2
 kept-then a b = record { each = λ h. b .each (a .each h); desk = b .desk ∙ a .desk; less = λ f g c. omega (arith, a .less f g c, b .less f g c) }
 
-module _ {t t' : List ℕ} (k : Kept t t') where
-  own-lists : (f : Place → ℕ) → f (entryAt t' 0 .intro) + f (entryAt t' 0 .outro) ≡ f (entryAt t 0 .intro) + f (entryAt t 0 .outro)
-  own-lists f = ap (λ (x : Place × Place). f (x .0) + f (x .1)) (k .desk)
+-- where the desk's own runs stay
+module _ (t t' : List ℕ) (d : runsOf (rowAt t' 0) ≡ runsOf (rowAt t 0)) where
+  pub own-lists : (f : Place → ℕ) → f (entryAt t' 0 .intro) + f (entryAt t' 0 .outro) ≡ f (entryAt t 0 .intro) + f (entryAt t 0 .outro)
+  own-lists f = ap (λ (x : Place × Place). f (x .0) + f (x .1)) d
 
+  pub less-pieces : (p s : List ℕ) → sum (countIn (λ r. length (runOf p s r)) nothing) (entries t') ≤ sum (countIn (λ r. length (runOf p s r)) nothing) (entries t)
+      → piece-count (magicStringOf [] t' p s) ≤ piece-count (magicStringOf [] t p s)
+  unfolding magicStringOf
+  less-pieces p s h = omega (arith, own-lists (λ r. length (runOf p s r)), sum-pieces p s (entries t), sum-pieces p s (entries t'))
+
+module _ {t t' : List ℕ} (k : Kept t t') where
   -- "no piece stands in two lists or twice in one .. and no store byte belongs to two texts"
   pub kept-apart : (p : List ℕ) → Disjoint t p → Disjoint t' p
   kept-apart p d =
@@ -40,26 +47,23 @@ module _ {t t' : List ℕ} (k : Kept t t') where
             omega (
               arith,
               d .pieces j,
-              own-lists (λ r. among r j),
+              own-lists t t' (k .desk) (λ r. among r j),
               sum-lists (λ r. among r j) (entries t),
               sum-lists (λ r. among r j) (entries t'),
               k .less (λ r. among r j) nothing (counts-rows j),
             );
-        bytes = λ b. omega (arith, d .bytes b, own-lists (runUses p b), k .less (runUses p b) (replacementUses b) (counts-store p b));
+        bytes = λ b. omega (arith, d .bytes b, own-lists t t' (k .desk) (runUses p b), k .less (runUses p b) (replacementUses b) (counts-store p b));
       }
 
   pub fewer-pieces : (p s : List ℕ) → piece-count (magicStringOf [] t' p s) ≤ piece-count (magicStringOf [] t p s)
-  unfolding magicStringOf
-  fewer-pieces p s =
-      let f : Place → ℕ = λ r. length (runOf p s r) in
-      omega (arith, own-lists f, sum-pieces p s (entries t), sum-pieces p s (entries t'), k .less f nothing (counts-pieces p s))
+  fewer-pieces p s = less-pieces t t' (k .desk) p s (k .less (λ r. length (runOf p s r)) nothing (counts-pieces p s))
 
   pub fewer-bytes : (p s : List ℕ) → byte-count (magicStringOf [] t' p s) ≤ byte-count (magicStringOf [] t p s)
   unfolding magicStringOf
   fewer-bytes p s =
       let f : Place → ℕ = λ r. sum length (runOf p s r) in
       let g : Place → ℕ = λ r. replacement-bytes (replacementOf s r) in
-      omega (arith, own-lists f, sum-bytes p s (entries t), sum-bytes p s (entries t'), k .less f g (counts-bytes p s))
+      omega (arith, own-lists t t' (k .desk) f, sum-bytes p s (entries t), sum-bytes p s (entries t'), k .less f g (counts-bytes p s))
 
   -- so the limits are kept where the chunks are few enough
   pub kept-within : (source p s : List ℕ) → within full (magicStringOf source t p s) ≡ true → countOf t' ≤ 512 → within full (magicStringOf [] t' p s) ≡ true
@@ -75,11 +79,3 @@ module _ {t t' : List ℕ} (k : Kept t t') where
         le-leb (piece-count n) 1024 (omega (arith, a, fewer-pieces p s)),
         le-leb (byte-count n) 32768 (omega (arith, b, fewer-bytes p s)),
       )
-    where
-      and-left : (x y : Bool) → x && y ≡ true → x ≡ true
-      and-left true y e = refl
-      and-left false y e = e
-
-      and-right : (x y : Bool) → x && y ≡ true → y ≡ true
-      and-right true y e = e
-      and-right false y e = let z : _≡_ {A = ℕ} 0 1 = cc in absurd (omega arith)

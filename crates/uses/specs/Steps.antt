@@ -1,5 +1,5 @@
 -- A cut, a clear and a move of rows keep what `Kept` says.
-use mathlib.Core.Path.{_≡_, refl, sym, ap, ap₂, _∙_, fun-ext}
+use mathlib.Core.Path.{_≡_, sym, ap, ap₂, _∙_, fun-ext}
 use mathlib.Core.Bool.{Bool, true, false, _&&_, cond}
 use mathlib.Core.List.{List, [], _∷_, _++_, map}
 use mathlib.Core.Logic.{_⊎_, inl, inr}
@@ -8,21 +8,19 @@ use native.Mathlib.Omega.{arith}
 use native.Mathlib.Decide.{ℕ-discrete}
 use lib.Dec.{leb, ltb, eqb}
 use borrow.Author.Tests.{eq-eqb, ne-eqb}
-use Rattle.table.specs.Ring.{Each, each-map, Not}
+use Rattle.table.specs.Ring.{each-map, Not}
 use Rattle.table.specs.Order.{Entry, entryOf, entryAt, entries, order, countOf, Linked}
 use Rattle.model.specs.Text.{sum}
+use Rattle.model.specs.Lists.{sum-append, sum-map}
 use Rattle.memory.specs.Layout.{NONE, Place}
 use Rattle.memory.specs.WellFormed.{times}
+use Rattle.memory.specs.Laws.{times-none}
 use Rattle.rows.specs.Insert.{Placed, runsOf, startF}
 use Rattle.rows.specs.Split.{first, second, SplitRow, entries-at}
 use Rattle.rows.specs.Clear.{clearIn, ClearDone}
 use Rattle.rows.specs.Move.{Parts, swapped, MoveAt, MoveDone}
 use Rattle.uses.specs.Counted.{countIn, Counts}
 use Rattle.uses.specs.Kept.{Kept}
-
-sum-append : {A : Type 0} (w : A → ℕ) (xs ys : List A) → sum w (xs ++ ys) ≡ sum w xs + sum w ys
-sum-append w [] ys = omega arith
-sum-append w (x ∷ xs) ys = omega (arith, sum-append w xs ys)
 
 -- ── a cut ──
 -- how often i stands where x is added
@@ -31,11 +29,6 @@ unfolding times
 times-more i us a x bs =
     let w : ℕ → ℕ = λ y. cond (eqb y i) 1 0 in
     omega (arith, sum-append w us (a ∷ x ∷ bs), sum-append w us (a ∷ bs))
-
-times-none : (i : ℕ) (xs : List ℕ) → Each (Not i) xs → times i xs ≡ 0
-unfolding times
-times-none i [] h = refl
-times-none i (x ∷ xs) h = rw (ne-eqb x i (h .0)) (omega (arith, times-none i xs (h .1)))
 
 -- a cut chunk has no replacement, or an empty one
 abbrev pub Unfilled : Entry → Type 0
@@ -112,10 +105,6 @@ sum-swap w us xs bs ys =
 -- a sum over the moved list
 sum-moved : (w : ℕ → ℕ) (t : List ℕ) (s : Parts t) → sum w (swapped s) ≡ sum w (order t)
 sum-moved w t s = sum-swap w (s .us) (s .a ∷ s .ws) (s .b ∷ s .bs) (s .ys) ∙ ap (sum w) (sym (s .place))
-
-sum-map : (f : ℕ → Entry) (w : Entry → ℕ) (xs : List ℕ) → sum w (map f xs) ≡ sum (λ x. w (f x)) xs
-sum-map f w [] = refl
-sum-map f w (x ∷ xs) = ap (λ (n : ℕ). w (f x) + n) (sum-map f w xs)
 
 pub move-kept : (t t' : List ℕ) (f l n : ℕ) → MoveAt t f l n → MoveDone t t' f l n → Kept t t'
 unfolding times

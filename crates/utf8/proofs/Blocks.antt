@@ -6,7 +6,7 @@ use Prim.Native.Nat.{ℕ, zero, suc, _+_, _-_, _<_, _≤_}
 use native.Mathlib.Omega.{arith}
 use native.Mathlib.Decide.{decLt}
 use native.Mathlib.Nat.{add-zero}
-use lib.Bits.{bitOr, or-add-and, and-le-l, and-le-r}
+use lib.Bits.{bitOr}
 use lib.ListN.{length, getD, drop}
 use mathlib.Core.Bool.{false}
 use Rattle.utf8.specs.Rfc3629.{decodeAt, utf8, widthOf}
@@ -15,13 +15,7 @@ use Rattle.utf8.specs.declared.Decoded.{Decoded}
 use Rattle.utf8.specs.declared.Decoded.the-variants.{Char, Invalid, End}
 use Rattle.utf8.specs.Sequences.{at-start, seq-1}
 use Rattle.utf8.specs.Texts.{turn, stops, end-past}
-
--- joining bits makes no number smaller
-pub or-left : (a b : ℕ) → a ≤ bitOr a b
-or-left a b = omega (arith, or-add-and a b, and-le-r a b)
-
-pub or-right : (a b : ℕ) → b ≤ bitOr a b
-or-right a b = omega (arith, or-add-and a b, and-le-l a b)
+use Rattle.utf8.specs.Laws.{or-left, or-right}
 
 pub or-more : (s : List ℕ) (i j x : ℕ) → ((k : ℕ) → k < j → getD s (i + k) 0 ≤ x) → (k : ℕ) → k < j + 1 → getD s (i + k) 0 ≤ bitOr x (getD s (i + j) 0)
 or-more s i j x h k l =

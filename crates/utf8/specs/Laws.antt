@@ -7,6 +7,7 @@ use Prim.Native.Nat.{ℕ, suc, _+_, _-_, _<_, _≤_}
 use native.Mathlib.Omega.{arith}
 use lib.ListN.{length, getD, take, drop, take-append-drop}
 use lib.Seq.{take-add}
+use lib.Bits.{bitOr, or-add-and, and-le-l, and-le-r}
 use Rattle.utf8.specs.Rfc3629.{utf8, between}
 use Rattle.utf8.specs.Encode.{Text, none, more, encode}
 use Rattle.utf8.specs.Chars.{All, nil, cons}
@@ -53,3 +54,10 @@ ascii-utf8 (a ∷ s) (cons h k) = utf8-byte a s h ∙ ascii-utf8 s k
 pub ascii-each : (s : List ℕ) → ((k : ℕ) → k < length s → getD s k 0 < 0x80) → utf8 s ≡ true
 ascii-each [] h = utf8-nil
 ascii-each (a ∷ s) h = utf8-byte a s (h 0 (omega arith)) ∙ ascii-each s (λ k l. h (suc k) (omega arith))
+
+-- ---- joining bits makes no number smaller
+pub or-left : (a b : ℕ) → a ≤ bitOr a b
+or-left a b = omega (arith, or-add-and a b, and-le-r a b)
+
+pub or-right : (a b : ℕ) → b ≤ bitOr a b
+or-right a b = omega (arith, or-add-and a b, and-le-l a b)

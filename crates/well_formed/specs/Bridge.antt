@@ -1,6 +1,6 @@
 -- The facts by row number are exactly `WellFormed`, which speaks of the list order and of the desk: `rows-formed` and `formed-rows`.
 use mathlib.Core.Path.{_≡_, refl, ap, sym, subst, _∙_}
-use mathlib.Core.Bool.{Bool, true, false, _&&_}
+use mathlib.Core.Bool.{true}
 use mathlib.Core.List.{List, [], _∷_, map}
 use Prim.Native.Nat.{ℕ, _+_, _≤_}
 use native.Mathlib.Omega.{arith}
@@ -13,22 +13,23 @@ use Rattle.utf8.specs.Texts.{utf8-nil}
 use Rattle.utf8.specs.Boundaries.{between-past}
 use Rattle.utf8.specs.Chars.{All}
 use Rattle.table.specs.Ring.{Each}
-use Rattle.table.specs.Order.{Entry, entryAt, order, countOf, Linked}
+use Rattle.table.specs.Order.{Entry, entryAt, order, countOf, Linked, order-length}
 use Rattle.model.specs.Text.{sum}
 use Rattle.model.specs.Chunk.{Chunk, Span}
 use Rattle.model.specs.Limits.{full, within, chunk-pieces, piece-count, byte-count}
 use Rattle.model.specs.WellFormed.{Valid, ValidReplacement, ValidTexts, covers, Tiled, Covered, Formed}
+use Rattle.model.specs.Lists.{both, and-left, and-right}
 use Rattle.memory.specs.Layout.{NONE, Place, bytesAt, pieceAt, runOf, replacementOf, textsOf, chunkOf, magicStringOf}
 use Rattle.memory.specs.WellFormed.{RunIn, ReplacementIn, RunsIn, EntryIn, Readable, pieceUses, byteUses, Disjoint, WellFormed}
+use Rattle.memory.specs.Laws.{all-tabulate, tabulate-all, length-tabulate}
 use Rattle.counts.specs.Counts.{sum-to, indicator}
-use Rattle.counts.specs.Sums.{sum-same, not-both}
-use Rattle.counts.specs.Lists.{all-tabulate, tabulate-all, length-tabulate}
+use Rattle.counts.specs.Sums.{sum-same}
 use Rattle.counts.specs.Once.{In, linked-once}
 use Rattle.spans.specs.Spans.{startsOf, endsOf, Empty, Spans, Edges}
 use Rattle.spans.specs.Spans as spans
 use Rattle.marks.specs.Marks.{RowsIn, BothIn, RunsApart, pieceCount, pieceTotal, RunTexts, BothTexts, ReplacementText, EntryTexts, TextsApart}
 use Rattle.well_formed.specs.Rows.{Chunked, ByRows}
-use Rattle.well_formed.specs.Chunks.{chunksOf, length-order, sum-entries, all-entries, entries-all, sum-chunks, all-chunks, chunks-all, length-chunks}
+use Rattle.well_formed.specs.Chunks.{chunksOf, sum-entries, all-entries, entries-all, sum-chunks, all-chunks, chunks-all, length-chunks}
 use Rattle.well_formed.specs.Bytes.{bytes-fit}
 
 -- ── runs and texts ──
@@ -111,7 +112,7 @@ single (x ∷ []) l e = ap (λ (n : ℕ). n ∷ []) (omega (arith, e .0 .0, e .0
 single (x ∷ y ∷ xs) l e = absurd (omega arith)
 
 order-single : (t : List ℕ) → Linked t → countOf t ≡ 1 → order t ≡ 1 ∷ []
-order-single t l e = single (order t) (length-order t ∙ e) (subst (λ (n : ℕ). Each (In n) (order t)) e (linked-once t l .inside))
+order-single t l e = single (order t) (order-length t ∙ e) (subst (λ (n : ℕ). Each (In n) (order t)) e (linked-once t l .inside))
 
 first-start : List Span → ℕ
 first-start [] = 0
@@ -177,17 +178,6 @@ module _ (t p s : List ℕ) (l : Linked t) where
       record { start = q .start-between; end = q .end-between }
 
 -- ── the limits ──
-and-true : (a b : Bool) → a ≡ true → b ≡ true → (a && b) ≡ true
-and-true a b h k = rw (h, k)
-
-and-left : (a b : Bool) → (a && b) ≡ true → a ≡ true
-and-left true b h = refl
-and-left false b h = h
-
-and-right : (a b : Bool) → (a && b) ≡ true → b ≡ true
-and-right true b h = h
-and-right false b h = not-both h
-
 -- what the limits count
 pub record Kept (source t p s : List ℕ) : Type 0 where
   pub fits : length source ≤ 16384
@@ -201,9 +191,9 @@ module _ (source t p s : List ℕ) where
   kept-within k =
       let m = magicStringOf source t p s in
       let c : leb (length (m .chunks)) 512 ≡ true = le-leb (length (m .chunks)) 512 (rw (length-chunks t p s) (k .chunks)) in
-      and-true (leb (length source) 16384) _ (le-leb (length source) 16384 (k .fits))
-      (and-true (leb (length (m .chunks)) 512) _ c
-      (and-true (leb (piece-count m) 1024) (leb (byte-count m) 32768) (le-leb (piece-count m) 1024 (k .pieces)) (le-leb (byte-count m) 32768 (k .bytes))))
+      both (le-leb (length source) 16384 (k .fits))
+      (both c
+      (both (le-leb (piece-count m) 1024 (k .pieces)) (le-leb (byte-count m) 32768 (k .bytes))))
 
   within-kept : within full (magicStringOf source t p s) ≡ true → Kept source t p s
   unfolding within magicStringOf

@@ -10,11 +10,12 @@ use Rattle.utf8.specs.Chars.{All, nil, cons}
 use Rattle.table.specs.Order.{Entry, entryAt, entries}
 use Rattle.model.specs.Text.{sum}
 use Rattle.model.specs.Limits.{chunk-bytes, replacement-bytes, byte-count}
+use Rattle.model.specs.Lists.{sum-map, sum-same as sum-same-list}
 use Rattle.memory.specs.Layout.{NONE, Place, bytesAt, pieceAt, tabulate, runOf, replacementOf, chunkOf, magicStringOf}
 use Rattle.memory.specs.WellFormed.{Inside, RunIn, ReplacementIn, RunsIn, EntryIn, Readable, among, runUses, replacementUses, listUses, byteUses, Disjoint}
 use Rattle.counts.specs.Counts.{sum-to, indicator}
 use Rattle.counts.specs.Sums.{sum-zero, sum-same, sum-add, sum-ones, sum-indicator}
-use Rattle.counts.specs.Lists.{sum-map, sum-same-list, sum-swap, sum-tabulate}
+use Rattle.counts.specs.Lists.{sum-swap, sum-tabulate}
 
 module _ (s : List ℕ) where
   -- a text's length, byte by byte of the store
@@ -59,7 +60,7 @@ module _ (s : List ℕ) where
   chunks-bytes : (p : List ℕ) (es : List Entry) → All (EntryIn p s) es → sum chunk-bytes (map (chunkOf p s) es) ≡ sum-to (λ b. sum (byteUses p b) es) (length s)
   chunks-bytes p es h =
       sum-map (chunkOf p s) chunk-bytes es
-      ∙ sum-same-list (λ e. chunk-bytes (chunkOf p s e)) (λ e. sum-to (λ b. byteUses p b e) (length s)) es (all-bytes p es h)
+      ∙ sum-same-list (λ e. chunk-bytes (chunkOf p s e)) (λ e. sum-to (λ b. byteUses p b e) (length s)) (all-bytes p es h)
       ∙ sum-swap (λ e b. byteUses p b e) es (length s)
 
 pub bytes-fit : (source t p s : List ℕ) → Readable t p s → Disjoint t p → byte-count (magicStringOf source t p s) ≤ length s

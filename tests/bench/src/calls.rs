@@ -8,6 +8,7 @@ use oracle::{
   Call::{self, *},
   Desk, DeskData, Limits,
   random::Random,
+  reports,
 };
 use string_wizard::MagicString;
 
@@ -78,7 +79,7 @@ fn every(desk: &DeskData) -> Vec<Call> {
   let (start, at, end) = (chunk.start, chunk.start + 1, chunk.end);
   let text = b"inserted".to_vec();
   let room = Some(ROOM as u32);
-  vec![
+  let mut calls = vec![
     Remove { start: at, end },
     UpdateWith { start: at, end, overwrite: 1, text: text.clone() },
     Reset { start: at, end },
@@ -98,12 +99,7 @@ fn every(desk: &DeskData) -> Vec<Call> {
     ToString { room },
     LastLine { room },
     GetIndentString { room },
-    Len,
-    LenUtf16,
-    LineCount,
-    IsEmpty,
-    HasChanged,
-    LastChar,
-    IsRangeWithinEditedChunk { start, end },
-  ]
+  ];
+  calls.extend(reports(start, end));
+  calls
 }

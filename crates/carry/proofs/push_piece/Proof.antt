@@ -1,6 +1,5 @@
 -- `carry::push_piece` meets its contract. Assumes nothing.
-use Rattle.texts.specs.Over.{put-back}
-use Rattle.texts.specs.Laws.{two-sets}
+use Rattle.texts.specs.Over.{put-back, two-sets}
 use lib.ListN.{length-set}
 use mathlib.Core.Path.{refl}
 use Prim.Native.Nat.{_-_}

@@ -1,4 +1,5 @@
-use Rattle.indent.specs.Call.{short-source, narrow-source, guess-room, guess-in, guess-part, guess-is, none-ran}
+use Rattle.memory.specs.Laws.{short-source, narrow-source}
+use Rattle.indent.specs.Call.{guess-room, guess-in, guess-part, guess-is, none-ran}
 use borrow.Author.Needs.{needs}
 use Rattle.indent.proofs.guessed_in.Statement.{statement}
 use Rattle.indent.proofs.guessed_in.Tie as tie

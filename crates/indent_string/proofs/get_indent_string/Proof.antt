@@ -1,12 +1,13 @@
 -- `indent_string::get_indent_string` meets its contract. Assumes nothing.
 use native.Mathlib.Omega.{arith}
-use Rattle.indent_string.proofs.Laws.{source-short, told-14, told-indent}
+use Rattle.memory.specs.Laws.{narrow-source}
+use Rattle.indent_string.proofs.Laws.{told-14, told-indent}
 use borrow.Author.Needs.{needs}
 use Rattle.indent_string.proofs.get_indent_string.Statement.{statement}
 use Rattle.indent_string.proofs.get_indent_string.Tie as tie
 
 guess-indentor-requires : tie.Need-guess-indentor-requires
-guess-indentor-requires c κs = source-short _ _ _ _ (c .before .before .before .before .before .pre)
+guess-indentor-requires c κs = narrow-source (c .before .before .before .before .before .pre)
 
 indentor-len-requires : tie.Need-indentor-len-requires
 indentor-len-requires c κs = search needs

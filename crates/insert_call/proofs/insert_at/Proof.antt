@@ -1,5 +1,5 @@
 use mathlib.Core.Path.{sym, _∙_}
-use Rattle.split.specs.Lift.{valid-source}
+use Rattle.memory.specs.Laws.{valid-source}
 use Rattle.insert_call.proofs.Tests.{insertion-invalid, insertion-outside, insertion-ran}
 use borrow.Author.Needs.{needs}
 use Rattle.insert_call.proofs.insert_at.Statement.{statement}

@@ -1,7 +1,8 @@
 use mathlib.Core.Path.{_≡_, refl, sym, _∙_}
 use mathlib.Core.Logic.{inl}
 use native.Mathlib.Omega.{arith}
-use Rattle.movement.proofs.RemoveTests.{valid-source, remove-outside, remove-nothing, remove-reversed, remove-range}
+use Rattle.movement.proofs.RemoveTests.{remove-outside, remove-nothing, remove-reversed, remove-range}
+use Rattle.memory.specs.Laws.{valid-source}
 use borrow.Author.Needs.{needs}
 use Rattle.movement.proofs.remove.Statement.{statement}
 use Rattle.movement.proofs.remove.Tie as tie

@@ -3,7 +3,8 @@ use mathlib.Core.List.{List}
 use Prim.Native.Nat.{ℕ, _+_, _-_, _≤_}
 use native.Mathlib.Omega.{arith}
 use lib.ListN.{length, take, drop, length-take, length-drop}
-use Rattle.rebuild.proofs.LayOne.{text-none, text-some, replacement-size, replacement-fits, put-back}
+use Rattle.rebuild.proofs.LayOne.{text-none, text-some, replacement-size, replacement-fits}
+use Rattle.texts.specs.Over.{put-back}
 use borrow.Author.Needs.{needs}
 use Rattle.rebuild.proofs.lay_text.Statement.{statement}
 use Rattle.rebuild.proofs.lay_text.Tie as tie

@@ -1,6 +1,7 @@
 use mathlib.Core.Path.{_≡_, refl, sym, ap, _∙_, subst}
 use native.Mathlib.Omega.{arith}
-use Rattle.rebuild.proofs.LayAll.{own-in, own-room, lay-start, within-room}
+use Rattle.rebuild.specs.Lay.{own-in}
+use Rattle.rebuild.proofs.LayAll.{own-room, lay-start, within-room}
 use borrow.Author.Needs.{needs}
 use Rattle.rebuild.proofs.rebuild.Statement.{statement}
 use Rattle.rebuild.proofs.rebuild.Tie as tie

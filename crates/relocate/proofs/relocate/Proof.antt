@@ -1,7 +1,8 @@
 use borrow.Author.Tests.{eqb-true, eqb-false}
-use mathlib.Core.Path.{_≡_, sym, _∙_}
+use mathlib.Core.Path.{sym, _∙_}
 use native.Mathlib.Omega.{arith}
-use Rattle.relocate_scratch.specs.Call.{valid-source, relocate-outside, relocate-inside, relocate-nothing, relocate-reversed, relocate-past, relocate-tested}
+use Rattle.relocate_scratch.specs.Call.{relocate-outside, relocate-inside, relocate-nothing, relocate-reversed, relocate-past, relocate-tested}
+use Rattle.memory.specs.Laws.{valid-source}
 use borrow.Author.Needs.{needs}
 use Rattle.relocate.proofs.relocate.Statement.{statement}
 use Rattle.relocate.proofs.relocate.Tie as tie

@@ -1,7 +1,8 @@
 use mathlib.Core.Path.{_≡_, refl, sym, _∙_}
 use mathlib.Core.Logic.{inr}
 use native.Mathlib.Omega.{arith}
-use Rattle.reset.proofs.ResetTests.{valid-source, reset-outside, reset-nothing, reset-reversed, reset-past, reset-range}
+use Rattle.reset.proofs.ResetTests.{reset-outside, reset-nothing, reset-reversed, reset-past, reset-range}
+use Rattle.memory.specs.Laws.{valid-source}
 use borrow.Author.Needs.{needs}
 use Rattle.reset.proofs.reset.Statement.{statement}
 use Rattle.reset.proofs.reset.Tie as tie

@@ -3,7 +3,8 @@ use mathlib.Core.Path.{sym, _∙_}
 use native.Mathlib.Omega.{arith}
 use borrow.Author.Tests.{not-true, not-false}
 use Rattle.memory.specs.Layout.{magicStringOf}
-use Rattle.slice.proofs.Giving.{told-3-start, told-3-end, told-end, told-all, source-short}
+use Rattle.memory.specs.Laws.{short-source}
+use Rattle.slice.proofs.Giving.{told-3-start, told-3-end, told-end, told-all}
 use borrow.Author.Needs.{needs}
 use Rattle.slice.proofs.slice.Statement.{statement}
 use Rattle.slice.proofs.slice.Tie as tie
@@ -32,7 +33,7 @@ returns-3 : tie.Need-returns-3
 returns-3 c = let a = c .before .before .before .before .before .before .before .before .before .before .before .before .before .before .args in told-end _ _ _ _ _ _ _ (a .has-end) _ _ _ (c .before .before .before .before .before .before .if2 .taken) (sym (c .before .before .before .before .before .before .before .before .boundary .ensures) ∙ not-false (c .before .before .before .before .before .before .before .before .boundary .result) (c .before .before .before .before .before .before .before .if1 .left)) (sym (c .before .before .before .before .before .boundary2 .ensures) ∙ not-false (c .before .before .before .before .before .boundary2 .result) (c .before .before .before .before .if3 .left)) (c .before .before .slice-to .ensures)
 
 cast-slice-to : tie.Need-cast-slice-to
-cast-slice-to c = let s = c .before .before .before .before .before .before .before .before in omega (arith, source-short _ _ _ _ (s .pre))
+cast-slice-to c = let s = c .before .before .before .before .before .before .before .before in omega (arith, short-source (s .pre))
 
 slice-to-requires-2 : tie.Need-slice-to-requires-2
 slice-to-requires-2 c κs = search needs

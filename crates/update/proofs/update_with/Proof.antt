@@ -1,6 +1,6 @@
 use mathlib.Core.Path.{_≡_, refl, sym, _∙_}
 use native.Mathlib.Omega.{arith}
-use Rattle.split.specs.Lift.{valid-source}
+use Rattle.memory.specs.Laws.{valid-source}
 use Rattle.update.proofs.UpdateTests.{update-invalid, update-outside, update-asked, update-no-width, update-reversed}
 use borrow.Author.Needs.{needs}
 use Rattle.update.proofs.update_with.Statement.{statement}

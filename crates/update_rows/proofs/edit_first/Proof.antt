@@ -2,7 +2,7 @@ use mathlib.Core.Path.{_≡_, refl, sym, ap, _∙_, subst}
 use native.Mathlib.Omega.{arith}
 use Rattle.table.specs.declared.Row.{Row}
 use Rattle.update_rows.specs.Steps.{EditedRow}
-use Rattle.update_rows.proofs.PutBack.{put-back}
+use Rattle.texts.specs.Over.{put-back}
 use borrow.Author.Needs.{needs}
 use Rattle.update_rows.proofs.edit_first.Statement.{statement}
 use Rattle.update_rows.proofs.edit_first.Tie as tie
@@ -57,7 +57,7 @@ returns c =
       row = edited .result;
       edited = rw (get-row .ensures) at (edited .ensures);
       put = put-row .ensures;
-      store = put-back (start .args .s .now) (start .args .text .now) _ (start .args .byte) (start .pre .1 .1 .1) (put .ensures);
+      store = put-back (start .args .s .now) (start .args .text .now) _ _ (start .args .byte) (start .pre .1 .1 .1) (put .ensures) refl;
     }
 
 pub edit-first-spec : {M : Type 1} → statement M

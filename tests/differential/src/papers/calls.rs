@@ -1,7 +1,7 @@
 //! Random calls on a desk as it now is. The calls are made on the oracle's side
 //! as they are chosen.
 
-use oracle::{Call, Desk, DeskData, Limits, apply, random::Random};
+use oracle::{Call, Desk, DeskData, Limits, apply, generate::Caller as _, random::Random};
 
 use crate::{Made, layout::*, made};
 
@@ -29,10 +29,21 @@ impl Caller {
   fn any(&mut self) -> Call {
     match self.random.below(200) {
       0 => Call::Open { source: self.source() },
-      1..=109 => self.edit(),
+      1..=7 => self.replace_chunk(),
+      8..=109 => self.edit(),
       110..=134 => self.trim_or_indent(),
       135..=164 => self.filling(),
-      _ => self.report(),
+      _ => self.exported_report(),
+    }
+  }
+
+  /// A dump is no exported call.
+  fn exported_report(&mut self) -> Call {
+    loop {
+      match self.report() {
+        Call::Dump => (),
+        call => return call,
+      }
     }
   }
 
@@ -43,28 +54,6 @@ impl Caller {
       return made::invalid(len, &mut self.random);
     }
     made::text(len, &mut self.random).into_bytes()
-  }
-
-  fn edit(&mut self) -> Call {
-    let (start, end) = self.range();
-    let at = self.position();
-    match self.random.below(16) {
-      0 | 1 => Call::Remove { start, end },
-      2 | 3 => Call::UpdateWith { start, end, overwrite: self.option(), text: self.text() },
-      4 => self.replace_chunk(),
-      5 => Call::Reset { start, end },
-      6 | 7 => Call::AppendLeft { at, text: self.text() },
-      8 => Call::AppendRight { at, text: self.text() },
-      9 => Call::PrependLeft { at, text: self.text() },
-      10 => Call::PrependRight { at, text: self.text() },
-      11 => Call::Append { text: self.text() },
-      12 => Call::Prepend { text: self.text() },
-      13 => Call::Relocate { start, end, to: at },
-      _ => {
-        let (start, end, to) = self.range_and_place();
-        Call::Relocate { start, end, to }
-      }
-    }
   }
 
   /// Replaces one chunk by a text that takes all bytes that are left with those
@@ -86,69 +75,45 @@ impl Caller {
     Call::UpdateWith { start, end, overwrite, text }
   }
 
-  fn trim_or_indent(&mut self) -> Call {
-    let pattern = [0, 0, 0, 0, 1, 1, 1, 1, 2, 3, u32::MAX][self.random.below(11)];
-    match self.random.below(7) {
-      0 => Call::Trim { pattern },
-      1 => Call::TrimStart { pattern },
-      2 => Call::TrimEnd { pattern },
-      3 => Call::TrimLines,
-      _ => {
-        let indentor = (!self.random.one_in(3)).then(|| self.text());
-        let count = match self.random.below(200) {
-          0 => 2 * self.random.between(100, 2_000),
-          other => [0, 0, 0, 2, 2, 4, 6, 1, 3][other % 9],
-        };
-        Call::IndentWith { indentor, exclude: (0..count).map(|_| self.position()).collect() }
-      }
+  fn bytes_left(&self) -> usize {
+    MOST_BYTES - self.desk.counts().bytes
+  }
+}
+
+impl oracle::generate::Caller for Caller {
+  fn random(&mut self) -> &mut Random {
+    &mut self.random
+  }
+
+  /// At an edge of a chunk, beside one, inside a chunk, at the source's end, or
+  /// past it.
+  fn position(&mut self) -> u32 {
+    let len = self.data.source.len() as u32;
+    match self.random.below(16) {
+      0..=5 => self.edge(),
+      6 => self.edge() + 1,
+      7 => self.edge().saturating_sub(1),
+      8..=11 => self.between_characters(),
+      12 => self.random.between(0, len as usize) as u32,
+      13 => len,
+      14 => len + self.random.between(1, 3) as u32,
+      _ => [0, 0, 0, u32::MAX, 0x8000_0000, 0x1_0000][self.random.below(6)],
     }
   }
 
-  /// A call that fills a buffer: long enough, exact, too short by one or more.
-  fn filling(&mut self) -> Call {
-    let mut call = match self.random.below(8) {
-      0..=3 => {
-        let (start, end) = self.range();
-        Call::Slice { start, end: (!self.random.one_in(4)).then_some(end), room: None }
-      }
-      4 | 5 => Call::ToString { room: None },
-      6 => Call::LastLine { room: None },
-      _ => Call::GetIndentString { room: None },
-    };
-    let written = apply(&mut self.desk, &call).value;
-    let room = match self.random.below(8) {
-      0 => Some(written),
-      1 => Some(written.saturating_sub(1)),
-      2 => Some(self.random.between(0, written as usize) as u32),
-      3 => Some(0),
-      _ => None,
-    };
-    *call.room_mut().expect("the call fills a buffer") = room;
-    call
-  }
-
-  fn report(&mut self) -> Call {
-    match self.random.below(8) {
-      0 => Call::Len,
-      1 => Call::LenUtf16,
-      2 => Call::LineCount,
-      3 => Call::IsEmpty,
-      4 => Call::HasChanged,
-      5 => Call::LastChar,
-      _ => {
-        let (start, end) = self.range();
-        Call::IsRangeWithinEditedChunk { start, end }
-      }
+  /// Two positions, most often with the start first; sometimes a chunk's own.
+  fn range(&mut self) -> (u32, u32) {
+    if self.random.one_in(6) {
+      let chunk = self.random.below(self.data.chunks.len());
+      return (self.data.chunks[chunk].start, self.data.chunks[chunk].end);
     }
-  }
-
-  fn option(&mut self) -> u32 {
-    [0, 0, 1, 1, 2, u32::MAX][self.random.below(6)]
+    let (one, other) = (self.position(), self.position());
+    if self.random.one_in(10) { (one, other) } else { (one.min(other), one.max(other)) }
   }
 
   /// A text to insert: most often short or empty, sometimes as long as there is
   /// room for, or one longer, rarely not UTF-8 or much too long.
-  pub(super) fn text(&mut self) -> Vec<u8> {
+  fn text(&mut self) -> Vec<u8> {
     let left = self.bytes_left();
     let at_limit = if left < 200 { 6 } else { 200 };
     let len = if self.random.one_in(at_limit) {
@@ -167,7 +132,15 @@ impl Caller {
     made::text(len, &mut self.random).into_bytes()
   }
 
-  fn bytes_left(&self) -> usize {
-    MOST_BYTES - self.desk.counts().bytes
+  fn written(&mut self, call: &Call) -> u32 {
+    apply(&mut self.desk, call).value
+  }
+
+  /// Sometimes many.
+  fn excluded(&mut self) -> usize {
+    match self.random.below(200) {
+      0 => 2 * self.random.between(100, 2_000),
+      other => [0, 0, 0, 2, 2, 4, 6, 1, 3][other % 9],
+    }
   }
 }

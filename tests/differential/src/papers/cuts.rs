@@ -1,7 +1,7 @@
 //! Calls that cut desks with as many chunks as there may be, or nearly, each from
 //! that desk: cuts that stay after a refusal pass the limit too.
 
-use oracle::{Call, random::Random};
+use oracle::{Call, generate::Caller as _, random::Random};
 
 use super::Caller;
 use crate::{

@@ -6,6 +6,9 @@ mod calls;
 mod limits;
 mod texts;
 
+pub use calls::Caller;
+pub use texts::{BLANKS, CHARACTERS, INVALID};
+
 use crate::{Answer, Call, Counts, Desk, Limits, Script, random::Random};
 
 /// `count` calls, the same for the same seed.

@@ -3,17 +3,17 @@
 use super::Generator;
 
 /// Characters of one to four bytes, with those that the calls look at.
-const CHARACTERS: &str = "abxyz09  \t\t\n\n\n\r{};éßñ€あ\u{2003}\u{feff}😀𝄞\u{10ffff}\0";
+pub const CHARACTERS: &str = "abxyz09  \t\t\n\n\n\r{};éßñ€あ\u{2003}\u{feff}😀𝄞\u{10ffff}\0";
 
 /// The 25 characters with the property White_Space.
-const BLANKS: &str = "\u{9}\u{a}\u{b}\u{c}\u{d} \u{85}\u{a0}\u{1680}\u{2000}\u{2001}\u{2002}\u{2003}\
+pub const BLANKS: &str = "\u{9}\u{a}\u{b}\u{c}\u{d} \u{85}\u{a0}\u{1680}\u{2000}\u{2001}\u{2002}\u{2003}\
   \u{2004}\u{2005}\u{2006}\u{2007}\u{2008}\u{2009}\u{200a}\u{2028}\u{2029}\u{202f}\u{205f}\u{3000}";
 
 /// Characters that are no blanks, though some look like one or stand beside one.
 const NOT_BLANKS: &str = "\u{8}\u{e}\u{1c}\u{84}\u{86}\u{180e}\u{200b}\u{2060}\u{feff}";
 
 /// Bytes that are not UTF-8: alone, cut short, overlong, surrogates, too high.
-const INVALID: [&[u8]; 9] = [
+pub const INVALID: [&[u8]; 9] = [
   b"\xff",
   b"a\x80",
   b"\xc3",
@@ -37,7 +37,7 @@ impl Generator {
   }
 
   /// A text to insert: mostly short, sometimes empty, rarely not UTF-8.
-  pub(super) fn text(&mut self) -> Vec<u8> {
+  pub(super) fn inserted(&mut self) -> Vec<u8> {
     match self.random.below(40) {
       0 => self.invalid(),
       1..=9 => Vec::new(),

@@ -7,7 +7,7 @@ use super::{
   Writer,
   record::{Record, Tables},
 };
-use crate::{Answer, Call, number};
+use crate::{Answer, Call, every_call, number};
 
 /// Word and value, in row 0 or row 1 of the chunk table, of twelve words each.
 const DAMAGES: [(u32, u32); 12] = [
@@ -65,43 +65,9 @@ fn short_table(writer: &mut Writer) {
   }
 }
 
-/// A desk of one chunk, so that row 1 is that chunk's.
+/// A desk of one chunk, so that row 1 is that chunk's, which takes every call.
 fn desk(writer: &mut Writer) {
   writer.call(&Call::Open { source: b"\tab\n".to_vec() });
   writer.call(&Call::Append { text: b"tail".to_vec() });
   writer.call(&Call::Prepend { text: b"head".to_vec() });
-}
-
-/// Every call but the opening, accepted on that desk.
-fn every_call() -> Vec<Call> {
-  use Call::*;
-  let text = b"X".to_vec();
-  vec![
-    Remove { start: 0, end: 1 },
-    UpdateWith { start: 1, end: 2, overwrite: 1, text: text.clone() },
-    Reset { start: 0, end: 1 },
-    AppendLeft { at: 1, text: text.clone() },
-    AppendRight { at: 1, text: text.clone() },
-    PrependLeft { at: 1, text: text.clone() },
-    PrependRight { at: 1, text: text.clone() },
-    Append { text: text.clone() },
-    Prepend { text: text.clone() },
-    Relocate { start: 0, end: 1, to: 2 },
-    IndentWith { indentor: Some(text), exclude: vec![0, 1] },
-    Trim { pattern: 0 },
-    TrimStart { pattern: 1 },
-    TrimEnd { pattern: 0 },
-    TrimLines,
-    Slice { start: 0, end: None, room: Some(40) },
-    ToString { room: Some(40) },
-    LastLine { room: Some(40) },
-    GetIndentString { room: Some(4) },
-    Len,
-    LenUtf16,
-    LineCount,
-    IsEmpty,
-    HasChanged,
-    LastChar,
-    IsRangeWithinEditedChunk { start: 0, end: 1 },
-  ]
 }
