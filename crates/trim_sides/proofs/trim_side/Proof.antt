@@ -23,13 +23,13 @@ returns : tie.Need-returns
 returns c =
     let start = c .before .before .before .before .before .before .before .before .before .before .before .before .before in
     let a = start .args in
-    own-stops (a .front) (a .pattern) (a .source .now) (a .t .now) (a .p .now) (a .s .now) (a .top) _ (a .byte) (start .pre) _ _ _ (c .before .before .before .before .before .trim-own .ensures) (not-true _ (c .if1 .taken))
+    own-stops (a .front) (a .pattern) (a .source .now) (a .t .now) (a .p .now) (a .s .now) (a .top) _ (a .byte) (start .pre) _ _ _ (c .before .before .before .before .before .trim-own .ensures) (not-true (c .before .before .before .before .before .trim-own .result) (c .if1 .taken))
 
 trim-chunks-requires : tie.Need-trim-chunks-requires
 trim-chunks-requires c κs =
     let start = c .before .before .before .before .before .before .before .before .before .before .before .before .before .before .before .before in
     let a = start .args in
-    chunks-ready (a .front) (a .pattern) (a .source .now) (a .t .now) (a .p .now) (a .s .now) (a .top) _ (a .byte) (start .pre) _ _ _ (c .before .before .before .before .before .before .before .before .trim-own .ensures) (not-false _ (c .before .before .before .if1 .left))
+    chunks-ready (a .front) (a .pattern) (a .source .now) (a .t .now) (a .p .now) (a .s .now) (a .top) _ (a .byte) (start .pre) _ _ _ (c .before .before .before .before .before .before .before .before .trim-own .ensures) (not-false (c .before .before .before .before .before .before .before .before .trim-own .result) (c .before .before .before .if1 .left))
 
 same-length-4 : tie.Need-same-length-4
 same-length-4 c = search needs
@@ -44,7 +44,7 @@ returns-2 : tie.Need-returns-2
 returns-2 c =
     let start = c .before .before .before .before .before .before .before .before .before .before .before .before .before .before .before .before .before .before .before .before .before .before .before in
     let a = start .args in
-    own-goes-on (a .front) (a .pattern) (a .source .now) (a .t .now) (a .p .now) (a .s .now) (a .top) _ (a .byte) (start .pre) _ _ _ (c .before .before .before .before .before .before .before .before .before .before .before .before .before .before .before .trim-own .ensures) (not-false _ (c .before .before .before .before .before .before .before .before .before .before .if1 .left)) _ _ _ _ (c .before .before .before .before .before .before .trim-chunks .ensures)
+    own-goes-on (a .front) (a .pattern) (a .source .now) (a .t .now) (a .p .now) (a .s .now) (a .top) _ (a .byte) (start .pre) _ _ _ (c .before .before .before .before .before .before .before .before .before .before .before .before .before .before .before .trim-own .ensures) (not-false (c .before .before .before .before .before .before .before .before .before .before .before .before .before .before .before .trim-own .result) (c .before .before .before .before .before .before .before .before .before .before .if1 .left)) _ _ _ _ (c .before .before .before .before .before .before .trim-chunks .ensures)
 
 pub trim-side-spec : {M : Type 1} → statement M
 trim-side-spec =
