@@ -9,12 +9,10 @@ use mathlib.Core.Option.{Option, none, some}
 use lib.Dec.{eqb}
 use lib.ListN.{length}
 use borrow.Author.Tests.{eq-eqb, ne-eqb, lt-ltb, le-ltb, le-leb}
-use Rattle.utf8.specs.Texts.{utf8-nil}
 use Rattle.utf8.specs.Chars.{All, nil, cons}
 use Rattle.model.specs.Text.{Text, sum}
 use Rattle.model.specs.Chunk.{is-filled}
 use Rattle.model.specs.Call.{Edit, remove, update-with, reset, append-left, append-right, prepend-left, prepend-right, append, prepend, relocate, trim, trim-start, trim-end, trim-lines, indent-with, texts, positions}
-use Rattle.model.specs.WellFormed.{ValidReplacement}
 use Rattle.model.specs.Lists.{clash, first-of, rest-of, all-of, all-map}
 use Rattle.closed_forms.specs.Plan.{listed, End, front, back, Plan, nothing, clear, replace, insert-head, insert-tail, move, on-left, on-right, plan, cuts}
 use Rattle.any_order.specs.Claim.{Spot, byte, head, tail, left-of, right-of, Bytes, Reach, IsMove, InReplaced, Wide, new-pieces, new-bytes, Disjoint, FreeOf}
@@ -62,9 +60,9 @@ range-free n a b c d h r =
     cons (λ (u : a < c) (v : c < b). r (byte c) (omega arith) (omega arith))
     (cons (λ (u : a < d) (v : d < b). r (byte (d - 1)) (omega arith) (omega arith)) nil)
 
-clear-implements : (n : ℕ) (e : Edit) (a b : ℕ) (r : Option Text) → a < b → b ≤ n → is-filled r ≡ false → ValidReplacement r → ((z : Spot) → Bytes a b z → Reach n e z) → positions e ≡ a ∷ b ∷ [] → Implements n e (clear a b r)
+clear-implements : (n : ℕ) (e : Edit) (a b : ℕ) (r : Option Text) → a < b → b ≤ n → is-filled r ≡ false → ((z : Spot) → Bytes a b z → Reach n e z) → Implements n e (clear a b r)
 unfolding cuts
-clear-implements n e a b r h k f v reach ps = record {
+clear-implements n e a b r h k f reach = record {
   well = (h, k, f);
   bytes = λ x i. reach (byte x) i;
   heads = λ i. absurd i;
@@ -119,7 +117,7 @@ tail-implements n e w t reach k ts = record {
 }
 
 -- an insertion of either end
-module _ (n : ℕ) (e : Edit) (p : ℕ) (w : End) (t : Text) (some-source : 0 < n) (k : 1 ≤ new-pieces e) (ts : texts e ≡ t ∷ []) (ps : positions e ≡ p ∷ []) where
+module _ (n : ℕ) (e : Edit) (p : ℕ) (w : End) (t : Text) (some-source : 0 < n) (k : 1 ≤ new-pieces e) (ts : texts e ≡ t ∷ []) where
   left-implements : ((z : Spot) → z ≡ left-of p → Reach n e z) → (q : ℕ) → p ≡ q → p ≤ n → Implements n e (on-left n p w t)
   unfolding cuts left-of
   left-implements reach zero z h =
@@ -185,13 +183,13 @@ move-implements n a b to h k l = record {
 
 pub implements : (n : ℕ) (e : Edit) → 0 < n → EditPremises n e → Implements n e (plan n e)
 unfolding plan
-implements n (remove a b) s h = rw (ne-eqb a b (λ i. omega (arith, h .wide))) (clear-implements n (remove a b) a b (some []) (h .wide) (first-of (rest-of (h .within))) refl utf8-nil (λ z i. i) refl)
+implements n (remove a b) s h = rw (ne-eqb a b (λ i. omega (arith, h .wide))) (clear-implements n (remove a b) a b (some []) (h .wide) (first-of (rest-of (h .within))) refl (λ z i. i))
 implements n (update-with a b t o) s h = replace-implements n a b t o (h .wide) (first-of (rest-of (h .within)))
-implements n (reset a b) s h = rw (ne-eqb a b (λ i. omega (arith, h .wide))) (clear-implements n (reset a b) a b none (h .wide) (first-of (rest-of (h .within))) refl tt (λ z i. i) refl)
-implements n (append-left p t) s h = left-implements n (append-left p t) p back t s (omega arith) refl refl (λ z i. i) p refl (first-of (h .within))
-implements n (append-right p t) s h = right-implements n (append-right p t) p back t s (omega arith) refl refl (λ z i. i) (decLt p n)
-implements n (prepend-left p t) s h = left-implements n (prepend-left p t) p front t s (omega arith) refl refl (λ z i. i) p refl (first-of (h .within))
-implements n (prepend-right p t) s h = right-implements n (prepend-right p t) p front t s (omega arith) refl refl (λ z i. i) (decLt p n)
+implements n (reset a b) s h = rw (ne-eqb a b (λ i. omega (arith, h .wide))) (clear-implements n (reset a b) a b none (h .wide) (first-of (rest-of (h .within))) refl (λ z i. i))
+implements n (append-left p t) s h = left-implements n (append-left p t) p back t s (omega arith) refl (λ z i. i) p refl (first-of (h .within))
+implements n (append-right p t) s h = right-implements n (append-right p t) p back t s (omega arith) refl (λ z i. i) (decLt p n)
+implements n (prepend-left p t) s h = left-implements n (prepend-left p t) p front t s (omega arith) refl (λ z i. i) p refl (first-of (h .within))
+implements n (prepend-right p t) s h = right-implements n (prepend-right p t) p front t s (omega arith) refl (λ z i. i) (decLt p n)
 implements n (append t) s h = tail-implements n (append t) back t refl (omega arith) refl
 implements n (prepend t) s h = head-implements n (prepend t) front t refl (omega arith) refl
 implements n (relocate a b to) s h = go (ℕ-discrete a b)
