@@ -32,7 +32,7 @@ use Rattle.frame.specs.Loaded.{Loaded}
 use Rattle.frame.specs.Frame.{Scratch, Did, did-loaded, loaded-readable, ran-finished, may-write-0, may-write-6}
 use Rattle.in_place.specs.InPlace.{ran-rows}
 use Rattle.split.specs.Lift.{Reordered, still-readable, with-entries}
-use Rattle.split.specs.Cuts.{Spans, CutsDone, cuts-spans, formed-spans, loaded-spans}
+use Rattle.split.specs.Cuts.{Spans, CutsDone, cuts-spans, formed-spans, loaded-spans, stop}
 
 -- what the chunks of the range get: an empty replacement, at the place v, or none
 abbrev pub cleared-to : ℕ → Texts → Texts
