@@ -2,13 +2,13 @@
 -- Assumes nothing.
 use mathlib.Core.Path.{_≡_, refl, sym, ap, _∙_}
 use mathlib.Core.Bool.{Bool, true, false}
-use mathlib.Core.List.{List, [], _∷_, _++_, map, reverse, reverse-cons}
+use mathlib.Core.List.{List, [], _∷_, _++_, reverse, reverse-cons}
 use Prim.Native.Nat.{ℕ, _+_, _≤_}
 use native.Mathlib.Omega.{arith}
 use Rattle.table.specs.Ring.{Each}
 use Rattle.table.specs.Order.{Entry, entryAt, entries, order}
 use Rattle.model.specs.Text.{sum}
-use Rattle.preservation.specs.Lists.{sum-append}
+use Rattle.counts.specs.Lists.{sum-append, sum-map}
 
 -- the list in the direction of the trim
 abbrev pub way : {A : Type 0} → Bool → List A → List A
@@ -23,10 +23,6 @@ sum-way : (front : Bool) (f : ℕ → ℕ) (l : List ℕ) → sum f (way front l
 sum-way true f l = refl
 sum-way false f l = sum-reverse f l
 
-sum-map : (g : ℕ → Entry) (f : Entry → ℕ) (l : List ℕ) → sum f (map g l) ≡ sum (λ x. f (g x)) l
-sum-map g f [] = refl
-sum-map g f (x ∷ l) = ap (λ (n : ℕ). f (g x) + n) (sum-map g f l)
-
 -- no row counts more
 pub each-sum : (f g : ℕ → ℕ) (l : List ℕ) → Each (λ x. f x ≤ g x) l → sum f l ≤ sum g l
 each-sum f g [] h = omega arith
@@ -38,6 +34,6 @@ pub but-one : (f g : ℕ → ℕ) (a b : ℕ) (us : List ℕ) (i : ℕ) (bs : Li
 but-one f g a b [] i bs h k j = omega (arith, k, each-sum f g bs j)
 but-one f g a b (u ∷ us) i bs h k j = omega (arith, h .0, but-one f g a b us i bs (h .1) k j)
 
--- the entries of two tables with the same order
+-- the entries, by their rows
 pub entries-sum : (front : Bool) (f : Entry → ℕ) (t : List ℕ) → sum f (entries t) ≡ sum (λ x. f (entryAt t x)) (way front (order t))
 entries-sum front f t = sum-map (entryAt t) f (order t) ∙ sym (sum-way front (λ x. f (entryAt t x)) (order t))

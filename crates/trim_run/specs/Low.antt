@@ -1,4 +1,4 @@
--- Scratch tables that only grow: rows below a row and bytes below a byte stay, and what lies there reads as before.
+-- Tables that only grow: rows below a row and bytes below a byte stay, and what lies there reads as before.
 -- Assumes nothing.
 use mathlib.Core.Path.{_≡_, refl, sym, ap, ap₂, _∙_}
 use mathlib.Core.Bool.{Bool, true, false, cond}
