@@ -3,8 +3,8 @@
 // number, its value, the bytes that it wrote and the tables that it left are compared with the
 // record. A line that differs is printed with its number; at the end, how many calls of each kind
 // and of each number were replayed, and how many of them differ.
+mod play;
 mod record;
-mod tell;
 
 use libc::STDIN_FILENO;
 ghost use Prim.Native.Nat.{_≤_};
@@ -36,7 +36,7 @@ fn line(
         return n;
     }
     let t = record::record(s, source, n, chunks, pieces, store);
-    tell::tell(place, t, tally);
+    replay_tell::tell(place, t, tally);
     t.source
 }
 
@@ -93,7 +93,7 @@ fn replay(input: &[u8], tally: &mut [u32]) {
 
 fn replay_and_tell(input: &[u8], tally: &mut [u32]) {
     replay(input, tally);
-    tell::print_tally(tally);
+    replay_tell::print_tally(tally);
 }
 
 fn with_tally(input: &[u8]) {

@@ -1,4 +1,4 @@
--- Laws of src/judge.rt. Assumes nothing.
+-- Laws of src/lib.rt. Assumes nothing.
 use mathlib.Core.Path.{_≡_, refl, sym, subst}
 use mathlib.Core.Bool.{Bool, true, false}
 use mathlib.Core.List.{List}
@@ -6,7 +6,7 @@ use Prim.Native.Nat.{ℕ, zero, suc}
 use Rattle.counts.specs.Counts.{Decides}
 use Rattle.counts.specs.Sums.{is-yes}
 use Rattle.replay_compare.specs.Compare.{Kept}
-use Rattle.replay_judge.specs.Agreed.{HasDigest, TablesAre, Agreed}
+use Rattle.replay_judge.specs.Agreed.{HasDigest, TablesAre}
 
 -- ---- the last column
 module _ (m d : ℕ) (source t p s t₀ p₀ s₀ : List ℕ) where
@@ -20,8 +20,3 @@ pub tables-any : (m d : ℕ) (source t p s t₀ p₀ s₀ : List ℕ) → (m ≡
 tables-any zero d source t p s t₀ p₀ s₀ f g = absurd (f refl)
 tables-any (suc zero) d source t p s t₀ p₀ s₀ f g = absurd (g refl)
 tables-any (suc (suc m)) d source t p s t₀ p₀ s₀ f g = is-yes tt
-
--- ---- judged against copies, judged against what was copied
-pub agreed-kept : {n v n′ v′ m d : ℕ} {source t₀ p₀ s₀ t₁ p₁ s₁ t p s bytes out : List ℕ} → Kept t₀ p₀ s₀ t₁ p₁ s₁
-    → Agreed n v n′ v′ m d source t₁ p₁ s₁ t p s bytes out → Agreed n v n′ v′ m d source t₀ p₀ s₀ t p s bytes out
-agreed-kept k a = rw (k .chunks, k .pieces, k .store) a

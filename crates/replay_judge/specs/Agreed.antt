@@ -1,16 +1,11 @@
 -- What it means that a call agrees with its record.
 use mathlib.Core.Path.{_≡_}
 use mathlib.Core.List.{List}
-use Prim.Native.Nat.{ℕ, zero, suc, _≤_}
-use lib.ListN.{length}
+use Prim.Native.Nat.{ℕ, zero, suc}
 use Rattle.memory.specs.Layout.{magicStringOf}
 use Rattle.memory.specs.WellFormed.{WellFormed}
 use Rattle.replay_compare.specs.Compare.{Written, Kept}
 use Rattle.replay_digest.specs.Digest.{digest-of}
-
--- how far a buffer is filled
-pub record Inside {A : Type 0} (n : ℕ) (buffer : List A) : Type 0 where
-  pub inside : n ≤ length buffer
 
 -- the number and the value
 pub record Answered (number value number′ value′ : ℕ) : Type 0 where

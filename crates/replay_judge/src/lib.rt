@@ -1,26 +1,11 @@
-// A call made and judged: whether its answer, its buffer and the tables are as the file says.
+// A call judged: whether its answer, its buffer and the tables are as the file says.
 ghost use mathlib.Core.Path.{_≡_};
 ghost use mathlib.Core.Bool.{true, false};
 ghost use Rattle.counts.specs.Counts.{Decides};
 ghost use Rattle.replay_compare.specs.Compare.{Kept};
 ghost use Rattle.replay_judge.specs.Agreed.{Answered, HasDigest, TablesAre, Agreed};
-use replay_calls::Call;
+use replay_record::Expected;
 use texts::Answer;
-
-// What the file says of an answer. `mode` is 0 where every byte of the tables is kept, 1 where the
-// desk has the digest, and 2 where the tables are not looked at.
-pub struct Expected {
-    pub number: u32,
-    pub value: u32,
-    pub mode: u32,
-    pub digest: u32,
-}
-
-pub struct Outcome {
-    pub agrees: bool,
-    pub number: u32,
-    pub value: u32,
-}
 
 fn answered(got: Answer, e: Expected) -> bool
     ensures { λ r. ⌜ Decides r (Answered (got .number) (got .value) (e .number) (e .value)) ⌝ }
@@ -61,7 +46,7 @@ fn tables_are<'a>(
     true
 }
 
-fn copy_tables(
+pub fn copy_tables(
     chunks: &[u32],
     pieces: &[u32],
     store: &[u8],
@@ -77,18 +62,8 @@ fn copy_tables(
     replay_compare::kept(chunks, pieces, store, was_chunks, was_pieces, was_store)
 }
 
-fn refused() -> Outcome
-    ensures { λ r. ⌜ r .agrees ≡ false ⌝ }
-{
-    Outcome {
-        agrees: false,
-        number: 99,
-        value: 0,
-    }
-}
-
 // Whether the answer, the buffer and the tables after a call are as the file says.
-fn agrees<'a>(
+fn judged<'a>(
     got: Answer,
     e: Expected,
     source: &'a [u8],
@@ -122,30 +97,27 @@ fn agrees<'a>(
     false
 }
 
-// The tables copied, the buffer filled, the call made and judged.
-fn play_by(
-    k: Call,
+// The same, where the tables before the call were copied.
+pub fn agrees<'a>(
+    copied: bool,
+    got: Answer,
     e: Expected,
-    source: &[u8],
-    chunks: &mut [u32],
-    pieces: &mut [u32],
-    store: &mut [u8],
-    was_chunks: &mut [u32],
-    was_pieces: &mut [u32],
-    was_store: &mut [u8],
-    text: &[u8],
-    exclude: &[u32],
+    source: &'a [u8],
+    chunks: &[u32],
+    pieces: &[u32],
+    store: &'a [u8],
+    was_chunks: &[u32],
+    was_pieces: &[u32],
+    was_store: &[u8],
     bytes: &[u8],
-    out: &mut [u8],
-) -> Outcome
-    ensures { λ r. ⌜ (r .agrees ≡ true → Agreed (r .number) (r .value) (e .number) (e .value) (e .mode) (e .digest) (now (source .entry))
-        (now (chunks .entry)) (now (pieces .entry)) (now (store .entry)) (now (chunks .exit)) (now (pieces .exit)) (now (store .exit))
-        (now (bytes .entry)) (now (out .exit))) ⌝ }
+    out: &[u8],
+) -> bool
+    ensures { λ r. ⌜ (r ≡ true → (copied ≡ true) × Agreed (got .number) (got .value) (e .number) (e .value) (e .mode) (e .digest) (now (source .entry))
+        (now («was_chunks» .entry)) (now («was_pieces» .entry)) (now («was_store» .entry)) (now (chunks .entry)) (now (pieces .entry)) (now (store .entry))
+        (now (bytes .entry)) (now (out .entry))) ⌝ }
 {
-    if copy_tables(chunks, pieces, store, was_chunks, was_pieces, was_store) {
-        replay_compare::fill(out);
-        let got = replay_calls::make(k, source, chunks, pieces, store, text, exclude, out);
-        let agrees = agrees(
+    if copied {
+        if judged(
             got,
             e,
             source,
@@ -157,52 +129,9 @@ fn play_by(
             was_store,
             bytes,
             out,
-        );
-        return Outcome {
-            agrees,
-            number: got.number,
-            value: got.value,
-        };
+        ) {
+            return true;
+        }
     }
-    refused()
-}
-
-// The same with room for the copies.
-pub fn play(
-    k: Call,
-    e: Expected,
-    source: &[u8],
-    chunks: &mut [u32],
-    pieces: &mut [u32],
-    store: &mut [u8],
-    text: &[u8],
-    exclude: &[u32],
-    bytes: &[u8],
-    out: &mut [u8],
-) -> Outcome
-    ensures { λ r. ⌜ (r .agrees ≡ true → Agreed (r .number) (r .value) (e .number) (e .value) (e .mode) (e .digest) (now (source .entry))
-        (now (chunks .entry)) (now (pieces .entry)) (now (store .entry)) (now (chunks .exit)) (now (pieces .exit)) (now (store .exit))
-        (now (bytes .entry)) (now (out .exit))) ⌝ }
-{
-    let words = 6156usize;
-    let rows = 4096usize;
-    let size = 32768usize;
-    let mut was_chunks = [0u32; 6156];
-    let mut was_pieces = [0u32; 4096];
-    let mut was_store = [0u8; 32768];
-    play_by(
-        k,
-        e,
-        source,
-        chunks,
-        pieces,
-        store,
-        &mut was_chunks[..words],
-        &mut was_pieces[..rows],
-        &mut was_store[..size],
-        text,
-        exclude,
-        bytes,
-        out,
-    )
+    false
 }

@@ -3,17 +3,11 @@ use borrow.Author.Needs.{needs}
 use Rattle.replay_judge.proofs.agrees.Statement.{statement}
 use Rattle.replay_judge.proofs.agrees.Tie as tie
 
-answered-requires : tie.Need-answered-requires
-answered-requires c κs = search needs
-
-written-requires : tie.Need-written-requires
-written-requires c κs = search needs
-
-tables-are-requires : tie.Need-tables-are-requires
-tables-are-requires c κs = search needs
+judged-requires : tie.Need-judged-requires
+judged-requires c κs = search needs
 
 returns : tie.Need-returns
-returns c = λ e. record { answered = c .before .before .before .before .answered .ensures .yes (c .before .before .before .if1 .taken); written = c .before .before .written .ensures .yes (c .before .if2 .taken); tables = c .tables-are .ensures .yes e }
+returns c = λ _. (c .before .before .if1 .taken, c .before .judged .ensures (c .if2 .taken))
 
 returns-2 : tie.Need-returns-2
 returns-2 c = λ e. not-both e
@@ -24,4 +18,8 @@ returns-3 c = λ e. not-both e
 pub agrees-spec : {M : Type 1} → statement M
 agrees-spec =
     tie.close
-    (tie.spec answered-requires written-requires tables-are-requires returns returns-2 returns-3)
+    (tie.spec
+    judged-requires
+    returns
+    returns-2
+    returns-3)

@@ -5,32 +5,23 @@ use borrow.Author.Needs.{needs}
 use Rattle.replay.proofs.record.cut.Statement.{statement}
 use Rattle.replay.proofs.record.cut.Tie as tie
 
-cast-width : tie.Need-cast-width
-cast-width c = search needs
-
-add-width : tie.Need-add-width
-add-width c = search needs
-
-no-record-requires : tie.Need-no-record-requires
-no-record-requires c κs = search needs
-
-returns : tie.Need-returns
-returns c = search needs
-
 behind-first-requires : tie.Need-behind-first-requires
 behind-first-requires c κs = search needs
 
+width-requires : tie.Need-width-requires
+width-requires c κs = search needs
+
 slice-aggregate-call-of : tie.Need-slice-aggregate-call-of
-slice-aggregate-call-of c = sym (length-take-le _ _ (c .before .before .before .before .before .before .before .before .before .before .before .before .pre .0 .inside))
+slice-aggregate-call-of c = sym (length-take-le _ _ (c .before .before .before .before .before .before .before .before .before .before .before .pre .0 .inside))
 
 call-of-requires : tie.Need-call-of-requires
 call-of-requires c κs = search needs
 
 slice-aggregate-play : tie.Need-slice-aggregate-play
-slice-aggregate-play c = sym (length-take-le _ _ (c .before .before .before .before .before .before .before .before .before .before .before .before .before .before .before .before .before .before .pre .1 .inside))
+slice-aggregate-play c = sym (length-take-le _ _ (c .before .before .before .before .before .before .before .before .before .before .before .before .before .before .before .before .before .pre .1 .inside))
 
 mul-play : tie.Need-mul-play
-mul-play c = omega (arith, c .before .before .before .before .before .before .before .behind-first .ensures .1)
+mul-play c = omega (arith, c .before .before .before .before .before .before .before .before .behind-first .ensures .1)
 
 sub-play : tie.Need-sub-play
 sub-play c = search needs
@@ -42,13 +33,13 @@ part-play-end : tie.Need-part-play-end
 part-play-end c = search needs
 
 slice-aggregate-play-2 : tie.Need-slice-aggregate-play-2
-slice-aggregate-play-2 c = sym (length-take-le _ _ (c .before .before .before .before .before .before .before .before .before .before .before .before .before .before .before .before .before .before .before .before .pre .2 .inside))
+slice-aggregate-play-2 c = sym (length-take-le _ _ (c .before .before .before .before .before .before .before .before .before .before .before .before .before .before .before .before .before .before .before .pre .2 .inside))
 
 slice-relend-prefix-play : tie.Need-slice-relend-prefix-play
 slice-relend-prefix-play c = search needs
 
 slice-aggregate-play-3 : tie.Need-slice-aggregate-play-3
-slice-aggregate-play-3 c = sym (length-take-le _ _ (omega (arith, c .before .before .before .before .before .before .before .before .before .before .before .if1 .left)))
+slice-aggregate-play-3 c = sym (length-take-le _ _ (c .before .before .before .before .before .before .before .before .before .before .width .ensures))
 
 play-requires : tie.Need-play-requires
 play-requires c κs = search needs
@@ -65,18 +56,15 @@ same-length-3 c = search needs
 same-length-4 : tie.Need-same-length-4
 same-length-4 c = search needs
 
-returns-2 : tie.Need-returns-2
-returns-2 c = search needs
+returns : tie.Need-returns
+returns c = search needs
 
 pub cut-spec : {M : Type 1} → statement M
 cut-spec =
     tie.close
     (tie.spec
-    cast-width
-    add-width
-    no-record-requires
-    returns
     behind-first-requires
+    width-requires
     slice-aggregate-call-of
     call-of-requires
     slice-aggregate-play
@@ -92,4 +80,4 @@ cut-spec =
     same-length-2
     same-length-3
     same-length-4
-    returns-2)
+    returns)

@@ -2,8 +2,8 @@ use lib.Seq.{length-take-le}
 use native.Mathlib.Omega.{arith}
 use mathlib.Core.Path.{sym, _∙_}
 use borrow.Author.Needs.{needs}
-use Rattle.replay_calls.proofs.report.Statement.{statement}
-use Rattle.replay_calls.proofs.report.Tie as tie
+use Rattle.replay_rest.proofs.report.Statement.{statement}
+use Rattle.replay_rest.proofs.report.Tie as tie
 
 cast-room : tie.Need-cast-room
 cast-room c = search needs

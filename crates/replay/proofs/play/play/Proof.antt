@@ -2,8 +2,8 @@ use mathlib.Core.Path.{sym}
 use native.Mathlib.Omega.{arith}
 use Rattle.counts.specs.Sums.{zeros-length}
 use borrow.Author.Needs.{needs}
-use Rattle.replay_judge.proofs.play.Statement.{statement}
-use Rattle.replay_judge.proofs.play.Tie as tie
+use Rattle.replay.proofs.play.play.Statement.{statement}
+use Rattle.replay.proofs.play.play.Tie as tie
 
 array-borrow-prefix-was-chunks : tie.Need-array-borrow-prefix-was-chunks
 array-borrow-prefix-was-chunks c = search needs

@@ -1,7 +1,7 @@
 use Prim.Native.Nat.{ℕ, _+_, _-_, _*_, _≤_, _<_}
 use borrow.Author.Needs.{needs}
-use Rattle.replay.proofs.tell.print_kind.Statement.{statement}
-use Rattle.replay.proofs.tell.print_kind.Tie as tie
+use Rattle.replay_tell.proofs.print_kind.Statement.{statement}
+use Rattle.replay_tell.proofs.print_kind.Tie as tie
 
 abbrev Inv-loop : tie.InvT-loop
 Inv-loop tally kind number₀ t4 number = number ≤ 16

@@ -1,7 +1,7 @@
 use Prim.Native.Nat.{ℕ, _+_, _-_, _*_, _≤_, _<_}
 use borrow.Author.Needs.{needs}
-use Rattle.replay.proofs.tell.sum_number.Statement.{statement}
-use Rattle.replay.proofs.tell.sum_number.Tie as tie
+use Rattle.replay_tell.proofs.sum_number.Statement.{statement}
+use Rattle.replay_tell.proofs.sum_number.Tie as tie
 
 abbrev Inv-loop : tie.InvT-loop
 Inv-loop tally from number n₀ kind₀ n kind = kind ≤ 28

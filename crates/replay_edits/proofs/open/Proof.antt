@@ -2,8 +2,8 @@ use lib.Seq.{length-take-le}
 use native.Mathlib.Omega.{arith}
 use mathlib.Core.Path.{sym, _∙_}
 use borrow.Author.Needs.{needs}
-use Rattle.replay_calls.proofs.open.Statement.{statement}
-use Rattle.replay_calls.proofs.open.Tie as tie
+use Rattle.replay_edits.proofs.open.Statement.{statement}
+use Rattle.replay_edits.proofs.open.Tie as tie
 
 no-call-requires : tie.Need-no-call-requires
 no-call-requires c κs = search needs

@@ -1,7 +1,7 @@
 use Prim.Native.Nat.{_≤_, _-_}
 use borrow.Author.Needs.{needs}
-use Rattle.replay.proofs.tell.sum.Statement.{statement}
-use Rattle.replay.proofs.tell.sum.Tie as tie
+use Rattle.replay_tell.proofs.sum.Statement.{statement}
+use Rattle.replay_tell.proofs.sum.Tie as tie
 
 abbrev Inv-loop : tie.InvT-loop
 Inv-loop tally from n₀ number₀ n number = number ≤ 16

@@ -1,99 +1,15 @@
-// One call of the file, made through the exported functions. Kinds are numbered as in crates/replay_read/src/names.rt.
+// Kinds 11 to 28 of crates/replay_read/src/names.rt: a trim, an indent or a report, made through the exported functions, or one word set.
 use magic_string::exported_desk;
 use magic_string::exported_edits;
 use magic_string::exported_reports;
+use replay_record::Call;
 use texts::Answer;
-
-// What the file says of a call: its kind, its first three numbers, and how long a buffer is lent.
-pub struct Call {
-    pub kind: u32,
-    pub a: u32,
-    pub b: u32,
-    pub c: u32,
-    pub room: u32,
-}
 
 // No call has this number.
 fn no_call() -> Answer {
     Answer {
         number: 99,
         value: 0,
-    }
-}
-
-// `open`, on a chunk table that lacks `short` words.
-fn open(
-    short: u32,
-    source: &[u8],
-    chunks: &mut [u32],
-    pieces: &mut [u32],
-    store: &mut [u8],
-) -> Answer {
-    let lacks = short as usize;
-    if chunks.len() < lacks {
-        return no_call();
-    }
-    let n = chunks.len() - lacks;
-    exported_desk::magic_string_open(source, &mut chunks[..n], pieces, store)
-}
-
-fn edit_range(
-    k: Call,
-    source: &[u8],
-    chunks: &mut [u32],
-    pieces: &mut [u32],
-    store: &mut [u8],
-) -> Answer {
-    let kind = k.kind;
-    match kind {
-        1 => exported_edits::magic_string_remove(source, chunks, pieces, store, k.a, k.b),
-        2 => exported_edits::magic_string_reset(source, chunks, pieces, store, k.a, k.b),
-        3 => exported_edits::magic_string_relocate(source, chunks, pieces, store, k.a, k.b, k.c),
-        _ => no_call(),
-    }
-}
-
-fn edit_at(
-    k: Call,
-    source: &[u8],
-    chunks: &mut [u32],
-    pieces: &mut [u32],
-    store: &mut [u8],
-    text: &[u8],
-) -> Answer {
-    let kind = k.kind;
-    match kind {
-        4 => exported_edits::magic_string_append_left(source, chunks, pieces, store, k.a, text),
-        5 => exported_edits::magic_string_append_right(source, chunks, pieces, store, k.a, text),
-        6 => exported_edits::magic_string_prepend_left(source, chunks, pieces, store, k.a, text),
-        7 => exported_edits::magic_string_prepend_right(source, chunks, pieces, store, k.a, text),
-        _ => no_call(),
-    }
-}
-
-fn edit_text(
-    k: Call,
-    source: &[u8],
-    chunks: &mut [u32],
-    pieces: &mut [u32],
-    store: &mut [u8],
-    text: &[u8],
-) -> Answer {
-    let kind = k.kind;
-    match kind {
-        8 => exported_edits::magic_string_append(source, chunks, pieces, store, text),
-        9 => exported_edits::magic_string_prepend(source, chunks, pieces, store, text),
-        10 => exported_edits::magic_string_update_with(
-            source,
-            chunks,
-            pieces,
-            store,
-            k.a,
-            k.b,
-            text,
-            k.c,
-        ),
-        _ => no_call(),
     }
 }
 
@@ -215,7 +131,7 @@ fn set_word(k: Call, chunks: &mut [u32], pieces: &mut [u32], store: &mut [u8]) -
     }
 }
 
-pub fn make(
+pub fn rest(
     k: Call,
     source: &[u8],
     chunks: &mut [u32],
@@ -227,10 +143,6 @@ pub fn make(
 ) -> Answer {
     let kind = k.kind;
     match kind {
-        0 => open(k.a, source, chunks, pieces, store),
-        1..=3 => edit_range(k, source, chunks, pieces, store),
-        4..=7 => edit_at(k, source, chunks, pieces, store, text),
-        8..=10 => edit_text(k, source, chunks, pieces, store, text),
         11..=14 => trim(k, source, chunks, pieces, store),
         15 => exported_edits::magic_string_indent_with(
             source,
@@ -242,6 +154,7 @@ pub fn make(
             exclude,
         ),
         16..=27 => report(k, source, chunks, pieces, store, out),
-        _ => set_word(k, chunks, pieces, store),
+        28 => set_word(k, chunks, pieces, store),
+        _ => no_call(),
     }
 }

@@ -1,7 +1,7 @@
 use Prim.Native.Nat.{_≤_, _-_}
 use borrow.Author.Needs.{needs}
-use Rattle.replay.proofs.tell.print_tally.Statement.{statement}
-use Rattle.replay.proofs.tell.print_tally.Tie as tie
+use Rattle.replay_tell.proofs.print_tally.Statement.{statement}
+use Rattle.replay_tell.proofs.print_tally.Tie as tie
 
 abbrev Inv-loop : tie.InvT-loop
 Inv-loop tally kind₀ kind = kind ≤ 29
