@@ -10,8 +10,8 @@ use Rattle.model.specs.Call.{Edit, options-valid, texts, positions, steps}
 use Rattle.memory.specs.WellFormed.{WellFormed}
 use Rattle.memory.specs.Calls.{idle, Ran}
 use Rattle.frame.specs.Frame.{ran-before, refused-1, refused-3, not-refused}
-use Rattle.insert.specs.Insertion.{insert-at, whole-add}
-use Rattle.insert.specs.Calls.{InsertRan, WholeRan}
+use Rattle.insert_row.specs.Insertion.{insert-at, whole-add}
+use Rattle.insert_row.specs.Calls.{InsertRan, WholeRan}
 use Rattle.insert_call.specs.Insertions.{insertion, addition}
 
 -- what every insertion is given and does

@@ -26,7 +26,7 @@ use Rattle.frame.specs.Front.{desk-front}
 use Rattle.frame.specs.Loaded.{Loaded}
 use Rattle.frame.specs.Frame.{Scratch, Did, loaded-readable, loaded-desk, ran-finished, ran-past-limits, may-write-0, may-write-6, may-write-7}
 use Rattle.split.specs.Cuts.{Spans, CutsDone, CutsLeave, loaded-spans, stop}
-use Rattle.insert.specs.Calls.{past-bytes}
+use Rattle.insert_row.specs.Calls.{past-bytes}
 use Rattle.rows.specs.Insert.{Placed}
 use Rattle.uses.specs.Kept.{Kept, kept-then}
 use Rattle.update_rows.specs.Walk.{walkFrom, Walked}

@@ -28,7 +28,7 @@ use Rattle.on_top.specs.Live.{LiveOf, Room, read-below}
 use Rattle.on_top.specs.Apart.{rowUses, storeUses, apart-after, store-uses-front}
 use Rattle.update_rows.specs.Steps.{update-past, update-is}
 use Rattle.update_rows.specs.Replaced.{Replaced, replaced-pieces, replaced-bytes}
-use Rattle.insert.specs.TopCalls.{no-source}
+use Rattle.insert_on_top.specs.TopCalls.{no-source}
 use Rattle.update.specs.Calls.{UpdateSteps}
 
 -- ── rows and bytes stay apart ──

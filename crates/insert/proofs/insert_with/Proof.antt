@@ -5,14 +5,14 @@ use lib.ListN.{length, take}
 use Rattle.table.specs.declared.Row.{Row}
 use Rattle.frame.specs.Frame.{few-chunks}
 use Rattle.on_top.specs.Live.{Room, live-small}
-use Rattle.insert.specs.TopCalls.{bare-within}
+use Rattle.insert_on_top.specs.TopCalls.{bare-within}
 use borrow.Author.Needs.{needs}
 use Rattle.insert.proofs.insert_with.Statement.{statement}
 use Rattle.insert.proofs.insert_with.Tie as tie
 use Rattle.insert.proofs.insert_with.Reads as reads
 use Rattle.insert.proofs.insert_with.Lts as lts
-use Rattle.insert.proofs.insert_on_top.Reads as insert-on-top-reads
-use Rattle.insert.proofs.insert_scratch.Reads as insert-scratch-reads
+use Rattle.insert_on_top.proofs.insert_on_top.Reads as insert-on-top-reads
+use Rattle.insert_scratch.proofs.insert_scratch.Reads as insert-scratch-reads
 use Rattle.on_top.proofs.has_room.Reads as has-room-reads
 use Rattle.on_top.proofs.live.Reads as live-reads
 use Rattle.table.proofs.get_row.Reads as get-row-reads

@@ -3,15 +3,15 @@ use Prim.Native.Nat.{ℕ, _+_, _*_, _≤_}
 use native.Mathlib.Omega.{arith}
 use lib.ListN.{length, take}
 use Rattle.on_top.specs.Live.{live-small}
-use Rattle.insert.specs.OnTop.{whole-ready}
-use Rattle.insert.specs.TopCalls.{bare-within, whole-top-ready, whole-top-ran}
+use Rattle.insert_on_top.specs.OnTop.{whole-ready}
+use Rattle.insert_on_top.specs.TopCalls.{bare-within, whole-top-ready, whole-top-ran}
 use borrow.Author.Needs.{needs}
 use Rattle.insert.proofs.whole_with.Statement.{statement}
 use Rattle.insert.proofs.whole_with.Tie as tie
 use Rattle.insert.proofs.whole_with.Reads as reads
 use Rattle.insert.proofs.whole_with.Lts as lts
-use Rattle.insert.proofs.add_on_top.Reads as add-on-top-reads
-use Rattle.insert.proofs.whole_scratch.Reads as whole-scratch-reads
+use Rattle.insert_on_top.proofs.add_on_top.Reads as add-on-top-reads
+use Rattle.insert_scratch.proofs.whole_scratch.Reads as whole-scratch-reads
 use Rattle.on_top.proofs.has_room.Reads as has-room-reads
 use Rattle.on_top.proofs.live.Reads as live-reads
 

@@ -6,7 +6,7 @@ use Rattle.table.specs.declared.Row.{Row}
 use Rattle.frame.specs.Frame.{few-chunks}
 use Rattle.in_place.specs.InPlace.{lent-roomy}
 use Rattle.on_top.specs.Live.{Room, live-small}
-use Rattle.insert.specs.TopCalls.{bare-within}
+use Rattle.insert_on_top.specs.TopCalls.{bare-within}
 use Rattle.update.specs.OnTop.{update-top-ran}
 use borrow.Author.Needs.{needs}
 use Rattle.update.proofs.update_past.Statement.{statement}

@@ -1,5 +1,0 @@
-pub mod Piece
-pub mod Insertion
-pub mod Calls
-pub mod OnTop
-pub mod TopCalls

@@ -1,0 +1,92 @@
+use mathlib.Core.Path.{_≡_, refl, sym, ap, _∙_, subst}
+use Prim.Native.Nat.{ℕ, _+_, _*_, _≤_}
+use native.Mathlib.Omega.{arith}
+use lib.ListN.{length, take}
+use Rattle.table.specs.declared.Row.{Row}
+use Rattle.table.specs.Order.{entryOf, entryAt}
+use Rattle.memory.specs.Layout.{Place}
+use Rattle.on_top.specs.Run.{TopRoom}
+use Rattle.insert_row.specs.Piece.{side}
+use Rattle.insert_on_top.specs.OnTop.{added-on-top}
+use borrow.Author.Needs.{needs}
+use Rattle.insert_on_top.proofs.add_on_top.Statement.{statement}
+use Rattle.insert_on_top.proofs.add_on_top.Tie as tie
+use Rattle.insert_on_top.proofs.add_on_top.Reads as reads
+use Rattle.insert_on_top.proofs.add_on_top.Lts as lts
+use Rattle.insert_row.proofs.run_of.Reads as run-of-reads
+use Rattle.insert_row.proofs.with_run.Reads as with-run-reads
+use Rattle.on_top.proofs.lengthen.Reads as lengthen-reads
+use Rattle.table.proofs.get_row.Reads as get-row-reads
+use Rattle.table.proofs.put_row.Reads as put-row-reads
+
+get-row-requires : tie.Need-get-row-requires
+get-row-requires c κs = search needs
+
+run-of-requires : tie.Need-run-of-requires
+run-of-requires c κs = search needs
+
+lengthen-requires : tie.Need-lengthen-requires
+lengthen-requires c κs =
+    let start = c .before .before .before .before .before .before .before .before .before in
+    let run-of = c .before .before .run-of in
+    let get-row = c .before .before .before .get-row in
+    let a = start .args in
+    let e : _≡_ {A = Place} (run-of .result .at, run-of .result .n) (side (a .outro) (entryAt (a .chunks .now) (a .i))) = run-of .ensures ∙ ap (λ (r : Row). side (a .outro) (entryOf r)) (get-row .ensures) in
+    subst (λ (y : Place). TopRoom y (a .text .now) (a .pieces .now) (a .store .now) (a .row) (a .byte)) (sym e) (start .pre .1 .1 .0)
+
+cast-with-run : tie.Need-cast-with-run
+cast-with-run c = search needs
+
+add-with-run : tie.Need-add-with-run
+add-with-run c =
+    let start = c .before .before .before .before .before .before .before .before .before .before .before .before .before .before .before .before in
+    let run-of = c .before .before .before .before .before .before .before .before .before .run-of in
+    let get-row = c .before .before .before .before .before .before .before .before .before .before .get-row in
+    let a = start .args in
+    let e : _≡_ {A = Place} (run-of .result .at, run-of .result .n) (side (a .outro) (entryAt (a .chunks .now) (a .i))) = run-of .ensures ∙ ap (λ (r : Row). side (a .outro) (entryOf r)) (get-row .ensures) in
+    let k = subst (λ (y : Place). TopRoom y (a .text .now) (a .pieces .now) (a .store .now) (a .row) (a .byte)) (sym e) (start .pre .1 .1 .0) in
+    omega (arith, k .rows-in, start .pre .1 .0)
+
+with-run-requires : tie.Need-with-run-requires
+with-run-requires c κs = search needs
+
+put-row-requires : tie.Need-put-row-requires
+put-row-requires c κs =
+    let start = c .before .before .before .before .before .before .before .before .before .before .before .before .before .before .before .before .before in
+    omega (arith, start .pre .0)
+
+same-length : tie.Need-same-length
+same-length c = search needs
+
+same-length-2 : tie.Need-same-length-2
+same-length-2 c = search needs
+
+same-length-3 : tie.Need-same-length-3
+same-length-3 c = search needs
+
+returns : tie.Need-returns
+returns c =
+    let start = c .before .before .before .before .before .before .before .before .before .before .before .before .before .before .before .before .before .before .before .before in
+    let get-row = c .before .before .before .before .before .before .before .before .before .before .before .before .before .before .get-row in
+    let run-of = c .before .before .before .before .before .before .before .before .before .before .before .before .before .run-of in
+    let lengthen = c .before .before .before .before .before .before .before .before .before .before .lengthen in
+    let with-run = c .before .before .before .with-run in
+    let put-row = c .before .before .put-row in
+    let a = start .args in
+    added-on-top (a .outro) (a .front) (a .text .now) (a .i) (a .row) (a .byte) (get-row .result) (run-of .result) (get-row .ensures) (run-of .ensures) (start .pre .1 .1 .0) (start .pre .1 .1 .1) (lengthen .ensures) (with-run .ensures) (put-row .ensures)
+
+pub add-on-top-spec : {M : Type 1} → statement M
+add-on-top-spec =
+    tie.close
+    (tie.spec
+    get-row-requires
+    run-of-requires
+    lengthen-requires
+    cast-with-run
+    add-with-run
+    with-run-requires
+    put-row-requires
+    same-length
+    same-length-2
+    same-length-3
+    returns)

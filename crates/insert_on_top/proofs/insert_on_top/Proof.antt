@@ -1,0 +1,64 @@
+use mathlib.Core.Path.{_≡_, refl, sym, ap, _∙_, subst}
+use Prim.Native.Nat.{ℕ, _+_, _*_, _≤_}
+use native.Mathlib.Omega.{arith}
+use lib.ListN.{length, take}
+use Rattle.insert_on_top.specs.TopCalls.{top-ready, top-refused, top-inserted}
+use borrow.Author.Needs.{needs}
+use Rattle.insert_on_top.proofs.insert_on_top.Statement.{statement}
+use Rattle.insert_on_top.proofs.insert_on_top.Tie as tie
+use Rattle.insert_on_top.proofs.insert_on_top.Reads as reads
+use Rattle.insert_on_top.proofs.insert_on_top.Lts as lts
+use Rattle.insert_on_top.proofs.insert_rows_on_top.Reads as insert-rows-on-top-reads
+use Rattle.split.proofs.split_at.Reads as split-at-reads
+
+split-at-requires : tie.Need-split-at-requires
+split-at-requires c κs = search needs
+
+same-length : tie.Need-same-length
+same-length c = search needs
+
+returns : tie.Need-returns
+returns c =
+    let start = c .before .before .before .before .before .before .before .before .before .before in
+    let split-at = c .before .before .before .split-at in
+    let if1 = c .if1 in
+    let a = start .args in
+    top-refused (a .left) (a .front) (a .q) (a .text .now) (start .pre .0) (start .pre .1 .0) (start .pre .1 .1) (split-at .ensures) (split-at .kept .0) (if1 .taken)
+
+insert-rows-on-top-requires : tie.Need-insert-rows-on-top-requires
+insert-rows-on-top-requires c κs =
+    let start = c .before .before .before .before .before .before .before .before .before .before .before .before .before in
+    let split-at = c .before .before .before .before .before .before .split-at in
+    let a = start .args in
+    top-ready (a .left) (a .front) (a .q) (a .text .now) (start .pre .0) (start .pre .1 .0) (start .pre .1 .1) (split-at .ensures)
+
+same-length-2 : tie.Need-same-length-2
+same-length-2 c = search needs
+
+same-length-3 : tie.Need-same-length-3
+same-length-3 c = search needs
+
+same-length-4 : tie.Need-same-length-4
+same-length-4 c = search needs
+
+returns-2 : tie.Need-returns-2
+returns-2 c =
+    let start = c .before .before .before .before .before .before .before .before .before .before .before .before .before .before .before .before .before .before .before .before in
+    let split-at = c .before .before .before .before .before .before .before .before .before .before .before .before .before .split-at in
+    let if1 = c .before .before .before .before .before .before .before .before .before .before .if1 in
+    let rows = c .before .before .before .before .before .before .insert-rows-on-top in
+    let a = start .args in
+    top-inserted (a .left) (a .front) (a .q) (a .text .now) (start .pre .0) (start .pre .1 .0) (start .pre .1 .1) (split-at .ensures) _ _ _ (if1 .left) (rows .ensures) (split-at .kept .0) (rows .kept .0) (rows .kept .1 .0) (rows .kept .1 .1 .0)
+
+pub insert-on-top-spec : {M : Type 1} → statement M
+insert-on-top-spec =
+    tie.close
+    (tie.spec
+    split-at-requires
+    same-length
+    returns
+    insert-rows-on-top-requires
+    same-length-2
+    same-length-3
+    same-length-4
+    returns-2)

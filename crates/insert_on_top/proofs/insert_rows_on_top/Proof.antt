@@ -1,0 +1,108 @@
+use mathlib.Core.Path.{_≡_, refl, sym, ap, _∙_, subst}
+use Prim.Native.Nat.{ℕ, _+_, _*_, _≤_}
+use native.Mathlib.Omega.{arith}
+use lib.ListN.{length, take}
+use mathlib.Core.Bool.{not}
+use Rattle.rows.specs.Find.{meets, FoundIn}
+use Rattle.insert_row.specs.Insertion.{found-row}
+use Rattle.insert_on_top.specs.OnTop.{whole-ready, found-ready}
+use Rattle.insert_on_top.specs.TopCalls.{top-none, top-found}
+use borrow.Author.Needs.{needs}
+use Rattle.insert_on_top.proofs.insert_rows_on_top.Statement.{statement}
+use Rattle.insert_on_top.proofs.insert_rows_on_top.Tie as tie
+use Rattle.insert_on_top.proofs.insert_rows_on_top.Reads as reads
+use Rattle.insert_on_top.proofs.insert_rows_on_top.Lts as lts
+use Rattle.insert_on_top.proofs.add_on_top.Reads as add-on-top-reads
+use Rattle.insert_row.proofs.key_for.Reads as key-for-reads
+use Rattle.rows.proofs.find.Reads as find-reads
+
+key-for-requires : tie.Need-key-for-requires
+key-for-requires c κs = search needs
+
+find-requires : tie.Need-find-requires
+find-requires c κs = search needs
+
+enum-known-i : tie.Need-enum-known-i
+enum-known-i c = search needs
+
+enum-told : tie.Need-enum-told
+enum-told c = search needs
+
+add-on-top-requires : tie.Need-add-on-top-requires
+add-on-top-requires c κs =
+    let start = c .before .before .before .before .before .before .before .before .before .before .before .before in
+    let a = start .args in
+    let h = start .pre in
+    let k = whole-ready (not (a .left)) (a .chunks .now) (a .pieces .now) (a .store .now) (a .text .now) (a .l) h in
+    (omega (arith, h .readable .linked .room), (h .lent-pieces, (k .0, k .1)))
+
+same-length : tie.Need-same-length
+same-length c = search needs
+
+same-length-2 : tie.Need-same-length-2
+same-length-2 c = search needs
+
+same-length-3 : tie.Need-same-length-3
+same-length-3 c = search needs
+
+returns : tie.Need-returns
+returns c =
+    let start = c .before .before .before .before .before .before .before .before .before .before .before .before .before .before .before .before .before .before .before in
+    let key-for = c .before .before .before .before .before .before .before .before .before .before .before .before .before .key-for in
+    let enum-told = c .before .before .before .before .before .before .before .before .before .before .enum-told in
+    let find = c .before .before .before .before .before .before .before .before .before .before .before .before .find in
+    let add-on-top = c .before .before .before .before .before .before .add-on-top in
+    let a = start .args in
+    let w = subst (FoundIn (meets (key-for .result) (a .q)) (a .chunks .now)) (enum-told .given .1) (find .ensures) in
+    top-none (a .left) (a .front) (a .q) (a .text .now) (a .pieces .now) (a .store .now) (a .chunks .now) _ _ _ (a .l) (start .pre) (add-on-top .kept .0) (rw (key-for .ensures) at w) (add-on-top .ensures)
+
+add-on-top-requires-2 : tie.Need-add-on-top-requires-2
+add-on-top-requires-2 c κs =
+    let start = c .before .before .before .before .before .before .before .before .before .before .before .before .before in
+    let key-for = c .before .before .before .before .before .before .before .key-for in
+    let i = c .before .before .before .before .i in
+    let find = c .before .before .before .before .before .before .find in
+    let a = start .args in
+    let h = start .pre in
+    let w = subst (FoundIn (meets (key-for .result) (a .q)) (a .chunks .now)) (i .given .1) (find .ensures) in
+    let k = found-ready (a .left) (meets (key-for .result) (a .q)) (a .chunks .now) (a .pieces .now) (a .store .now) (a .text .now) (i .given .0 .0) (a .l) w h in
+    (found-row (meets (key-for .result) (a .q)) (a .chunks .now) (a .pieces .now) (a .store .now) (i .given .0 .0) w (h .readable .linked), (h .lent-pieces, (k .0, k .1)))
+
+same-length-4 : tie.Need-same-length-4
+same-length-4 c = search needs
+
+same-length-5 : tie.Need-same-length-5
+same-length-5 c = search needs
+
+same-length-6 : tie.Need-same-length-6
+same-length-6 c = search needs
+
+returns-2 : tie.Need-returns-2
+returns-2 c =
+    let start = c .before .before .before .before .before .before .before .before .before .before .before .before .before .before .before .before .before .before .before .before in
+    let key-for = c .before .before .before .before .before .before .before .before .before .before .before .before .before .before .key-for in
+    let i = c .before .before .before .before .before .before .before .before .before .before .before .i in
+    let find = c .before .before .before .before .before .before .before .before .before .before .before .before .before .find in
+    let add-on-top2 = c .before .before .before .before .before .before .add-on-top2 in
+    let a = start .args in
+    let w = subst (FoundIn (meets (key-for .result) (a .q)) (a .chunks .now)) (i .given .1) (find .ensures) in
+    top-found (a .left) (a .front) (a .q) (a .text .now) (a .pieces .now) (a .store .now) (a .chunks .now) _ _ _ (a .l) (start .pre) (add-on-top2 .kept .0) (i .given .0 .0) (rw (key-for .ensures) at w) (add-on-top2 .ensures)
+
+pub insert-rows-on-top-spec : {M : Type 1} → statement M
+insert-rows-on-top-spec =
+    tie.close
+    (tie.spec
+    key-for-requires
+    find-requires
+    enum-known-i
+    enum-told
+    add-on-top-requires
+    same-length
+    same-length-2
+    same-length-3
+    returns
+    add-on-top-requires-2
+    same-length-4
+    same-length-5
+    same-length-6
+    returns-2)

@@ -1,0 +1,93 @@
+// A piece more at the front or the back of a chunk's intro or outro, or of the head or the tail: on the lent tables themselves.
+ghost use mathlib.Core.Path.{_≡_};
+ghost use Prim.Native.Nat.{_+_, _*_, _≤_};
+ghost use lib.ListN.{length, take};
+ghost use Rattle.table.specs.Order.{entryAt, countOf};
+ghost use Rattle.memory.specs.WellFormed.{RunIn, WellFormed};
+ghost use Rattle.insert_row.specs.Piece.{side};
+ghost use Rattle.insert_row.specs.Calls.{InsertRan};
+ghost use Rattle.on_top.specs.Live.{LiveOf, Room};
+ghost use Rattle.on_top.specs.Run.{TopRoom};
+ghost use Rattle.insert_on_top.specs.OnTop.{AddedOnTop, TopReady};
+ghost use Rattle.insert_on_top.specs.TopCalls.{InsertedTop};
+use on_top::Used;
+use rows::Found;
+
+// A text more in front of row i's outro or intro, or behind it, on top of the lent tables: the run's rows are copied to `row`, the text goes to `byte`.
+pub fn add_on_top(
+    chunks: &mut [u32],
+    pieces: &mut [u32],
+    store: &mut [u8],
+    text: &[u8],
+    i: u32,
+    outro: bool,
+    front: bool,
+    row: usize,
+    byte: usize,
+)
+    requires { ⌜ i * 12 + 12 ≤ length (now chunks) ⌝ }
+    requires { ⌜ length (now pieces) ≡ 4096 ⌝ }
+    requires { ⌜ TopRoom (side outro (entryAt (now chunks) i)) (now text) (now pieces) (now store) row byte ⌝ }
+    requires { ⌜ RunIn (take (row * 2) (now pieces)) (take byte (now store)) (side outro (entryAt (now chunks) i)) ⌝ }
+    ensures { λ _. ⌜ AddedOnTop outro front (now (text .entry)) row byte (now (pieces .entry)) (now (store .entry)) (now (chunks .entry))
+        (now (chunks .exit)) (now (pieces .exit)) (now (store .exit)) i ⌝ }
+{
+    let r = table::get_row(chunks, i);
+    let run = insert_row::run_of(r, outro);
+    on_top::lengthen(pieces, store, text, front, run.at, run.n, row, byte);
+    table::put_row(
+        chunks,
+        i,
+        insert_row::with_run(r, outro, row as u32, run.n + 1),
+    );
+}
+
+// As `insert_rows`, on top of the lent tables.
+fn insert_rows_on_top(
+    chunks: &mut [u32],
+    pieces: &mut [u32],
+    store: &mut [u8],
+    text: &[u8],
+    q: u32,
+    left: bool,
+    front: bool,
+    l: Used,
+)
+    requires { ⌜ TopReady (now chunks) (now pieces) (now store) (now text) l ⌝ }
+    ensures { λ _. ⌜ InsertedTop left front q (now (text .entry)) (l .row) (l .byte) (now (chunks .entry)) (now (pieces .entry)) (now (store .entry))
+        (now (chunks .exit)) (now (pieces .exit)) (now (store .exit)) ⌝ }
+{
+    let row = l.row;
+    let byte = l.byte;
+    let Found::At(i) = rows::find(chunks, insert_row::key_for(left), q) else {
+        add_on_top(chunks, pieces, store, text, 0, !left, front, row, byte);
+        return;
+    };
+    add_on_top(chunks, pieces, store, text, i, left, front, row, byte);
+}
+
+// The cut and the piece on the lent tables themselves, where no limit can be passed and there is room.
+pub fn insert_on_top(
+    source: &[u8],
+    chunks: &mut [u32],
+    pieces: &mut [u32],
+    store: &mut [u8],
+    text: &[u8],
+    q: u32,
+    left: bool,
+    front: bool,
+    l: Used,
+) -> u32
+    requires { ⌜ WellFormed (now source) (now chunks) (now pieces) (now store) ⌝ }
+    requires { ⌜ LiveOf (now chunks) (now pieces) (now store) l ⌝ }
+    requires { ⌜ Room l (countOf (now chunks) + 1) (length (now text)) ⌝ }
+    ensures { λ r. ⌜ InsertRan left front q (now (text .entry)) (now (source .entry)) (now (chunks .entry)) (now (pieces .entry)) (now (store .entry))
+        (now (chunks .exit)) (now (pieces .exit)) (now (store .exit)) r ⌝ }
+{
+    let r = split::split_at(chunks, q);
+    if r != 0 {
+        return r;
+    }
+    insert_rows_on_top(chunks, pieces, store, text, q, left, front, l);
+    0
+}

@@ -1,0 +1,184 @@
+-- The insertions past their tests: the cut, the search and the piece, and the call that they make.
+use mathlib.Core.Path.{_≡_, refl, sym, ap, ap₂, _∙_, subst}
+use mathlib.Core.Bool.{Bool, true, false, not, cond, and-false}
+use mathlib.Core.List.{List, [], _∷_, _++_, map}
+use mathlib.Core.Option.{Option, none, some}
+use mathlib.Core.Logic.{_⊎_, inl, inr, ⊎-elim}
+use Prim.Native.Nat.{ℕ, _+_, _*_, _≤_, _<_}
+use native.Mathlib.Omega.{arith}
+use lib.Dec.{ltb, leb, eqb}
+use lib.ListN.{length, length-append}
+use borrow.Author.Tests.{lt-leb}
+use Rattle.utf8.specs.Chars.{All, nil, cons}
+use Rattle.table.specs.Order.{Entry, entryAt, entries, order, countOf, Linked, inside-at}
+use Rattle.model.specs.Text.{Text, sum}
+use Rattle.model.specs.Chunk.{Chunk, Texts, with-texts, start-of, end-of}
+use Rattle.model.specs.MagicString.{MagicString, Result, ok, err, and-then, with-chunks, with-intro, with-outro, by-start, by-end, at-start, at-end, split-at}
+use Rattle.model.specs.Limits.{full, within, chunk-bytes, byte-count, piece-count}
+use Rattle.model.specs.Call.{Edit, steps, refused-before}
+use Rattle.model.specs.Lists.{sum-append}
+use Rattle.memory.specs.Layout.{magicStringOf}
+use Rattle.memory.specs.WellFormed.{Readable, WellFormed}
+use Rattle.memory.specs.Calls.{idle, may-write, Ran}
+use Rattle.texts.specs.Carry.{withText}
+use Rattle.rebuild.specs.Rebuilt.{Finished}
+use Rattle.frame.specs.Front.{desk-front}
+use Rattle.frame.specs.Loaded.{Loaded}
+use Rattle.frame.specs.Frame.{Scratch, Did, loaded-readable, loaded-desk, ran-finished, ran-past-limits, may-write-0, may-write-6}
+use Rattle.split.specs.Lift.{DeskSmall, desk-small}
+use Rattle.split.specs.Cuts.{Spans, CutsDone, CutsLeave, loaded-spans, stop}
+use Rattle.insert_row.specs.Piece.{Spare, LongScratch, loaded-spare}
+use Rattle.insert_row.specs.Insertion.{add-to, whole-add, insert-step, insert-at}
+
+-- ── the piece behind the cut ──
+abbrev pub Inserted : Bool → Bool → ℕ → List ℕ → List ℕ → List ℕ → List ℕ → List ℕ → List ℕ → List ℕ → Type 0
+Inserted left front q text t p s t' p' s' = (source : List ℕ) → Did (insert-step left front q text) source t p s t' p' s' 0
+
+pub record InsertSteps (left front : Bool) (q : ℕ) (text p s t t' p' s' : List ℕ) (r : ℕ) : Type 0 where
+  pub leave : (r ≡ 13 → ⊥) → (source : List ℕ) → Spans source t p s → Did (insert-at left front q text) source t p s t' p' s' r
+  pub long : r ≡ 13 → (source : List ℕ) → Spans source t p s → within full (insert-at left front q text (magicStringOf source t p s) .desk) ≡ false
+  pub number : (r ≡ 0) ⊎ ((r ≡ 6) ⊎ (r ≡ 13))
+
+-- ── a text longer than the store ──
+pub with-sum : (front : Bool) (t : Text) (ts : List Text) → sum length (withText front t ts) ≡ length t + sum length ts
+with-sum true t ts = refl
+with-sum false t ts = sum-append length ts (t ∷ []) ∙ omega arith
+
+pub past-bytes : (m : MagicString) → 32768 < byte-count m → within full m ≡ false
+unfolding within
+past-bytes m h =
+    rw (lt-leb (byte-count m) 32768 h, and-false (leb (piece-count m) 1024), and-false (leb (length (m .chunks)) 512), and-false (leb (length (m .source)) 16384))
+
+module _ (q n : ℕ) (f : Texts → Texts) (big : (c : Chunk) → n ≤ chunk-bytes (with-texts f c)) where
+  end-big : (cs : List Chunk) (d : Chunk) → by-end q cs ≡ some d → n ≤ sum chunk-bytes (at-end q f cs)
+  end-big [] d e = let z : _≡_ {A = ℕ} 0 1 = cc in absurd (omega arith)
+  end-big (c ∷ cs) d e = go (end-big cs d) (eqb (end-of c) q) refl
+    where
+      go : (by-end q cs ≡ some d → n ≤ sum chunk-bytes (at-end q f cs)) → (b : Bool) → eqb (end-of c) q ≡ b → n ≤ sum chunk-bytes (at-end q f (c ∷ cs))
+      go ih true k = rw k (omega (arith, big c))
+      go ih false k = rw k (omega (arith, ih (rw k at e)))
+
+  start-big : (cs : List Chunk) (d : Chunk) → by-start q cs ≡ some d → n ≤ sum chunk-bytes (at-start q f cs)
+  start-big [] d e = let z : _≡_ {A = ℕ} 0 1 = cc in absurd (omega arith)
+  start-big (c ∷ cs) d e = go (start-big cs d) (eqb (start-of c) q) refl
+    where
+      go : (by-start q cs ≡ some d → n ≤ sum chunk-bytes (at-start q f cs)) → (b : Bool) → eqb (start-of c) q ≡ b → n ≤ sum chunk-bytes (at-start q f (c ∷ cs))
+      go ih true k = rw k (omega (arith, big c))
+      go ih false k = rw k (omega (arith, ih (rw k at e)))
+
+add-big : (outro front : Bool) (t : Text) (c : Chunk) → length t ≤ chunk-bytes (with-texts (add-to outro front t) c)
+add-big true front t c = omega (arith, with-sum front t (c .texts .outro))
+add-big false front t c = omega (arith, with-sum front t (c .texts .intro))
+
+pub whole-big : (outro front : Bool) (t : Text) (m : MagicString) → length t ≤ byte-count (whole-add outro front t m)
+whole-big true front t m = omega (arith, with-sum front t (m .outro))
+whole-big false front t m = omega (arith, with-sum front t (m .intro))
+
+step-big : (left front : Bool) (q : ℕ) (t : Text) (m : MagicString) → length t ≤ byte-count (insert-step left front q t m .desk)
+step-big true front q t m = go (by-end q (m .chunks)) refl
+  where
+    go : (o : Option Chunk) → by-end q (m .chunks) ≡ o
+        → length t ≤ byte-count (elim o as (λ _. Result) [ none ↦ ok (with-intro m (withText front t (m .intro))) | some c ↦ ok (with-chunks m (at-end q (add-to true front t) (m .chunks))) ] .desk)
+    go none e = whole-big false front t m
+    go (some d) e = omega (arith, end-big q (length t) (add-to true front t) (add-big true front t) (m .chunks) d e)
+step-big false front q t m = go (by-start q (m .chunks)) refl
+  where
+    go : (o : Option Chunk) → by-start q (m .chunks) ≡ o
+        → length t ≤ byte-count (elim o as (λ _. Result) [ none ↦ ok (with-outro m (withText front t (m .outro))) | some c ↦ ok (with-chunks m (at-start q (add-to false front t) (m .chunks))) ] .desk)
+    go none e = whole-big true front t m
+    go (some d) e = omega (arith, start-big q (length t) (add-to false front t) (add-big false front t) (m .chunks) d e)
+
+-- ── the three ends of the steps ──
+pub six : {r : ℕ} → (r ≡ 0) ⊎ (r ≡ 6) → (r ≡ 0 → ⊥) → r ≡ 6
+six (inl h) n = absurd (n h)
+six (inr h) n = h
+
+module _ (left front : Bool) (q : ℕ) (text p s t t1 p1 s1 : List ℕ) (r : ℕ) (h : Readable t p s) (sp : Spare p s p1 s1) (c : CutsDone (q ∷ []) t t1 r) where
+  pub steps-refused : (r ≡ 0 → ⊥) → InsertSteps left front q text p s t t1 p1 s1 r
+  steps-refused n =
+      record {
+        leave = λ _ source v.
+            let k = c .leave source p s h v in
+            let g = desk-front p s (sp .behind) (sp .after) t1 (k .readable) in
+            record {
+              readable = rw (sp .pieces, sp .store) (g .0);
+              result = k .result (insert-step left front q text) ∙ stop r (magicStringOf source t1 p s) (insert-step left front q text) n ∙ ap (err r) (rw (sp .pieces, sp .store) (sym (g .1 source)));
+            };
+        long = λ z. absurd (omega (arith, six (c .number) n));
+        number = inr (inl (six (c .number) n));
+      }
+
+  module _ (z : r ≡ 0) where
+    cut-made : (source : List ℕ) → Spans source t p s → insert-at left front q text (magicStringOf source t p s) ≡ insert-step left front q text (magicStringOf source t1 p s)
+    cut-made source v =
+        c .leave source p s h v .result (insert-step left front q text) ∙ ap (λ (n : ℕ). and-then (err n (magicStringOf source t1 p s)) (insert-step left front q text)) z
+
+    pub steps-long : 32768 < length text → InsertSteps left front q text p s t t1 p1 s1 13
+    steps-long l =
+        record {
+          leave = λ n. absurd (n refl);
+          long = λ _ source v.
+              ap (λ (x : Result). within full (x .desk)) (cut-made source v)
+              ∙ past-bytes (insert-step left front q text (magicStringOf source t1 p s) .desk) (omega (arith, step-big left front q text (magicStringOf source t1 p s)));
+          number = inr (inr refl);
+        }
+
+    pub steps-done : (t' p' s' : List ℕ) → Inserted left front q text t1 p s t' p' s' → InsertSteps left front q text p s t t' p' s' 0
+    steps-done t' p' s' d =
+        record {
+          leave = λ _ source v. record { readable = d source .readable; result = cut-made source v ∙ d source .result };
+          long = λ y. absurd (omega arith);
+          number = inl refl;
+        }
+
+-- ── the call, for any of the four ──
+abbrev pub InsertRan : Bool → Bool → ℕ → List ℕ → List ℕ → List ℕ → List ℕ → List ℕ → List ℕ → List ℕ → List ℕ → ℕ → Type 0
+InsertRan left front q text source t p s t' p' s' r =
+    (e : Edit) → refused-before (magicStringOf source t p s) e ≡ 0
+    → ((m : MagicString) → steps e m ≡ insert-at left front q text m) → idle e ≡ false
+    → Ran e source t p s t' p' s' r
+
+module _ {left front : Bool} {q : ℕ} {text source t p s t₀ p₀ s₀ t1 p1 s1 t2 p2 s2 : List ℕ} {r : ℕ} (w : WellFormed source t p s) (f : LongScratch t₀ p₀ s₀)
+    (d : Loaded t p s t₀ p₀ s₀ t1 p1 s1) (x : InsertSteps left front q text p s t1 t2 p2 s2 r) where
+  pub insert-readable : (r ≡ 13 → ⊥) → Readable t2 p2 s2
+  insert-readable n = x .leave n source (loaded-spans w (f .scratch) d) .readable
+
+  pub insert-long : r ≡ 13 → InsertRan left front q text source t p s t p s 13
+  insert-long z e h q' i =
+      ran-past-limits e source t p s w h
+      (ap (λ (y : Result). within full (y .desk)) (q' (magicStringOf source t p s) ∙ ap (insert-at left front q text) (sym (loaded-desk w (f .scratch) d)))
+      ∙ x .long z source (loaded-spans w (f .scratch) d))
+
+  pub insert-ran : {t' p' s' : List ℕ} {r' : ℕ} → (r ≡ 13 → ⊥) → Finished t2 p2 s2 t p s t' p' s' r r' → InsertRan left front q text source t p s t' p' s' r'
+  insert-ran n y e h q' i =
+      let g = x .leave n source (loaded-spans w (f .scratch) d) in
+      let may = ⊎-elim {C = may-write e r ≡ true} (λ (z : r ≡ 0). rw z (may-write-0 e i))
+      (λ (u : (r ≡ 6) ⊎ (r ≡ 13)). ⊎-elim {C = may-write e r ≡ true} (λ (z : r ≡ 6). rw z (may-write-6 e)) (λ (z : r ≡ 13). absurd (n z)) u) (x .number) in
+      ran-finished w h
+      (record { readable = g .readable; result = q' (magicStringOf source t p s) ∙ ap (insert-at left front q text) (sym (loaded-desk w (f .scratch) d)) ∙ g .result }) may y
+
+-- ── head and tail ──
+abbrev pub WholeRan : Bool → Bool → List ℕ → List ℕ → List ℕ → List ℕ → List ℕ → List ℕ → List ℕ → List ℕ → ℕ → Type 0
+WholeRan outro front text source t p s t' p' s' r =
+    (e : Edit) → refused-before (magicStringOf source t p s) e ≡ 0
+    → ((m : MagicString) → steps e m ≡ ok (whole-add outro front text m)) → idle e ≡ false
+    → Ran e source t p s t' p' s' r
+
+module _ (outro front : Bool) (text : List ℕ) {source t p s : List ℕ} (w : WellFormed source t p s) where
+  pub whole-long : 32768 < length text → WholeRan outro front text source t p s t p s 13
+  whole-long l e h q i =
+      let m = magicStringOf source t p s in
+      ran-past-limits e source t p s w h (ap (λ (y : Result). within full (y .desk)) (q m) ∙ past-bytes (whole-add outro front text m) (omega (arith, whole-big outro front text m)))
+
+  pub whole-ran : {t₀ p₀ s₀ t1 p1 s1 t2 p2 s2 t' p' s' : List ℕ} {r' : ℕ} → LongScratch t₀ p₀ s₀ → Loaded t p s t₀ p₀ s₀ t1 p1 s1
+      → ((source : List ℕ) → Did (λ m. ok (whole-add outro front text m)) source t1 p s t2 p2 s2 0) → Finished t2 p2 s2 t p s t' p' s' 0 r'
+      → WholeRan outro front text source t p s t' p' s' r'
+  whole-ran f d x y e h q i =
+      let g = x source in
+      ran-finished w h
+      (record { readable = g .readable; result = q (magicStringOf source t p s) ∙ ap (λ (m : MagicString). ok (whole-add outro front text m)) (sym (loaded-desk w (f .scratch) d)) ∙ g .result })
+      (may-write-0 e i) y
+
+-- what the loaded rows and the lent tables give the piece
+pub loaded-small : {source t p s t₀ p₀ s₀ t1 p1 s1 : List ℕ} → WellFormed source t p s → LongScratch t₀ p₀ s₀ → Loaded t p s t₀ p₀ s₀ t1 p1 s1 → DeskSmall t1 p s
+loaded-small {source} {p = p} {s = s} {t1 = t1} w f d = desk-small source t1 p s (ap (within full) (loaded-desk w (f .scratch) d) ∙ w .desk .limits)

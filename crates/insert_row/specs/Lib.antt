@@ -1,0 +1,3 @@
+pub mod Piece
+pub mod Insertion
+pub mod Calls

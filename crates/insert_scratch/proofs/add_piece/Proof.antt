@@ -1,0 +1,91 @@
+use mathlib.Core.Path.{_≡_, refl, sym, ap, _∙_, subst}
+use Prim.Native.Nat.{ℕ, _+_}
+use native.Mathlib.Omega.{arith}
+use lib.ListN.{length}
+use Rattle.table.specs.declared.Row.{Row}
+use Rattle.table.specs.Table.{rowAt, Put}
+use Rattle.table.specs.Order.{entryOf, entryAt}
+use Rattle.memory.specs.Layout.{Place, runOf}
+use Rattle.memory.specs.WellFormed.{RunIn}
+use Rattle.texts.specs.Texts.{run-length}
+use Rattle.split.specs.Lift.{RunSmall}
+use Rattle.insert_row.specs.Piece.{side, with-side, spare-room, piece-added}
+use borrow.Author.Needs.{needs}
+use Rattle.insert_scratch.proofs.add_piece.Statement.{statement}
+use Rattle.insert_scratch.proofs.add_piece.Tie as tie
+use Rattle.insert_scratch.proofs.add_piece.Reads as reads
+use Rattle.insert_scratch.proofs.add_piece.Lts as lts
+use Rattle.insert_row.proofs.run_of.Reads as run-of-reads
+use Rattle.insert_row.proofs.with_run.Reads as with-run-reads
+use Rattle.table.proofs.get_row.Reads as get-row-reads
+use Rattle.table.proofs.put_row.Reads as put-row-reads
+use Rattle.carry_with.proofs.carry_with.Reads as carry-with-reads
+
+get-row-requires : tie.Need-get-row-requires
+get-row-requires c κs = search needs
+
+run-of-requires : tie.Need-run-of-requires
+run-of-requires c κs = search needs
+
+carry-with-requires : tie.Need-carry-with-requires
+carry-with-requires c κs =
+    let start = c .before .before .before .before .before .before .before .before .before .before .before in
+    let run-of = c .before .before .run-of in
+    let get-row = c .before .before .before .get-row in
+    let a = start .args in
+    let e : _≡_ {A = Place} (run-of .result .at, run-of .result .n) (side (a .outro) (entryAt (a .t .now) (a .i))) = run-of .ensures ∙ ap (λ (r : Row). side (a .outro) (entryOf r)) (get-row .ensures) in
+    (subst (RunIn (a .pieces .now) (a .store .now)) (sym e) (start .pre .1 .0), spare-room (a .front) (a .text .now) (run-of .result .at, run-of .result .n) (start .pre .1 .1 .1 .0) (subst (RunSmall (a .pieces .now) (a .store .now)) (sym e) (start .pre .1 .1 .0)) (start .pre .1 .1 .1 .1))
+
+add-with-run : tie.Need-add-with-run
+add-with-run c =
+    let start = c .before .before .before .before .before .before .before .before .before .before .before .before .before .before .before .before .before .before in
+    let run-of = c .before .before .before .before .before .before .before .before .before .run-of in
+    let get-row = c .before .before .before .before .before .before .before .before .before .before .get-row in
+    let a = start .args in
+    let e : _≡_ {A = Place} (run-of .result .at, run-of .result .n) (side (a .outro) (entryAt (a .t .now) (a .i))) = run-of .ensures ∙ ap (λ (r : Row). side (a .outro) (entryOf r)) (get-row .ensures) in
+    let k = subst (RunSmall (a .pieces .now) (a .store .now)) (sym e) (start .pre .1 .1 .0) in
+    omega (arith, k .pieces, run-length (a .pieces .now) (a .store .now) (run-of .result .at) (run-of .result .n))
+
+with-run-requires : tie.Need-with-run-requires
+with-run-requires c κs = search needs
+
+put-row-requires : tie.Need-put-row-requires
+put-row-requires c κs =
+    let start = c .before .before .before .before .before .before .before .before .before .before .before .before .before .before .before .before .before .before .before in
+    omega (arith, start .pre .0)
+
+same-length : tie.Need-same-length
+same-length c = search needs
+
+same-length-2 : tie.Need-same-length-2
+same-length-2 c = search needs
+
+same-length-3 : tie.Need-same-length-3
+same-length-3 c = search needs
+
+returns : tie.Need-returns
+returns c =
+    let start = c .before .before .before .before .before .before .before .before .before .before .before .before .before .before .before .before .before .before .before .before .before .before in
+    let get-row = c .before .before .before .before .before .before .before .before .before .before .before .before .before .before .get-row in
+    let run-of = c .before .before .before .before .before .before .before .before .before .before .before .before .before .run-of in
+    let carry-with = c .before .before .before .before .before .before .before .before .before .before .carry-with in
+    let with-run = c .before .before .before .with-run in
+    let put-row = c .before .before .put-row in
+    let a = start .args in
+    piece-added (a .outro) (a .front) (a .text .now) (a .i) (get-row .result) (run-of .result) (get-row .ensures) (run-of .ensures) (start .pre .1 .1 .0) (start .pre .1 .1 .1 .0) (start .pre .1 .1 .1 .1) (carry-with .ensures)
+    (with-run .ensures) (put-row .ensures)
+
+pub add-piece-spec : {M : Type 1} → statement M
+add-piece-spec =
+    tie.close
+    (tie.spec
+    get-row-requires
+    run-of-requires
+    carry-with-requires
+    add-with-run
+    with-run-requires
+    put-row-requires
+    same-length
+    same-length-2
+    same-length-3
+    returns)

@@ -1,0 +1,107 @@
+use native.Mathlib.Omega.{arith}
+use Rattle.frame.specs.Frame.{loaded-roomy, loaded-readable}
+use Rattle.insert_row.specs.Piece.{loaded-spare}
+use Rattle.insert_row.specs.Calls.{loaded-small, insert-readable, insert-long, insert-ran}
+use borrow.Author.Needs.{needs}
+use Rattle.insert_scratch.proofs.insert_by.Statement.{statement}
+use Rattle.insert_scratch.proofs.insert_by.Tie as tie
+use Rattle.insert_scratch.proofs.insert_by.Reads as reads
+use Rattle.insert_scratch.proofs.insert_by.Lts as lts
+use Rattle.frame.proofs.finish.Reads as finish-reads
+use Rattle.frame.proofs.load.Reads as load-reads
+use Rattle.insert_scratch.proofs.insert_steps.Reads as insert-steps-reads
+
+load-requires : tie.Need-load-requires
+load-requires c κs =
+    let start = c .before .before .before .before .before .before .before .before .before .before .before .before .before .before in
+    (omega (arith, start .pre .0 .sized .chunks, start .pre .1 .scratch .chunks), omega (arith, start .pre .0 .sized .pieces, start .pre .1 .pieces), omega (arith, start .pre .0 .sized .store, start .pre .1 .store))
+
+insert-steps-requires : tie.Need-insert-steps-requires
+insert-steps-requires c κs =
+    let start = c .before .before .before .before .before .before .before .before .before .before .before .before .before .before .before .before .before .before .before .before .before .before .before .before .before .before in
+    let load = c .before .before .before .before .before .before .before .before .before .before .before .load in
+    let y = loaded-roomy (start .pre .0) (start .pre .1 .scratch) (load .ensures) in
+    (record { linked = y .linked; room = omega (arith, y .room); narrow = y .narrow }, (loaded-readable (start .pre .0) (start .pre .1 .scratch) (load .ensures), (loaded-small (start .pre .0) (start .pre .1) (load .ensures), loaded-spare (start .pre .0) (start .pre .1) (load .ensures))))
+
+same-length : tie.Need-same-length
+same-length c = search needs
+
+same-length-2 : tie.Need-same-length-2
+same-length-2 c = search needs
+
+same-length-3 : tie.Need-same-length-3
+same-length-3 c = search needs
+
+same-length-4 : tie.Need-same-length-4
+same-length-4 c = search needs
+
+same-length-5 : tie.Need-same-length-5
+same-length-5 c = search needs
+
+same-length-6 : tie.Need-same-length-6
+same-length-6 c = search needs
+
+returns : tie.Need-returns
+returns c =
+    let start = c .before .before .before .before .before .before .before .before .before .before .before .before .before .before .before .before .before .before .before .before .before .before .before .before .before .before .before .before .before .before .before .before .before .before in
+    let load = c .before .before .before .before .before .before .before .before .before .before .before .before .before .before .before .before .before .before .before .load in
+    let insert-steps = c .before .before .before .before .before .before .before .insert-steps in
+    let if1 = c .if1 in
+    insert-long (start .pre .0) (start .pre .1) (load .ensures) (insert-steps .ensures) (if1 .taken)
+
+finish-requires : tie.Need-finish-requires
+finish-requires c κs =
+    let start = c .before .before .before .before .before .before .before .before .before .before .before .before .before .before .before .before .before .before .before .before .before .before .before .before .before .before .before .before .before .before .before .before .before .before .before .before .before .before .before .before in
+    let load = c .before .before .before .before .before .before .before .before .before .before .before .before .before .before .before .before .before .before .before .before .before .before .before .before .before .load in
+    let insert-steps = c .before .before .before .before .before .before .before .before .before .before .before .before .before .insert-steps in
+    let if1 = c .before .before .before .before .before .before .if1 in
+    (insert-readable (start .pre .0) (start .pre .1) (load .ensures) (insert-steps .ensures) (if1 .left), start .pre .0 .sized)
+
+same-length-7 : tie.Need-same-length-7
+same-length-7 c = search needs
+
+same-length-8 : tie.Need-same-length-8
+same-length-8 c = search needs
+
+same-length-9 : tie.Need-same-length-9
+same-length-9 c = search needs
+
+same-length-10 : tie.Need-same-length-10
+same-length-10 c = search needs
+
+same-length-11 : tie.Need-same-length-11
+same-length-11 c = search needs
+
+same-length-12 : tie.Need-same-length-12
+same-length-12 c = search needs
+
+returns-2 : tie.Need-returns-2
+returns-2 c =
+    let start = c .before .before .before .before .before .before .before .before .before .before .before .before .before .before .before .before .before .before .before .before .before .before .before .before .before .before .before .before .before .before .before .before .before .before .before .before .before .before .before .before .before .before .before .before .before .before .before in
+    let load = c .before .before .before .before .before .before .before .before .before .before .before .before .before .before .before .before .before .before .before .before .before .before .before .before .before .before .before .before .before .before .before .before .load in
+    let insert-steps = c .before .before .before .before .before .before .before .before .before .before .before .before .before .before .before .before .before .before .before .before .insert-steps in
+    let if1 = c .before .before .before .before .before .before .before .before .before .before .before .before .before .if1 in
+    let finish = c .before .before .before .before .before .before .finish in
+    insert-ran (start .pre .0) (start .pre .1) (load .ensures) (insert-steps .ensures) (if1 .left) (finish .ensures)
+
+pub insert-by-spec : {M : Type 1} → statement M
+insert-by-spec =
+    tie.close
+    (tie.spec
+    load-requires
+    insert-steps-requires
+    same-length
+    same-length-2
+    same-length-3
+    same-length-4
+    same-length-5
+    same-length-6
+    returns
+    finish-requires
+    same-length-7
+    same-length-8
+    same-length-9
+    same-length-10
+    same-length-11
+    same-length-12
+    returns-2)

@@ -1,0 +1,63 @@
+use mathlib.Core.Path.{sym}
+use native.Mathlib.Omega.{arith}
+use Rattle.frame.specs.Frame.{zeros-length, zeros-at}
+use borrow.Author.Needs.{needs}
+use Rattle.insert_scratch.proofs.insert_scratch.Statement.{statement}
+use Rattle.insert_scratch.proofs.insert_scratch.Tie as tie
+use Rattle.insert_scratch.proofs.insert_scratch.Reads as reads
+use Rattle.insert_scratch.proofs.insert_scratch.Lts as lts
+use Rattle.insert_scratch.proofs.insert_by.Reads as insert-by-reads
+
+array-borrow-prefix-t : tie.Need-array-borrow-prefix-t
+array-borrow-prefix-t c = search needs
+
+slice-aggregate-insert-by : tie.Need-slice-aggregate-insert-by
+slice-aggregate-insert-by c =
+    sym (zeros-length 6192 6192 (omega arith))
+
+array-borrow-prefix-p : tie.Need-array-borrow-prefix-p
+array-borrow-prefix-p c = search needs
+
+slice-aggregate-insert-by-2 : tie.Need-slice-aggregate-insert-by-2
+slice-aggregate-insert-by-2 c =
+    sym (zeros-length 6146 6146 (omega arith))
+
+array-borrow-prefix-s : tie.Need-array-borrow-prefix-s
+array-borrow-prefix-s c = search needs
+
+slice-aggregate-insert-by-3 : tie.Need-slice-aggregate-insert-by-3
+slice-aggregate-insert-by-3 c =
+    sym (zeros-length 98304 98304 (omega arith))
+
+insert-by-requires : tie.Need-insert-by-requires
+insert-by-requires c κs =
+    let start = c .before .before .before .before .before .before .before .before .before .before .before in
+    (start .pre, record { scratch = record { chunks = zeros-length 6192 6192 (omega arith); clear = zeros-at 6192 6192; pieces = rw (zeros-length 6146 6146 (omega arith)) (omega arith); store = rw (zeros-length 98304 98304 (omega arith)) (omega arith) }; pieces = zeros-length 6146 6146 (omega arith); store = zeros-length 98304 98304 (omega arith) })
+
+same-length : tie.Need-same-length
+same-length c = search needs
+
+same-length-2 : tie.Need-same-length-2
+same-length-2 c = search needs
+
+same-length-3 : tie.Need-same-length-3
+same-length-3 c = search needs
+
+returns : tie.Need-returns
+returns c = search needs
+
+pub insert-scratch-spec : {M : Type 1} → statement M
+insert-scratch-spec =
+    tie.close
+    (tie.spec
+    array-borrow-prefix-t
+    slice-aggregate-insert-by
+    array-borrow-prefix-p
+    slice-aggregate-insert-by-2
+    array-borrow-prefix-s
+    slice-aggregate-insert-by-3
+    insert-by-requires
+    same-length
+    same-length-2
+    same-length-3
+    returns)

@@ -1,0 +1,80 @@
+use native.Mathlib.Omega.{arith}
+use Rattle.frame.specs.Frame.{loaded-roomy, loaded-readable}
+use Rattle.insert_row.specs.Piece.{loaded-spare}
+use Rattle.insert_row.specs.Insertion.{whole-run, whole-added}
+use Rattle.insert_row.specs.Calls.{loaded-small, whole-ran}
+use borrow.Author.Needs.{needs}
+use Rattle.insert_scratch.proofs.whole_by.Statement.{statement}
+use Rattle.insert_scratch.proofs.whole_by.Tie as tie
+use Rattle.insert_scratch.proofs.whole_by.Reads as reads
+use Rattle.insert_scratch.proofs.whole_by.Lts as lts
+use Rattle.frame.proofs.finish.Reads as finish-reads
+use Rattle.frame.proofs.load.Reads as load-reads
+use Rattle.insert_scratch.proofs.add_piece.Reads as add-piece-reads
+
+load-requires : tie.Need-load-requires
+load-requires c κs =
+    let start = c .before .before .before .before .before .before .before .before .before .before .before .before .before .before in
+    (omega (arith, start .pre .0 .sized .chunks, start .pre .1 .0 .scratch .chunks), omega (arith, start .pre .0 .sized .pieces, start .pre .1 .0 .pieces), omega (arith, start .pre .0 .sized .store, start .pre .1 .0 .store))
+
+add-piece-requires : tie.Need-add-piece-requires
+add-piece-requires c κs =
+    let start = c .before .before .before .before .before .before .before .before .before .before .before .before .before .before .before .before .before .before .before .before .before .before .before .before .before .before in
+    let load = c .before .before .before .before .before .before .before .before .before .before .before .load in
+    let a = start .args in
+    let h = loaded-readable (start .pre .0) (start .pre .1 .0 .scratch) (load .ensures) in
+    let k = whole-run (a .outro) (load .last .1 .1 .1 .0) (a .pieces .now) (a .store .now) h (loaded-small (start .pre .0) (start .pre .1 .0) (load .ensures)) in
+    (omega (arith, h .linked .room), (k .0, (k .1, (loaded-spare (start .pre .0) (start .pre .1 .0) (load .ensures), start .pre .1 .1))))
+
+finish-requires : tie.Need-finish-requires
+finish-requires c κs =
+    let start = c .before .before .before .before .before .before .before .before .before .before .before .before .before .before .before .before .before .before .before .before .before .before .before .before .before .before .before .before .before .before .before .before .before .before .before .before .before .before .before in
+    let load = c .before .before .before .before .before .before .before .before .before .before .before .before .before .before .before .before .before .before .before .before .before .before .before .before .load in
+    let add-piece = c .before .before .before .before .before .before .before .before .before .before .before .before .add-piece in
+    let a = start .args in
+    let h = loaded-readable (start .pre .0) (start .pre .1 .0 .scratch) (load .ensures) in
+    (whole-added (a .outro) (a .front) (a .text .now) (a .pieces .now) (a .store .now) _ _ _ _ h (add-piece .ensures) (add-piece .kept .1 .1 .1 .0) (a .source .now) .readable, start .pre .0 .sized)
+
+same-length : tie.Need-same-length
+same-length c = search needs
+
+same-length-2 : tie.Need-same-length-2
+same-length-2 c = search needs
+
+same-length-3 : tie.Need-same-length-3
+same-length-3 c = search needs
+
+same-length-4 : tie.Need-same-length-4
+same-length-4 c = search needs
+
+same-length-5 : tie.Need-same-length-5
+same-length-5 c = search needs
+
+same-length-6 : tie.Need-same-length-6
+same-length-6 c = search needs
+
+returns : tie.Need-returns
+returns c =
+    let start = c .before .before .before .before .before .before .before .before .before .before .before .before .before .before .before .before .before .before .before .before .before .before .before .before .before .before .before .before .before .before .before .before .before .before .before .before .before .before .before .before .before .before .before .before .before .before in
+    let load = c .before .before .before .before .before .before .before .before .before .before .before .before .before .before .before .before .before .before .before .before .before .before .before .before .before .before .before .before .before .before .before .load in
+    let add-piece = c .before .before .before .before .before .before .before .before .before .before .before .before .before .before .before .before .before .before .before .add-piece in
+    let finish = c .before .before .before .before .before .before .finish in
+    let a = start .args in
+    let h = loaded-readable (start .pre .0) (start .pre .1 .0 .scratch) (load .ensures) in
+    whole-ran (a .outro) (a .front) (a .text .now) (start .pre .0) (start .pre .1 .0) (load .ensures)
+    (whole-added (a .outro) (a .front) (a .text .now) (a .pieces .now) (a .store .now) _ _ _ _ h (add-piece .ensures) (add-piece .kept .1 .1 .1 .0)) (finish .ensures)
+
+pub whole-by-spec : {M : Type 1} → statement M
+whole-by-spec =
+    tie.close
+    (tie.spec
+    load-requires
+    add-piece-requires
+    finish-requires
+    same-length
+    same-length-2
+    same-length-3
+    same-length-4
+    same-length-5
+    same-length-6
+    returns)

@@ -1,0 +1,227 @@
+// A piece more at the front or the back of a chunk's intro or outro, or of the head or the tail: on scratch tables.
+ghost use Prim.Native.Nat.{_+_, _*_, _≤_};
+ghost use lib.ListN.{length};
+ghost use Rattle.table.specs.Order.{entryAt};
+ghost use Rattle.memory.specs.WellFormed.{RunIn, Readable, WellFormed};
+ghost use Rattle.split.specs.Lift.{RunSmall, DeskSmall};
+ghost use Rattle.frame.specs.Frame.{Roomy};
+ghost use Rattle.insert_row.specs.Piece.{side, Spare, PieceAdded, LongScratch};
+ghost use Rattle.insert_row.specs.Calls.{Inserted, InsertSteps, InsertRan, WholeRan};
+use rows::Found;
+
+// A text more in front of row i's outro or intro, or behind it: the run is copied from the lent tables to the spare room of the scratch tables.
+fn add_piece(
+    pieces: &[u32],
+    store: &[u8],
+    text: &[u8],
+    t: &mut [u32],
+    p: &mut [u32],
+    s: &mut [u8],
+    i: u32,
+    outro: bool,
+    front: bool,
+)
+    requires { ⌜ i * 12 + 12 ≤ length (now t) ⌝ }
+    requires { ⌜ RunIn (now pieces) (now store) (side outro (entryAt (now t) i)) ⌝ }
+    requires { ⌜ RunSmall (now pieces) (now store) (side outro (entryAt (now t) i)) ⌝ }
+    requires { ⌜ Spare (now pieces) (now store) (now p) (now s) ⌝ }
+    requires { ⌜ length (now text) ≤ 32768 ⌝ }
+    ensures { λ _. ⌜ PieceAdded outro front (now (text .entry)) (now (pieces .entry)) (now (store .entry)) (now (t .entry)) (now (t .exit)) (now (p .exit)) (now (s .exit)) i ⌝ }
+{
+    let r = table::get_row(t, i);
+    let run = insert_row::run_of(r, outro);
+    carry_with::carry_with(
+        pieces,
+        store,
+        text,
+        front,
+        p,
+        s,
+        run.at,
+        run.n,
+        carry::Places {
+            byte: 32768,
+            row: 2048,
+        },
+    );
+    table::put_row(t, i, insert_row::with_run(r, outro, 2048, run.n + 1));
+}
+
+// Behind the cut: the piece goes to the outro of the chunk that ends at q, or else to the head; to the right of q to the intro of the chunk that starts there, or
+// else to the tail.
+fn insert_rows(
+    pieces: &[u32],
+    store: &[u8],
+    text: &[u8],
+    t: &mut [u32],
+    p: &mut [u32],
+    s: &mut [u8],
+    q: u32,
+    left: bool,
+    front: bool,
+)
+    requires { ⌜ Readable (now t) (now pieces) (now store) ⌝ }
+    requires { ⌜ DeskSmall (now t) (now pieces) (now store) ⌝ }
+    requires { ⌜ Spare (now pieces) (now store) (now p) (now s) ⌝ }
+    requires { ⌜ length (now text) ≤ 32768 ⌝ }
+    ensures { λ _. ⌜ Inserted left front q (now (text .entry)) (now (t .entry)) (now (pieces .entry)) (now (store .entry)) (now (t .exit)) (now (p .exit)) (now (s .exit)) ⌝ }
+{
+    let Found::At(i) = rows::find(t, insert_row::key_for(left), q) else {
+        add_piece(pieces, store, text, t, p, s, 0, !left, front);
+        return;
+    };
+    add_piece(pieces, store, text, t, p, s, i, left, front);
+}
+
+// The cut, then the piece. 13 where the text alone is longer than the store.
+fn insert_steps(
+    pieces: &[u32],
+    store: &[u8],
+    text: &[u8],
+    t: &mut [u32],
+    p: &mut [u32],
+    s: &mut [u8],
+    q: u32,
+    left: bool,
+    front: bool,
+) -> u32
+    requires { ⌜ Roomy 1 (now t) ⌝ }
+    requires { ⌜ Readable (now t) (now pieces) (now store) ⌝ }
+    requires { ⌜ DeskSmall (now t) (now pieces) (now store) ⌝ }
+    requires { ⌜ Spare (now pieces) (now store) (now p) (now s) ⌝ }
+    ensures { λ r. ⌜ InsertSteps left front q (now (text .entry)) (now (pieces .entry)) (now (store .entry)) (now (t .entry)) (now (t .exit)) (now (p .exit)) (now (s .exit)) r ⌝ }
+{
+    let r = split::split_at(t, q);
+    if r != 0 {
+        return r;
+    }
+    if text.len() > 32768 {
+        return 13;
+    }
+    insert_rows(pieces, store, text, t, p, s, q, left, front);
+    0
+}
+
+// An insertion with scratch tables lent.
+fn insert_by(
+    source: &[u8],
+    chunks: &mut [u32],
+    pieces: &mut [u32],
+    store: &mut [u8],
+    t: &mut [u32],
+    p: &mut [u32],
+    s: &mut [u8],
+    text: &[u8],
+    q: u32,
+    left: bool,
+    front: bool,
+) -> u32
+    requires { ⌜ WellFormed (now source) (now chunks) (now pieces) (now store) ⌝ }
+    requires { ⌜ LongScratch (now t) (now p) (now s) ⌝ }
+    ensures { λ r. ⌜ InsertRan left front q (now (text .entry)) (now (source .entry)) (now (chunks .entry)) (now (pieces .entry)) (now (store .entry))
+        (now (chunks .exit)) (now (pieces .exit)) (now (store .exit)) r ⌝ }
+{
+    frame::load(chunks, pieces, store, t, p, s);
+    let r = insert_steps(pieces, store, text, t, p, s, q, left, front);
+    if r == 13 {
+        return 13;
+    }
+    frame::finish(t, p, s, chunks, pieces, store, r)
+}
+
+// The same with scratch tables of its own.
+pub fn insert_scratch(
+    source: &[u8],
+    chunks: &mut [u32],
+    pieces: &mut [u32],
+    store: &mut [u8],
+    text: &[u8],
+    q: u32,
+    left: bool,
+    front: bool,
+) -> u32
+    requires { ⌜ WellFormed (now source) (now chunks) (now pieces) (now store) ⌝ }
+    ensures { λ r. ⌜ InsertRan left front q (now (text .entry)) (now (source .entry)) (now (chunks .entry)) (now (pieces .entry)) (now (store .entry))
+        (now (chunks .exit)) (now (pieces .exit)) (now (store .exit)) r ⌝ }
+{
+    let rows = 6192usize;
+    let words = 6146usize;
+    let size = 98304usize;
+    let mut t = [0u32; 6192];
+    let mut p = [0u32; 6146];
+    let mut s = [0u8; 98304];
+    insert_by(
+        source,
+        chunks,
+        pieces,
+        store,
+        &mut t[..rows],
+        &mut p[..words],
+        &mut s[..size],
+        text,
+        q,
+        left,
+        front,
+    )
+}
+
+// A piece for the tail or the head, with scratch tables lent.
+fn whole_by(
+    source: &[u8],
+    chunks: &mut [u32],
+    pieces: &mut [u32],
+    store: &mut [u8],
+    t: &mut [u32],
+    p: &mut [u32],
+    s: &mut [u8],
+    text: &[u8],
+    outro: bool,
+    front: bool,
+) -> u32
+    requires { ⌜ WellFormed (now source) (now chunks) (now pieces) (now store) ⌝ }
+    requires { ⌜ LongScratch (now t) (now p) (now s) ⌝ }
+    requires { ⌜ length (now text) ≤ 32768 ⌝ }
+    ensures { λ r. ⌜ WholeRan outro front (now (text .entry)) (now (source .entry)) (now (chunks .entry)) (now (pieces .entry)) (now (store .entry))
+        (now (chunks .exit)) (now (pieces .exit)) (now (store .exit)) r ⌝ }
+{
+    frame::load(chunks, pieces, store, t, p, s);
+    add_piece(pieces, store, text, t, p, s, 0, outro, front);
+    frame::finish(t, p, s, chunks, pieces, store, 0)
+}
+
+// The same with scratch tables of its own. 13 where the text alone is longer than the store.
+pub fn whole_scratch(
+    source: &[u8],
+    chunks: &mut [u32],
+    pieces: &mut [u32],
+    store: &mut [u8],
+    text: &[u8],
+    outro: bool,
+    front: bool,
+) -> u32
+    requires { ⌜ WellFormed (now source) (now chunks) (now pieces) (now store) ⌝ }
+    ensures { λ r. ⌜ WholeRan outro front (now (text .entry)) (now (source .entry)) (now (chunks .entry)) (now (pieces .entry)) (now (store .entry))
+        (now (chunks .exit)) (now (pieces .exit)) (now (store .exit)) r ⌝ }
+{
+    if text.len() > 32768 {
+        return 13;
+    }
+    let rows = 6192usize;
+    let words = 6146usize;
+    let size = 98304usize;
+    let mut t = [0u32; 6192];
+    let mut p = [0u32; 6146];
+    let mut s = [0u8; 98304];
+    whole_by(
+        source,
+        chunks,
+        pieces,
+        store,
+        &mut t[..rows],
+        &mut p[..words],
+        &mut s[..size],
+        text,
+        outro,
+        front,
+    )
+}
