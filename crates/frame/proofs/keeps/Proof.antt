@@ -5,8 +5,8 @@ use native.Mathlib.Omega.{arith}
 use native.Mathlib.Numerals.{add-one}
 use Rattle.table.specs.declared.Row.{Row}
 use Rattle.table.specs.Order.{countOf, entryOf, nextOf}
-use Rattle.rebuild.specs.Lay.{own, ownOf}
-use Rattle.frame.proofs.Counting.{Loop, CountAt, own-in, count-start, count-in, count-row, count-more, loop-next, too-many, too-many-pieces, rest-is}
+use Rattle.rebuild.specs.Lay.{own, ownOf, own-in}
+use Rattle.frame.proofs.Counting.{Loop, CountAt, count-start, count-in, count-row, count-more, loop-next, too-many, too-many-pieces, rest-is}
 use borrow.Author.Needs.{needs}
 use Rattle.frame.proofs.keeps.Statement.{statement}
 use Rattle.frame.proofs.keeps.Tie as tie

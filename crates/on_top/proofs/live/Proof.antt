@@ -6,8 +6,8 @@ use native.Mathlib.Nat.{sub-zero}
 use native.Mathlib.Omega.{arith}
 use Rattle.table.specs.declared.Row.{Row}
 use Rattle.table.specs.Order.{countOf, entryOf, nextOf}
-use Rattle.rebuild.specs.Lay.{own, ownOf}
-use Rattle.on_top.proofs.Passing.{Loop, none-in, own-in, live-start, live-in, live-place, live-more, loop-next, live-end}
+use Rattle.rebuild.specs.Lay.{own, ownOf, own-in}
+use Rattle.on_top.proofs.Passing.{Loop, none-in, live-start, live-in, live-place, live-more, loop-next, live-end}
 use borrow.Author.Needs.{needs}
 use Rattle.on_top.proofs.live.Statement.{statement}
 use Rattle.on_top.proofs.live.Tie as tie
