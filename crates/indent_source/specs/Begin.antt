@@ -18,7 +18,7 @@ use Rattle.rows.specs.Insert.{Placed}
 use Rattle.rows.specs.Split.{RowSet}
 use Rattle.trim_run.specs.Low.{RowsKept, rows-same}
 use Rattle.trim_run.specs.Run.{Copied}
-use Rattle.indent_cuts.specs.Lines.{run-none}
+use Rattle.memory.specs.Laws.{no-run}
 use Rattle.indent_cuts.specs.Splice.{withIntro, Rewritten, rewritten-set}
 
 -- ---- rows
@@ -135,7 +135,7 @@ module _ {t p : List ℕ} {i top : ℕ} (h : BeginReady t p i top) (r : Row) (er
           set = row-with (2048, 1) c;
           len = m;
           kept = rows-same top p;
-          text = λ s indentor e. e ∙ ap (λ (l : List Text). indentor ∷ l) (sym (ap (λ (k : ℕ). runOf p s (entryAt t i .intro .0, k)) n ∙ run-none p s (entryAt t i .intro .0)));
+          text = λ s indentor e. e ∙ ap (λ (l : List Text). indentor ∷ l) (sym (ap (λ (k : ℕ). runOf p s (entryAt t i .intro .0, k)) n ∙ no-run p s (entryAt t i .intro .0)));
           low = λ byte b k. b;
           up = omega arith;
           used = omega arith;
