@@ -60,50 +60,49 @@ unfolding replacementOf
 no-bytes s r e = rw (eq-eqb (r .0) NONE e)
 
 -- ── the walk ──
-pub record CountAt (t p s : List ℕ) (k m cur pieces bytes : ℕ) : Type 0 where
-  pub done : List ℕ
+pub record CountAt (t p s done : List ℕ) (m cur pieces bytes : ℕ) : Type 0 where
   pub place : order t ≡ done ++ follow (nextOf t) m cur
   pub pieces-are : pieces ≡ min (sum chunk-pieces (map (chunkOf p s) (own t ∷ map (entryAt t) done))) 1025
   pub bytes-are : bytes ≡ min (sum chunk-bytes (map (chunkOf p s) (own t ∷ map (entryAt t) done))) 32769
 
 pub count-start : (t p s : List ℕ) (e : Entry) (pieces bytes : ℕ) → e ≡ own t → pieces ≡ min (0 + chunk-pieces (chunkOf p s e)) 1025 → bytes ≡ min (0 + chunk-bytes (chunkOf p s e)) 32769
-    → CountAt t p s 0 (countOf t) (nextOf t 0) pieces bytes
+    → CountAt t p s [] (countOf t) (nextOf t 0) pieces bytes
 unfolding order
 count-start t p s e pieces bytes q f g =
     let a : chunk-pieces (chunkOf p s e) ≡ chunk-pieces (chunkOf p s (own t)) = ap (λ (x : Entry). chunk-pieces (chunkOf p s x)) q in
     let b : chunk-bytes (chunkOf p s e) ≡ chunk-bytes (chunkOf p s (own t)) = ap (λ (x : Entry). chunk-bytes (chunkOf p s x)) q in
-    record { done = []; place = refl; pieces-are = omega arith; bytes-are = omega arith }
+    record { place = refl; pieces-are = omega arith; bytes-are = omega arith }
 
-module _ {t p s : List ℕ} {k m cur pieces bytes : ℕ} (h : Readable t p s) (c : CountAt t p s k (suc m) cur pieces bytes) where
+module _ {t p s done : List ℕ} {m cur pieces bytes : ℕ} (h : Readable t p s) (c : CountAt t p s done (suc m) cur pieces bytes) where
   pub count-in : EntryIn p s (entryAt t cur)
   count-in =
-      first-of (all-back (EntryIn p s) (map (entryAt t) (c .done)) (map (entryAt t) (follow (nextOf t) (suc m) cur))
-      (subst (All (EntryIn p s)) (ap (map (entryAt t)) (c .place) ∙ map-append (entryAt t) (c .done) (follow (nextOf t) (suc m) cur)) (h .chunks)))
+      first-of (all-back (EntryIn p s) (map (entryAt t) done) (map (entryAt t) (follow (nextOf t) (suc m) cur))
+      (subst (All (EntryIn p s)) (ap (map (entryAt t)) (c .place) ∙ map-append (entryAt t) done (follow (nextOf t) (suc m) cur)) (h .chunks)))
 
   pub count-row : cur * 12 + 12 ≤ length t
-  count-row = omega (arith, h .linked .room, inside-at t (c .done) cur (follow (nextOf t) m (nextOf t cur)) (h .linked) (c .place) .1)
+  count-row = omega (arith, h .linked .room, inside-at t done cur (follow (nextOf t) m (nextOf t cur)) (h .linked) (c .place) .1)
 
-  more : (w : Chunk → ℕ) → sum w (map (chunkOf p s) (own t ∷ map (entryAt t) (c .done ++ (cur ∷ [])))) ≡ sum w (map (chunkOf p s) (own t ∷ map (entryAt t) (c .done))) + w (chunkOf p s (entryAt t cur))
+  more : (w : Chunk → ℕ) → sum w (map (chunkOf p s) (own t ∷ map (entryAt t) (done ++ (cur ∷ [])))) ≡ sum w (map (chunkOf p s) (own t ∷ map (entryAt t) done)) + w (chunkOf p s (entryAt t cur))
   more w =
-      let e : map (chunkOf p s) (map (entryAt t) (c .done ++ (cur ∷ []))) ≡ map (chunkOf p s) (map (entryAt t) (c .done)) ++ (chunkOf p s (entryAt t cur) ∷ []) =
-      ap (map (chunkOf p s)) (map-append (entryAt t) (c .done) (cur ∷ [])) ∙ map-append (chunkOf p s) (map (entryAt t) (c .done)) (entryAt t cur ∷ []) in
-      rw e (sum-snoc w (chunkOf p s (own t) ∷ map (chunkOf p s) (map (entryAt t) (c .done))) (chunkOf p s (entryAt t cur)))
+      let e : map (chunkOf p s) (map (entryAt t) (done ++ (cur ∷ []))) ≡ map (chunkOf p s) (map (entryAt t) done) ++ (chunkOf p s (entryAt t cur) ∷ []) =
+      ap (map (chunkOf p s)) (map-append (entryAt t) done (cur ∷ [])) ∙ map-append (chunkOf p s) (map (entryAt t) done) (entryAt t cur ∷ []) in
+      rw e (sum-snoc w (chunkOf p s (own t) ∷ map (chunkOf p s) (map (entryAt t) done)) (chunkOf p s (entryAt t cur)))
 
   pub count-more : (pieces' bytes' : ℕ) → pieces' ≡ min (pieces + chunk-pieces (chunkOf p s (entryAt t cur))) 1025 → bytes' ≡ min (bytes + chunk-bytes (chunkOf p s (entryAt t cur))) 32769
-      → CountAt t p s (suc k) m (nextOf t cur) pieces' bytes'
+      → CountAt t p s (done ++ (cur ∷ [])) m (nextOf t cur) pieces' bytes'
   count-more pieces' bytes' e f =
       record {
-        done = c .done ++ (cur ∷ []);
-        place = c .place ∙ sym (append-assoc (c .done) (cur ∷ []) (follow (nextOf t) m (nextOf t cur)));
+        place = c .place ∙ sym (append-assoc done (cur ∷ []) (follow (nextOf t) m (nextOf t cur)));
         pieces-are = capped-more 1025 _ _ pieces pieces' (c .pieces-are) e ∙ ap (λ (x : ℕ). min x 1025) (sym (more chunk-pieces));
         bytes-are = capped-more 32769 _ _ bytes bytes' (c .bytes-are) f ∙ ap (λ (x : ℕ). min x 32769) (sym (more chunk-bytes));
       }
 
 pub record Loop (t p s : List ℕ) (n k cur pieces bytes : ℕ) : Type 0 where
   pub below : k ≤ n
-  pub at : CountAt t p s k (n - k) cur pieces bytes
+  pub done : List ℕ
+  pub at : CountAt t p s done (n - k) cur pieces bytes
 
-pub loop-next : {t p s : List ℕ} {n k cur pieces bytes : ℕ} → Loop t p s n k cur pieces bytes → k < n → CountAt t p s k (suc (n - (k + 1))) cur pieces bytes
+pub loop-next : {t p s : List ℕ} {n k cur pieces bytes : ℕ} → (l : Loop t p s n k cur pieces bytes) → k < n → CountAt t p s (l .done) (suc (n - (k + 1))) cur pieces bytes
 loop-next {n = n} {k = k} l g = let e : n - k ≡ suc (n - (k + 1)) = omega arith in rw e at (l .at)
 
 -- ── the limits ──
@@ -114,23 +113,28 @@ too-many t p s h = rw (lt-leb (length (map (chunkOf p s) (entries t))) 512 (omeg
 leb-min : (x c : ℕ) → leb (min x (suc c)) c ≡ leb x c
 leb-min x c = elim (decLe x c) [ yes h ↦ rw (le-leb x c h, le-leb (min x (suc c)) c (omega arith)) | no h ↦ rw (lt-leb x c (omega arith), lt-leb (min x (suc c)) c (omega arith)) ]
 
-module _ {t p s : List ℕ} {n k cur pieces bytes : ℕ} (l : Loop t p s n k cur pieces bytes) (g : n ≤ k) (few : countOf t ≤ 512) where
-  all-done : entries t ≡ map (entryAt t) (l .at .done)
-  all-done = let e : n - k ≡ 0 = omega arith in ap (map (entryAt t)) (l .at .place ∙ ap (λ (m : ℕ). l .at .done ++ follow (nextOf t) m cur) e ∙ append-nil (l .at .done))
+-- where no row is left, all are counted
+module _ {t p s done : List ℕ} {m cur pieces bytes : ℕ} (c : CountAt t p s done m cur pieces bytes) (z : m ≡ 0) where
+  pub all-done : entries t ≡ map (entryAt t) done
+  all-done = ap (map (entryAt t)) (c .place ∙ ap (λ (x : ℕ). done ++ follow (nextOf t) x cur) z ∙ append-nil done)
 
-  pieces-all : pieces ≡ min (piece-count (magicStringOf [] t p s)) 1025
+  pub pieces-all : pieces ≡ min (piece-count (magicStringOf [] t p s)) 1025
   unfolding magicStringOf
-  pieces-all = rw all-done (l .at .pieces-are)
+  pieces-all = rw all-done (c .pieces-are)
 
-  bytes-all : bytes ≡ min (byte-count (magicStringOf [] t p s)) 32769
+  pub bytes-all : bytes ≡ min (byte-count (magicStringOf [] t p s)) 32769
   unfolding magicStringOf replacementOf
-  bytes-all = rw all-done (l .at .bytes-are ∙ ap (λ (x : ℕ). min x 32769) (omega arith))
+  bytes-all = rw all-done (c .bytes-are ∙ ap (λ (x : ℕ). min x 32769) (omega arith))
+
+module _ {t p s : List ℕ} {n k cur pieces bytes : ℕ} (l : Loop t p s n k cur pieces bytes) (g : n ≤ k) (few : countOf t ≤ 512) where
+  none-left : n - k ≡ 0
+  none-left = omega arith
 
   within-is : within full (magicStringOf [] t p s) ≡ (leb pieces 1024 && leb bytes 32768)
   unfolding within magicStringOf
   within-is =
-      let a : leb pieces 1024 ≡ leb (piece-count (magicStringOf [] t p s)) 1024 = ap (λ (x : ℕ). leb x 1024) pieces-all ∙ leb-min (piece-count (magicStringOf [] t p s)) 1024 in
-      let b : leb bytes 32768 ≡ leb (byte-count (magicStringOf [] t p s)) 32768 = ap (λ (x : ℕ). leb x 32768) bytes-all ∙ leb-min (byte-count (magicStringOf [] t p s)) 32768 in
+      let a : leb pieces 1024 ≡ leb (piece-count (magicStringOf [] t p s)) 1024 = ap (λ (x : ℕ). leb x 1024) (pieces-all (l .at) none-left) ∙ leb-min (piece-count (magicStringOf [] t p s)) 1024 in
+      let b : leb bytes 32768 ≡ leb (byte-count (magicStringOf [] t p s)) 32768 = ap (λ (x : ℕ). leb x 32768) (bytes-all (l .at) none-left) ∙ leb-min (byte-count (magicStringOf [] t p s)) 32768 in
       rw (a, b, le-leb (length (map (chunkOf p s) (entries t))) 512 (omega (arith, chunk-count [] t p s)))
 
   pub too-many-pieces : 1024 < pieces → false ≡ within full (magicStringOf [] t p s)
