@@ -21,7 +21,7 @@ use Rattle.memory.specs.Laws.{no-run}
 use Rattle.texts.specs.Carry.{Below}
 use Rattle.rows.specs.Insert.{Placed}
 use Rattle.rows.specs.Split.{first, second}
-use Rattle.trim_run.specs.Low.{EntryLow}
+use Rattle.trim_run.specs.Low.{none-below, EntryLow}
 use Rattle.indent_closed.specs.Indent.{split-lines, split-lines-inside, split-lines-at-start}
 use Rattle.indent_text.specs.Bytes.{starts-from, part, NextStart}
 use Rattle.indent_cuts.specs.Splice.{begun, Spliced, CutPart, Cutting, cutting-none, cutting-placed, cutting-more, cutting-end}
@@ -70,12 +70,9 @@ module _ (p s : List ℕ) (q : ℕ) (e : Entry) where
   pub lift-begun : (indentor : Text) → runOf p s (2048, 1) ≡ indentor ∷ [] → chunkOf p s (begun (second q e)) ≡ with-texts (prepend-intro indentor) (second-half q (chunkOf p s e))
   lift-begun indentor r = rw r
 
-nothing-low : (p : List ℕ) (byte top a : ℕ) → Below p byte top (a, 0)
-nothing-low p byte top a k h = absurd (omega arith)
-
 module _ (p : List ℕ) (top byte q : ℕ) (e : Entry) (h : EntryLow p top byte e) where
   pub first-low : EntryLow p top byte (first q e)
-  first-low = record { runs = record { intro = h .runs .intro; outro = nothing-low p byte top 0 }; text = h .text }
+  first-low = record { runs = record { intro = h .runs .intro; outro = none-below p byte top 0 }; text = h .text }
 
   pub begun-low : Below p byte top (2048, 1) → EntryLow p top byte (begun (second q e))
   begun-low b = record { runs = record { intro = b; outro = h .runs .outro }; text = h .text }

@@ -28,7 +28,7 @@ use Rattle.texts.specs.Texts.{SpanIn, contentAt, run-tabulate}
 use Rattle.texts.specs.Carry.{Below}
 use Rattle.trim_text.specs.Sides.{trim-text, blank, PlaceTrimmed}
 use Rattle.trim_run.specs.Deque.{trim-deque, all-nil-deque, deque-nil}
-use Rattle.trim_run.specs.Low.{RowsKept, BytesKept, rows-same, bytes-same, TextLow, RunsLow, EntryLow, run-same, run-still, run-in}
+use Rattle.trim_run.specs.Low.{RowsKept, BytesKept, rows-same, bytes-same, none-below, TextLow, RunsLow, EntryLow, run-same, run-still, run-in}
 use Rattle.trim_run.specs.Run.{RunReady, RowRoom, RunTrimmed}
 use Rattle.memory.specs.Laws.{no-run, none-text, some-text, among-none}
 use Rattle.trim_row.specs.Uses.{NoMore, no-more-none, no-more-same, no-more-trimmed, rows-above, among-most, text-before, text-within, text-empty, Fewer, RowApart, row-apart}
@@ -181,9 +181,6 @@ sides-spent : (front : Bool) (e : Entry) (byte : ℕ) (n f x : Place) → (x .0 
     → (b : ℕ) → Behind byte (withSides front e n f x .text) b → b + plainOf (withSides front e n f x) ≤ byte + plainOf e
 sides-spent true e byte n f x = spent-of e (withSides true e n f x) byte refl
 sides-spent false e byte n f x = spent-of e (withSides false e n f x) byte refl
-
-none-below : (p : List ℕ) (byte top at : ℕ) → Below p byte top (at, 0)
-none-below p byte top at k h = absurd (omega arith)
 
 -- a run that is not blank has a piece, so its rows end below
 run-room : (pattern : ℕ) (p s : List ℕ) (top byte : ℕ) (r : Place) → Below p byte top r → all (blank pattern) (runOf p s r) ≡ false → (top + r .1) * 2 ≤ length p
@@ -516,7 +513,7 @@ module _ (pattern : ℕ) (source p s : List ℕ) (e : Entry) where
   unfolding blankRow
   blank-third h k = rw (h, k)
 
-sides-start : (front : Bool) (e : Entry) (n f x : Place) → withSides front e n f x .start ≡ e .start
+pub sides-start : (front : Bool) (e : Entry) (n f x : Place) → withSides front e n f x .start ≡ e .start
 sides-start true e n f x = refl
 sides-start false e n f x = refl
 

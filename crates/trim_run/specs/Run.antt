@@ -193,7 +193,7 @@ back-stop pattern p s at n k b h =
 pub copied-none : (p : List ℕ) (at top : ℕ) → Copied p p at 0 top
 copied-none p at top = record { kept = record { len = refl; rows = λ j h. refl }; copies = λ j h. absurd (omega arith) }
 
-pair : {q r : Piece} → q ≡ r → _≡_ {A = Place} (q .at, q .n) (r .at, r .n)
+pub pair : {q r : Piece} → q ≡ r → _≡_ {A = Place} (q .at, q .n) (r .at, r .n)
 pair e = ap (λ (x : Piece). (x .at, x .n)) e
 
 pub copied-more : (p p1 p2 : List ℕ) (at k top : ℕ) (r : Piece) → at + k < top → Copied p p1 at k top → r ≡ rows.pieceAt p1 (at + k) → rows.PutPiece p1 p2 (top + k) r → length p2 ≡ length p1

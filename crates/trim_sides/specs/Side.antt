@@ -31,7 +31,7 @@ use Rattle.trim_run.specs.Low.{RowsKept, rows-same, bytes-same, RunsLow, EntryL
 use Rattle.trim_run.specs.Run.{RunReady, RowRoom, RunTrimmed}
 use Rattle.trim_row.specs.Sides.{trim-chunk}
 use Rattle.trim_row.specs.Plain.{plain-bytes, plainOf, plain-rows}
-use Rattle.trim_row.specs.Row.{nearOf, farOf, withSides, Rewritten, RowReady, RowFits, piecesOf, run-at}
+use Rattle.trim_row.specs.Row.{nearOf, farOf, withSides, Rewritten, RowReady, RowFits, piecesOf, sides-start, run-at}
 use Rattle.trim_row.specs.Uses.{NoMore, no-more-none, no-more-trimmed}
 use Rattle.trim_chunks.specs.Sums.{way}
 use Rattle.trim_chunks.specs.Walk.{ReadyAt, ChunksReady, ChunksTrimmed, chunkRows}
@@ -99,10 +99,6 @@ module _ (t t' : List ℕ) (l : Linked t) (r : Row) (u : Put t t' 0 r) (nx : r .
   own-kept =
       let o = write-keeps t t' 0 r u nx pv (λ _. st) m l in
       (o .1, ap (map (entryAt t')) (o .0) ∙ map-each (order t) (l .ring .inside))
-
-sides-start : (front : Bool) (e : Entry) (n f x : Place) → withSides front e n f x .start ≡ e .start
-sides-start true e n f x = refl
-sides-start false e n f x = refl
 
 module _ (front : Bool) (pattern : ℕ) (p s : List ℕ) (top : ℕ) (t : List ℕ) (h : OwnReady front p s top t) (z : Row) (ez : z ≡ rowAt t 0) (q : Place) (eq : q ≡ nearOf front (entryOf z)) where
   near-is : q ≡ nearOf front (entryAt t 0)
