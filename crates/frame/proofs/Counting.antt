@@ -1,20 +1,20 @@
 -- The counts that `keeps` makes, and the limits.
 use mathlib.Core.Path.{_≡_, refl, sym, ap, ap₂, _∙_, subst}
 use mathlib.Core.Bool.{Bool, true, false, _&&_, cond}
-use mathlib.Core.List.{List, [], _∷_, _++_, map, append-assoc, append-nil}
+use mathlib.Core.List.{List, [], _∷_, _++_, map, map-append, append-assoc, append-nil}
 use Prim.Native.Nat.{ℕ, zero, suc, _+_, _*_, _-_, _≤_, _<_, min}
 use native.Mathlib.Omega.{arith}
 use native.Mathlib.Decide.{decLe}
 use native.Mathlib.Numerals.{add-one}
 use native.Mathlib.Nat.{sub-zero}
 use lib.Dec.{leb, eqb}
-use lib.ListN.{length, getD, take, drop, length-map, length-drop}
+use lib.ListN.{length, getD, take, drop, length-drop}
 use lib.Seq.{length-take-le}
 use borrow.Author.Tests.{leb-true, le-leb, lt-leb, ne-eqb, eq-eqb}
-use Rattle.utf8.specs.Chars.{All, nil, cons}
+use Rattle.utf8.specs.Chars.{All, nil}
 use Rattle.utf8.specs.CharLaws.{all-back}
 use Rattle.table.specs.declared.Row.{Row}
-use Rattle.table.specs.Ring.{follow, length-follow}
+use Rattle.table.specs.Ring.{follow}
 use Rattle.table.specs.Order.{Entry, entryOf, entryAt, entries, order, nextOf, countOf, Linked, inside-at}
 use Rattle.model.specs.Text.{Text, sum}
 use Rattle.model.specs.Chunk.{Chunk}
@@ -22,15 +22,13 @@ use Rattle.model.specs.MagicString.{MagicString}
 use Rattle.model.specs.Limits.{full, within, chunk-pieces, chunk-bytes, piece-count, byte-count, replacement-bytes}
 use Rattle.memory.specs.Layout.{NONE, Place, bytesAt, pieceAt, tabulate, runOf, replacementOf, chunkOf, magicStringOf}
 use Rattle.memory.specs.WellFormed.{RunIn, ReplacementIn, EntryIn, Readable}
+use Rattle.memory.specs.Laws.{chunk-count}
+use Rattle.model.specs.Lists.{no-tf, first-of, sum-snoc}
 use Rattle.texts.specs.Texts.{run-tabulate, run-length}
 use Rattle.rebuild.specs.Lay.{own, ownOf}
 use Rattle.rebuild.specs.Rebuilt.{Rebuilt, Finished}
 
 -- ── a run ──
-sum-snoc : {A : Type 0} (w : A → ℕ) (xs : List A) (x : A) → sum w (xs ++ (x ∷ [])) ≡ sum w xs + w x
-sum-snoc w [] x = omega arith
-sum-snoc w (y ∷ ys) x = omega (arith, sum-snoc w ys x)
-
 -- the bytes of the first i texts of a run
 abbrev pub firstBytes : List ℕ → List ℕ → ℕ → ℕ → ℕ
 firstBytes p s at i = sum length (runOf p s (at, i))
@@ -62,96 +60,82 @@ unfolding replacementOf
 no-bytes s r e = rw (eq-eqb (r .0) NONE e)
 
 -- ── the walk ──
-pub record CountAt (t p s : List ℕ) (k m cur pieces bytes : ℕ) : Type 0 where
-  pub done : List ℕ
+pub record CountAt (t p s done : List ℕ) (m cur pieces bytes : ℕ) : Type 0 where
   pub place : order t ≡ done ++ follow (nextOf t) m cur
   pub pieces-are : pieces ≡ min (sum chunk-pieces (map (chunkOf p s) (own t ∷ map (entryAt t) done))) 1025
   pub bytes-are : bytes ≡ min (sum chunk-bytes (map (chunkOf p s) (own t ∷ map (entryAt t) done))) 32769
 
 pub count-start : (t p s : List ℕ) (e : Entry) (pieces bytes : ℕ) → e ≡ own t → pieces ≡ min (0 + chunk-pieces (chunkOf p s e)) 1025 → bytes ≡ min (0 + chunk-bytes (chunkOf p s e)) 32769
-    → CountAt t p s 0 (countOf t) (nextOf t 0) pieces bytes
+    → CountAt t p s [] (countOf t) (nextOf t 0) pieces bytes
 unfolding order
 count-start t p s e pieces bytes q f g =
     let a : chunk-pieces (chunkOf p s e) ≡ chunk-pieces (chunkOf p s (own t)) = ap (λ (x : Entry). chunk-pieces (chunkOf p s x)) q in
     let b : chunk-bytes (chunkOf p s e) ≡ chunk-bytes (chunkOf p s (own t)) = ap (λ (x : Entry). chunk-bytes (chunkOf p s x)) q in
-    record { done = []; place = refl; pieces-are = omega arith; bytes-are = omega arith }
+    record { place = refl; pieces-are = omega arith; bytes-are = omega arith }
 
-map-snoc : {A B : Type 0} (f : A → B) (xs : List A) (x : A) → map f (xs ++ (x ∷ [])) ≡ map f xs ++ (f x ∷ [])
-map-snoc f [] x = refl
-map-snoc {A} {B} f (y ∷ ys) x = ap (λ (l : List B). f y ∷ l) (map-snoc f ys x)
-
-map-append : {A B : Type 0} (f : A → B) (xs ys : List A) → map f (xs ++ ys) ≡ map f xs ++ map f ys
-map-append f [] ys = refl
-map-append {A} {B} f (x ∷ xs) ys = ap (λ (l : List B). f x ∷ l) (map-append f xs ys)
-
-all-first : {A : Type 0} {P : A → Type 0} {x : A} {xs : List A} → All P (x ∷ xs) → P x
-all-first (cons h k) = h
-
-module _ {t p s : List ℕ} {k m cur pieces bytes : ℕ} (h : Readable t p s) (c : CountAt t p s k (suc m) cur pieces bytes) where
+module _ {t p s done : List ℕ} {m cur pieces bytes : ℕ} (h : Readable t p s) (c : CountAt t p s done (suc m) cur pieces bytes) where
   pub count-in : EntryIn p s (entryAt t cur)
   count-in =
-      all-first (all-back (EntryIn p s) (map (entryAt t) (c .done)) (map (entryAt t) (follow (nextOf t) (suc m) cur))
-      (subst (All (EntryIn p s)) (ap (map (entryAt t)) (c .place) ∙ map-append (entryAt t) (c .done) (follow (nextOf t) (suc m) cur)) (h .chunks)))
+      first-of (all-back (EntryIn p s) (map (entryAt t) done) (map (entryAt t) (follow (nextOf t) (suc m) cur))
+      (subst (All (EntryIn p s)) (ap (map (entryAt t)) (c .place) ∙ map-append (entryAt t) done (follow (nextOf t) (suc m) cur)) (h .chunks)))
 
   pub count-row : cur * 12 + 12 ≤ length t
-  count-row = omega (arith, h .linked .room, inside-at t (c .done) cur (follow (nextOf t) m (nextOf t cur)) (h .linked) (c .place) .1)
+  count-row = omega (arith, h .linked .room, inside-at t done cur (follow (nextOf t) m (nextOf t cur)) (h .linked) (c .place) .1)
 
-  more : (w : Chunk → ℕ) → sum w (map (chunkOf p s) (own t ∷ map (entryAt t) (c .done ++ (cur ∷ [])))) ≡ sum w (map (chunkOf p s) (own t ∷ map (entryAt t) (c .done))) + w (chunkOf p s (entryAt t cur))
+  more : (w : Chunk → ℕ) → sum w (map (chunkOf p s) (own t ∷ map (entryAt t) (done ++ (cur ∷ [])))) ≡ sum w (map (chunkOf p s) (own t ∷ map (entryAt t) done)) + w (chunkOf p s (entryAt t cur))
   more w =
-      let e : map (chunkOf p s) (map (entryAt t) (c .done ++ (cur ∷ []))) ≡ map (chunkOf p s) (map (entryAt t) (c .done)) ++ (chunkOf p s (entryAt t cur) ∷ []) =
-      ap (map (chunkOf p s)) (map-snoc (entryAt t) (c .done) cur) ∙ map-snoc (chunkOf p s) (map (entryAt t) (c .done)) (entryAt t cur) in
-      rw e (sum-snoc w (chunkOf p s (own t) ∷ map (chunkOf p s) (map (entryAt t) (c .done))) (chunkOf p s (entryAt t cur)))
+      let e : map (chunkOf p s) (map (entryAt t) (done ++ (cur ∷ []))) ≡ map (chunkOf p s) (map (entryAt t) done) ++ (chunkOf p s (entryAt t cur) ∷ []) =
+      ap (map (chunkOf p s)) (map-append (entryAt t) done (cur ∷ [])) ∙ map-append (chunkOf p s) (map (entryAt t) done) (entryAt t cur ∷ []) in
+      rw e (sum-snoc w (chunkOf p s (own t) ∷ map (chunkOf p s) (map (entryAt t) done)) (chunkOf p s (entryAt t cur)))
 
   pub count-more : (pieces' bytes' : ℕ) → pieces' ≡ min (pieces + chunk-pieces (chunkOf p s (entryAt t cur))) 1025 → bytes' ≡ min (bytes + chunk-bytes (chunkOf p s (entryAt t cur))) 32769
-      → CountAt t p s (suc k) m (nextOf t cur) pieces' bytes'
+      → CountAt t p s (done ++ (cur ∷ [])) m (nextOf t cur) pieces' bytes'
   count-more pieces' bytes' e f =
       record {
-        done = c .done ++ (cur ∷ []);
-        place = c .place ∙ sym (append-assoc (c .done) (cur ∷ []) (follow (nextOf t) m (nextOf t cur)));
+        place = c .place ∙ sym (append-assoc done (cur ∷ []) (follow (nextOf t) m (nextOf t cur)));
         pieces-are = capped-more 1025 _ _ pieces pieces' (c .pieces-are) e ∙ ap (λ (x : ℕ). min x 1025) (sym (more chunk-pieces));
         bytes-are = capped-more 32769 _ _ bytes bytes' (c .bytes-are) f ∙ ap (λ (x : ℕ). min x 32769) (sym (more chunk-bytes));
       }
 
 pub record Loop (t p s : List ℕ) (n k cur pieces bytes : ℕ) : Type 0 where
   pub below : k ≤ n
-  pub at : CountAt t p s k (n - k) cur pieces bytes
+  pub done : List ℕ
+  pub at : CountAt t p s done (n - k) cur pieces bytes
 
-pub loop-next : {t p s : List ℕ} {n k cur pieces bytes : ℕ} → Loop t p s n k cur pieces bytes → k < n → CountAt t p s k (suc (n - (k + 1))) cur pieces bytes
+pub loop-next : {t p s : List ℕ} {n k cur pieces bytes : ℕ} → (l : Loop t p s n k cur pieces bytes) → k < n → CountAt t p s (l .done) (suc (n - (k + 1))) cur pieces bytes
 loop-next {n = n} {k = k} l g = let e : n - k ≡ suc (n - (k + 1)) = omega arith in rw e at (l .at)
 
 -- ── the limits ──
-count-entries : (t : List ℕ) → length (entries t) ≡ countOf t
-unfolding order
-count-entries t = length-map (order t) (entryAt t) ∙ length-follow (nextOf t) (countOf t) (nextOf t 0)
-
-chunk-count : (t p s : List ℕ) → length (map (chunkOf p s) (entries t)) ≡ countOf t
-chunk-count t p s = length-map (entries t) (chunkOf p s) ∙ count-entries t
-
 pub too-many : (t p s : List ℕ) → 512 < countOf t → false ≡ within full (magicStringOf [] t p s)
 unfolding within magicStringOf
-too-many t p s h = rw (lt-leb (length (map (chunkOf p s) (entries t))) 512 (omega (arith, chunk-count t p s)))
+too-many t p s h = rw (lt-leb (length (map (chunkOf p s) (entries t))) 512 (omega (arith, chunk-count [] t p s)))
 
 leb-min : (x c : ℕ) → leb (min x (suc c)) c ≡ leb x c
 leb-min x c = elim (decLe x c) [ yes h ↦ rw (le-leb x c h, le-leb (min x (suc c)) c (omega arith)) | no h ↦ rw (lt-leb x c (omega arith), lt-leb (min x (suc c)) c (omega arith)) ]
 
-module _ {t p s : List ℕ} {n k cur pieces bytes : ℕ} (l : Loop t p s n k cur pieces bytes) (g : n ≤ k) (few : countOf t ≤ 512) where
-  all-done : entries t ≡ map (entryAt t) (l .at .done)
-  all-done = let e : n - k ≡ 0 = omega arith in ap (map (entryAt t)) (l .at .place ∙ ap (λ (m : ℕ). l .at .done ++ follow (nextOf t) m cur) e ∙ append-nil (l .at .done))
+-- where no row is left, all are counted
+module _ {t p s done : List ℕ} {m cur pieces bytes : ℕ} (c : CountAt t p s done m cur pieces bytes) (z : m ≡ 0) where
+  pub all-done : entries t ≡ map (entryAt t) done
+  all-done = ap (map (entryAt t)) (c .place ∙ ap (λ (x : ℕ). done ++ follow (nextOf t) x cur) z ∙ append-nil done)
 
-  pieces-all : pieces ≡ min (piece-count (magicStringOf [] t p s)) 1025
+  pub pieces-all : pieces ≡ min (piece-count (magicStringOf [] t p s)) 1025
   unfolding magicStringOf
-  pieces-all = rw all-done (l .at .pieces-are)
+  pieces-all = rw all-done (c .pieces-are)
 
-  bytes-all : bytes ≡ min (byte-count (magicStringOf [] t p s)) 32769
+  pub bytes-all : bytes ≡ min (byte-count (magicStringOf [] t p s)) 32769
   unfolding magicStringOf replacementOf
-  bytes-all = rw all-done (l .at .bytes-are ∙ ap (λ (x : ℕ). min x 32769) (omega arith))
+  bytes-all = rw all-done (c .bytes-are ∙ ap (λ (x : ℕ). min x 32769) (omega arith))
+
+module _ {t p s : List ℕ} {n k cur pieces bytes : ℕ} (l : Loop t p s n k cur pieces bytes) (g : n ≤ k) (few : countOf t ≤ 512) where
+  none-left : n - k ≡ 0
+  none-left = omega arith
 
   within-is : within full (magicStringOf [] t p s) ≡ (leb pieces 1024 && leb bytes 32768)
   unfolding within magicStringOf
   within-is =
-      let a : leb pieces 1024 ≡ leb (piece-count (magicStringOf [] t p s)) 1024 = ap (λ (x : ℕ). leb x 1024) pieces-all ∙ leb-min (piece-count (magicStringOf [] t p s)) 1024 in
-      let b : leb bytes 32768 ≡ leb (byte-count (magicStringOf [] t p s)) 32768 = ap (λ (x : ℕ). leb x 32768) bytes-all ∙ leb-min (byte-count (magicStringOf [] t p s)) 32768 in
-      rw (a, b, le-leb (length (map (chunkOf p s) (entries t))) 512 (omega (arith, chunk-count t p s)))
+      let a : leb pieces 1024 ≡ leb (piece-count (magicStringOf [] t p s)) 1024 = ap (λ (x : ℕ). leb x 1024) (pieces-all (l .at) none-left) ∙ leb-min (piece-count (magicStringOf [] t p s)) 1024 in
+      let b : leb bytes 32768 ≡ leb (byte-count (magicStringOf [] t p s)) 32768 = ap (λ (x : ℕ). leb x 32768) (bytes-all (l .at) none-left) ∙ leb-min (byte-count (magicStringOf [] t p s)) 32768 in
+      rw (a, b, le-leb (length (map (chunkOf p s) (entries t))) 512 (omega (arith, chunk-count [] t p s)))
 
   pub too-many-pieces : 1024 < pieces → false ≡ within full (magicStringOf [] t p s)
   too-many-pieces h = sym (within-is ∙ rw (lt-leb pieces 1024 h))
@@ -166,14 +150,7 @@ two-counts c a x y r s z e f g = omega arith
 pub three-counts : (c a x y w r s u v : ℕ) → r ≡ min (a + x) c → s ≡ min (r + y) c → u ≡ min (s + w) c → v ≡ w → u ≡ min (a + (x + y + v)) c
 three-counts c a x y w r s u v e f g h = omega arith
 
-pub own-in : {t p s : List ℕ} → Readable t p s → EntryIn p s (own t)
-unfolding ReplacementIn
-own-in h = record { runs = record { intro = h .desk .intro; outro = h .desk .outro }; replacement = λ n. absurd (n refl) }
-
 -- ── the end of every edit ──
-no-tf : {X : Type 0} → _≡_ {A = Bool} true false → X
-no-tf z = let y : _≡_ {A = ℕ} 0 1 = cc in absurd (omega arith)
-
 pub finish-fits : {t p s t₀ p₀ s₀ t' p' s' : List ℕ} {r : ℕ} → within full (magicStringOf [] t p s) ≡ true → Rebuilt t p s t' p' s'
     → Finished t p s t₀ p₀ s₀ t' p' s' r r
 finish-fits e d = record { fits = λ _. (refl, d); breaks = λ f. no-tf (sym e ∙ f) }

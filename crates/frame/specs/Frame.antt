@@ -1,27 +1,29 @@
 -- What makes a call on a well-formed desk what `Ran` asks, for any edit: a refusal before the steps, a desk that stays, or steps on scratch tables and their end.
 use mathlib.Core.Path.{_≡_, refl, sym, ap, ap₂, _∙_, subst}
-use mathlib.Core.Bool.{Bool, true, false, _&&_, cond}
+use mathlib.Core.Bool.{true, false, cond}
 use mathlib.Core.List.{List, [], _∷_, _++_}
-use Prim.Native.Nat.{ℕ, zero, suc, _+_, _*_, _-_, _≤_, _<_}
+use Prim.Native.Nat.{ℕ, suc, _+_, _*_, _-_, _≤_, _<_}
 use native.Mathlib.Omega.{arith}
 use lib.Dec.{leb}
-use lib.ListN.{length, getD, take, drop, replicate, length-append, length-drop, length-take, length-map, length-replicate}
+use lib.ListN.{length, getD, drop, length-append, length-drop}
 use borrow.Author.Tests.{leb-true, le-leb}
-use Rattle.table.specs.Ring.{length-follow}
-use Rattle.table.specs.Order.{Linked, entryAt, entries, order, nextOf, countOf}
+use Rattle.table.specs.Order.{Linked, countOf}
 use Rattle.model.specs.MagicString.{MagicString, Result, err}
 use Rattle.model.specs.Limits.{full, within, judged, piece-count, byte-count}
 use Rattle.model.specs.Text.{all}
 use Rattle.model.specs.Call.{Edit, options-valid, texts, positions, steps, refused-before, run}
 use Rattle.utf8.specs.Rfc3629.{utf8, between}
 use Rattle.model.specs.WellFormed as model
-use Rattle.memory.specs.Layout.{chunkOf, magicStringOf}
+use Rattle.memory.specs.Layout.{magicStringOf}
 use Rattle.memory.specs.WellFormed.{Sized, Readable, WellFormed}
-use Rattle.memory.specs.Calls.{Same, idle, may-write, Ran}
+use Rattle.memory.specs.Calls.{idle, may-write, Ran}
 use Rattle.preservation.specs.Calls.{run-keeps}
 use Rattle.rebuild.specs.Rebuilt.{Rebuilt, Finished}
+pub use Rattle.memory.specs.Laws.{zeros-length, zeros-at}
+use Rattle.memory.specs.Laws.{all-same, chunk-count}
+use Rattle.model.specs.Lists.{no-tf, and-left, and-right, bool-elim}
 use Rattle.frame.specs.Loaded.{Loaded}
-use Rattle.frame.specs.Front.{bool-elim, padded, same-desk, desk-front}
+use Rattle.frame.specs.Front.{padded, same-desk, desk-front}
 
 -- ── scratch tables ──
 -- chunk rows for three chunks more, and clear; pieces and store as long as the lent ones, or longer
@@ -37,42 +39,16 @@ pub record Roomy (n : ℕ) (t : List ℕ) : Type 0 where
   pub room : (countOf t + n) * 12 + 12 ≤ length t
   pub narrow : length t ≤ 4294967296
 
-pub zeros-length : (n k : ℕ) → k ≤ n → length {A = ℕ} (take {A = ℕ} k (replicate n 0)) ≡ k
-zeros-length n k h = simp (length-take, length-replicate) (omega arith)
-
-pub zeros-at : (n k b : ℕ) → getD {A = ℕ} (take {A = ℕ} k (replicate n 0)) b 0 ≡ 0
-zeros-at n zero b = refl
-zeros-at zero (suc k) b = refl
-zeros-at (suc n) (suc k) zero = refl
-zeros-at (suc n) (suc k) (suc b) = zeros-at n k b
-
 -- ── the limits of a desk ──
-no-tf : {X : Type 0} → _≡_ {A = Bool} true false → X
-no-tf z = let y : _≡_ {A = ℕ} 0 1 = cc in absurd (omega arith)
-
-and-left : (x y : Bool) → x && y ≡ true → x ≡ true
-and-left true y e = refl
-and-left false y e = e
-
-and-right : (x y : Bool) → x && y ≡ true → y ≡ true
-and-right true y e = e
-and-right false y e = no-tf (sym e)
-
 pub small-source : (source t p s : List ℕ) → within full (magicStringOf source t p s) ≡ true → length source ≤ 16384
 unfolding within magicStringOf
 small-source source t p s e = leb-true (length source) 16384 (and-left (leb (length source) 16384) _ e)
 
 pub few-chunks : (source t p s : List ℕ) → within full (magicStringOf source t p s) ≡ true → countOf t ≤ 512
-unfolding within magicStringOf order
+unfolding within magicStringOf
 few-chunks source t p s e =
     let k = and-left (leb (length (magicStringOf source t p s .chunks)) 512) _ (and-right (leb (length source) 16384) _ e) in
-    omega (
-      arith,
-      leb-true (length (magicStringOf source t p s .chunks)) 512 k,
-      length-map (entries t) (chunkOf p s),
-      length-map (order t) (entryAt t),
-      length-follow (nextOf t) (countOf t) (nextOf t 0),
-    )
+    omega (arith, leb-true (length (magicStringOf source t p s .chunks)) 512 k, chunk-count source t p s)
 
 -- the source's length is the only limit that the source decides
 within-any : (source t p s : List ℕ) → length source ≤ 16384 → within full (magicStringOf [] t p s) ≡ within full (magicStringOf source t p s)
@@ -111,9 +87,9 @@ module _ {source t p s t₀ p₀ s₀ t1 p1 s1 : List ℕ} (w : WellFormed sourc
   with-scratch-desk t2 h = rw (d .pieces, d .store) (desk-front p s (drop (length p) p₀) (drop (length s) s₀) t2 h .1 source)
 
 -- ── the call ──
--- every byte stays
-pub all-same : (t p s : List ℕ) → Same t p s t p s
-all-same t p s = record { chunks = refl; pieces = refl; store = refl }
+pub refused-15 : (e : Edit) (m : MagicString) → options-valid e ≡ false → refused-before m e ≡ 15
+unfolding refused-before
+refused-15 e m h = rw h
 
 run-refused : (e : Edit) (m : MagicString) (n : ℕ) → refused-before m e ≡ suc n → run full e m ≡ err (suc n) m
 unfolding run

@@ -1,6 +1,6 @@
 -- A desk in longer lists: the lent tables stand at the front of the scratch tables, and read the same there.
 use mathlib.Core.Path.{_≡_, refl, sym, ap, ap₂, _∙_, subst, fun-ext}
-use mathlib.Core.Bool.{Bool, true, false, cond}
+use mathlib.Core.Bool.{cond}
 use mathlib.Core.List.{List, [], _∷_, _++_, map}
 use Prim.Native.Nat.{ℕ, zero, suc, _+_, _*_, _-_, _≤_, _<_}
 use native.Mathlib.Omega.{arith}
@@ -10,23 +10,16 @@ use lib.ListN.{length, getD, take, drop, length-append, length-drop, List·getD-
 use lib.Seq.{getD-append-add, getD-drop, take-append-le, drop-append-le}
 use borrow.Author.Tests.{eqb-true, eqb-false}
 use Rattle.utf8.specs.Chars.{All, nil, cons}
+pub use Rattle.model.specs.Lists.{bool-elim}
+pub use Rattle.memory.specs.Laws.{desk-same}
+use Rattle.memory.specs.Laws.{piece-front}
 use Rattle.table.specs.declared.Row.{Row}
 use Rattle.table.specs.Table.{rowAt}
 use Rattle.table.specs.Order.{Entry, entryOf, entryAt, entries, order, nextOf, prevOf, countOf, Linked}
-use Rattle.model.specs.Text.{Text}
 use Rattle.model.specs.Chunk.{Chunk}
-use Rattle.model.specs.MagicString.{MagicString}
 use Rattle.memory.specs.Layout.{NONE, Place, bytesAt, pieceAt, runOf, replacementOf, chunkOf, magicStringOf}
-use Rattle.memory.specs.WellFormed.{PieceIn, RunIn, ReplacementIn, RunsIn, EntryIn, Readable}
+use Rattle.memory.specs.WellFormed.{RunIn, ReplacementIn, RunsIn, EntryIn, Readable}
 use Rattle.texts.specs.Texts.{tabulate-ext, run-tabulate}
-
-pub bool-elim {ℓ} : {A : Type ℓ} (b : Bool) → (b ≡ true → A) → (b ≡ false → A) → A
-bool-elim true f g = f refl
-bool-elim false f g = g refl
-
-pub desk-same : (source : List ℕ) {h h' t t' : List Text} {c c' : List Chunk} → h ≡ h' → t ≡ t' → c ≡ c'
-    → _≡_ {A = MagicString} (record { source = source; intro = h; outro = t; chunks = c }) (record { source = source; intro = h'; outro = t'; chunks = c' })
-desk-same source a b d = cc
 
 -- ── chunk rows: nothing but zeros behind ──
 past : (l : List ℕ) (k : ℕ) → length l ≤ k → getD l k 0 ≡ 0
@@ -98,16 +91,10 @@ bytes-front : (r : Place) (s z : List ℕ) → r .0 + r .1 ≤ length s → byte
 bytes-front r s z h = ap (take (r .1)) (drop-append-le (r .0) s z (omega arith)) ∙ take-append-le (r .1) (drop (r .0) s) z (simp length-drop (omega arith))
 
 module _ (p s y z : List ℕ) where
-  piece-front : (j : ℕ) → PieceIn p s j → pieceAt (p ++ y) j ≡ pieceAt p j
-  piece-front j h =
-      let a : getD (p ++ y) (j * 2) 0 ≡ getD p (j * 2) 0 = List·getD-append p y 0 (j * 2) (omega (arith, h .row)) in
-      let b : getD (p ++ y) (j * 2 + 1) 0 ≡ getD p (j * 2 + 1) 0 = List·getD-append p y 0 (j * 2 + 1) (omega (arith, h .row)) in
-      ap₂ (λ (u v : ℕ). (u, v)) a b
-
   pub run-in-front : (r : Place) → RunIn p s r → RunIn (p ++ y) (s ++ z) r
   unfolding RunIn
   run-in-front r h k g =
-      let e = ap (λ (x : Place). x .0 + x .1) (piece-front (r .0 + k) (h k g)) in
+      let e = ap (λ (x : Place). x .0 + x .1) (piece-front p y (r .0 + k) (h k g .row)) in
       record { row = simp length-append (omega (arith, h k g .row)); text = simp length-append (omega (arith, h k g .text, e)) }
 
   pub run-front : (r : Place) → RunIn p s r → runOf (p ++ y) (s ++ z) r ≡ runOf p s r
@@ -115,7 +102,7 @@ module _ (p s y z : List ℕ) where
   run-front r h =
       run-tabulate (p ++ y) (s ++ z) (r .0) (r .1)
       ∙ tabulate-ext (λ k. bytesAt (s ++ z) (pieceAt (p ++ y) (r .0 + k))) (λ k. bytesAt s (pieceAt p (r .0 + k))) (r .1)
-      (λ k g. ap (bytesAt (s ++ z)) (piece-front (r .0 + k) (h k g)) ∙ bytes-front (pieceAt p (r .0 + k)) s z (h k g .text))
+      (λ k g. ap (bytesAt (s ++ z)) (piece-front p y (r .0 + k) (h k g .row)) ∙ bytes-front (pieceAt p (r .0 + k)) s z (h k g .text))
       ∙ sym (run-tabulate p s (r .0) (r .1))
 
   pub text-in-front : (r : Place) → ReplacementIn s r → ReplacementIn (s ++ z) r

@@ -2,7 +2,7 @@
 -- Assumes nothing.
 use mathlib.Core.Path.{_≡_, refl, sym, ap, ap₂, _∙_, subst}
 use mathlib.Core.Bool.{Bool, true, false}
-use mathlib.Core.List.{List, [], _∷_, _++_, map, append-assoc}
+use mathlib.Core.List.{List, [], _∷_, _++_, map, map-append, append-assoc}
 use mathlib.Core.Logic.{_⊎_, inl, inr}
 use Prim.Native.Nat.{ℕ, suc, _+_, _*_, _-_, _≤_, _<_}
 use native.Mathlib.Omega.{arith}
@@ -10,25 +10,24 @@ use native.Mathlib.Decide.{decLt}
 use lib.Dec.{ltb, leb}
 use lib.ListN.{length, length-append}
 use borrow.Author.Tests.{lt-ltb, le-ltb, leb-true, le-leb}
-use Rattle.utf8.specs.Chars.{All, nil, cons}
+use Rattle.utf8.specs.Chars.{All, nil}
 use Rattle.table.specs.Order.{Entry, entryAt, countOf, Linked}
 use Rattle.model.specs.Text.{Text}
+use Rattle.model.specs.Lists.{no-tf, all-snoc}
 use Rattle.model.specs.Chunk.{Chunk, with-texts, start-of, first-half, second-half, prepend-intro}
 use Rattle.model.specs.Indent.{Starts, then-start}
 use Rattle.memory.specs.Layout.{runOf, chunkOf}
+use Rattle.memory.specs.Laws.{no-run}
 use Rattle.texts.specs.Carry.{Below}
 use Rattle.rows.specs.Insert.{Placed}
 use Rattle.rows.specs.Split.{first, second}
-use Rattle.trim_run.specs.Low.{EntryLow}
+use Rattle.trim_run.specs.Low.{none-below, EntryLow}
 use Rattle.indent_closed.specs.Indent.{split-lines, split-lines-inside, split-lines-at-start}
 use Rattle.indent_text.specs.Bytes.{starts-from, part, NextStart}
 use Rattle.indent_cuts.specs.Splice.{begun, Spliced, CutPart, Cutting, cutting-none, cutting-placed, cutting-more, cutting-end}
 
-pub no-tf : _≡_ {A = Bool} true false → ⊥
-no-tf z = let y : _≡_ {A = ℕ} 0 1 = cc in omega arith
-
 pub leb-less : (x y : ℕ) → leb x y ≡ false → y < x
-leb-less x y e = elim (decLt y x) [ yes k ↦ k | no k ↦ absurd (no-tf (sym (le-leb x y (omega arith)) ∙ e)) ]
+leb-less x y e = elim (decLt y x) [ yes k ↦ k | no k ↦ no-tf (sym (le-leb x y (omega arith)) ∙ e) ]
 
 -- the line starts of the source from a position up to another, and the mark behind them
 abbrev pub linesFrom : List ℕ → List ℕ → Bool → ℕ → ℕ → Starts
@@ -64,23 +63,16 @@ lines-parts indentor c (i ∷ l) =
     ]
 
 -- ---- the two halves of a row, as chunks
-pub run-none : (p s : List ℕ) (at : ℕ) → runOf p s (at, 0) ≡ []
-unfolding runOf
-run-none p s at = refl
-
 module _ (p s : List ℕ) (q : ℕ) (e : Entry) where
   pub lift-first : chunkOf p s (first q e) ≡ first-half q (chunkOf p s e)
-  lift-first = rw (run-none p s 0)
+  lift-first = rw (no-run p s 0)
 
   pub lift-begun : (indentor : Text) → runOf p s (2048, 1) ≡ indentor ∷ [] → chunkOf p s (begun (second q e)) ≡ with-texts (prepend-intro indentor) (second-half q (chunkOf p s e))
   lift-begun indentor r = rw r
 
-nothing-low : (p : List ℕ) (byte top a : ℕ) → Below p byte top (a, 0)
-nothing-low p byte top a k h = absurd (omega arith)
-
 module _ (p : List ℕ) (top byte q : ℕ) (e : Entry) (h : EntryLow p top byte e) where
   pub first-low : EntryLow p top byte (first q e)
-  first-low = record { runs = record { intro = h .runs .intro; outro = nothing-low p byte top 0 }; text = h .text }
+  first-low = record { runs = record { intro = h .runs .intro; outro = none-below p byte top 0 }; text = h .text }
 
   pub begun-low : Below p byte top (2048, 1) → EntryLow p top byte (begun (second q e))
   begun-low b = record { runs = record { intro = b; outro = h .runs .outro }; text = h .text }
@@ -133,14 +125,6 @@ lines-start exclude source t i from end mark h =
       low = λ p top byte b k. (nil, k);
     }
 
-map-append : (p s : List ℕ) (xs ys : List Entry) → map (chunkOf p s) (xs ++ ys) ≡ map (chunkOf p s) xs ++ map (chunkOf p s) ys
-map-append p s [] ys = refl
-map-append p s (x ∷ xs) ys = ap (λ (l : List Chunk). chunkOf p s x ∷ l) (map-append p s xs ys)
-
-all-snoc : {P : Entry → Type 0} {xs : List Entry} {x : Entry} → All P xs → P x → All P (xs ++ x ∷ [])
-all-snoc nil h = cons h nil
-all-snoc (cons k ks) h = cons k (all-snoc ks h)
-
 startsF : Starts → List ℕ
 startsF r = r .starts
 
@@ -171,7 +155,7 @@ module _ (exclude source t₀ : List ℕ) (i from₀ end : ℕ) (mark₀ : Bool)
           es = a .ds ++ entryAt t cur ∷ [];
           spliced = cutting-end (a .cutting);
           chunks = λ p s indentor r.
-              map-append p s (a .ds) (entryAt t cur ∷ []) ∙ sym (a .chunks p s indentor r ∙ ap (λ (l : List ℕ). map (chunkOf p s) (a .ds) ++ split-lines indentor (chunkOf p s (entryAt t cur)) l) s0);
+              map-append (chunkOf p s) (a .ds) (entryAt t cur ∷ []) ∙ sym (a .chunks p s indentor r ∙ ap (λ (l : List ℕ). map (chunkOf p s) (a .ds) ++ split-lines indentor (chunkOf p s (entryAt t cur)) l) s0);
           low = λ p top byte b k. let x = a .low p top byte b k in all-snoc (x .0) (x .1);
         },
         sym (a .mark-is ∙ ap markF e),
@@ -237,7 +221,7 @@ module _ (exclude source t₀ : List ℕ) (i from₀ end : ℕ) (mark₀ : Bool)
               ∙ ap (λ (y : Starts). map (chunkOf p s) (a .ds) ++ split-lines indentor c0 (y .starts)) next
               ∙ ap (λ (l : List Chunk). map (chunkOf p s) (a .ds) ++ l) (split-lines-inside indentor c0 x (W' .starts) past-start)
               ∙ sym (
-              ap₂ (λ (u : List Chunk) (d : Chunk). u ++ split-lines indentor d (W' .starts)) (map-append p s (a .ds) (first x e ∷ []) ∙ ap (λ (d : Chunk). map (chunkOf p s) (a .ds) ++ d ∷ []) (lift-first p s x e)) (ap (chunkOf p s) e' ∙ lift-begun p s x e indentor r)
+              ap₂ (λ (u : List Chunk) (d : Chunk). u ++ split-lines indentor d (W' .starts)) (map-append (chunkOf p s) (a .ds) (first x e ∷ []) ∙ ap (λ (d : Chunk). map (chunkOf p s) (a .ds) ++ d ∷ []) (lift-first p s x e)) (ap (chunkOf p s) e' ∙ lift-begun p s x e indentor r)
               ∙ append-assoc (map (chunkOf p s) (a .ds)) (first-half x c0 ∷ []) (split-lines indentor (with-texts (prepend-intro indentor) (second-half x c0)) (W' .starts)));
           low = λ p top byte b z.
               let y = a .low p top byte b z in

@@ -20,7 +20,7 @@ use Rattle.rows.specs.Split.{RowSet}
 use Rattle.indent_text.specs.Bytes.{mark-behind, part, Filling}
 use Rattle.indent_text.specs.Laws.{indent-frag-is}
 use Rattle.indent_cuts.specs.Splice.{withText, Rewritten, rewritten-set}
-use Rattle.indent_cuts.specs.Lines.{no-tf}
+use Rattle.model.specs.Lists.{no-tf}
 
 -- ---- a replacement
 pub record ReplacementReady (store t s : List ℕ) (i byte : ℕ) : Type 0 where
@@ -62,7 +62,7 @@ written-fits {s} {s'} {byte} {end} indentor mark text part {fits} e v f g m =
       end-is = λ _. q .done g .next-is;
       room = λ _. q .room g;
       mark-is = λ _. m ∙ ap (mark-behind mark) e ∙ sym (ap (λ (x : Indented). x .mark) (indent-frag-is indentor mark text v));
-      short = λ z. absurd (no-tf z);
+      short = λ z. no-tf z;
     }
 
 pub written-short : {s s' : List ℕ} {byte end end' : ℕ} (indentor : List ℕ) (mark : Bool) (text part : List ℕ) {fits mark' : Bool} → part ≡ text
@@ -70,10 +70,10 @@ pub written-short : {s s' : List ℕ} {byte end end' : ℕ} (indentor : List ℕ
 written-short {s} {s'} {byte} {end} indentor mark text part {fits} e f g =
     let q = subst (λ (x : Text). Filling s byte (indent-frag indentor mark x .text) s' fits end) e f in
     record {
-      store-is = λ z. absurd (no-tf (sym z));
-      end-is = λ z. absurd (no-tf (sym z));
-      room = λ z. absurd (no-tf (sym z));
-      mark-is = λ z. absurd (no-tf (sym z));
+      store-is = λ z. no-tf (sym z);
+      end-is = λ z. no-tf (sym z);
+      room = λ z. no-tf (sym z);
+      mark-is = λ z. no-tf (sym z);
       short = λ _. q .short g;
     }
 

@@ -9,10 +9,11 @@ use native.Mathlib.Omega.{arith}
 use lib.ListN.{length, length-append, length-map}
 use Rattle.utf8.specs.Chars.{All, nil, cons}
 use Rattle.table.specs.declared.Row.{Row}
-use Rattle.table.specs.Ring.{Edge, Links, links-right, length-follow}
+use Rattle.table.specs.Ring.{Edge, Links, links-right}
 use Rattle.table.specs.Table.{rowAt}
-use Rattle.table.specs.Order.{Entry, entryAt, order, nextOf, prevOf, countOf, Linked, inside-at}
+use Rattle.table.specs.Order.{Entry, entryAt, order, nextOf, prevOf, countOf, order-length, Linked, inside-at}
 use Rattle.model.specs.Text.{sum}
+use Rattle.model.specs.Lists.{first-of, rest-of, all-append}
 use Rattle.model.specs.Chunk.{Chunk, content}
 use Rattle.model.specs.Limits.{chunk-pieces, chunk-bytes}
 use Rattle.model.specs.WellFormed.{Valid, ValidTexts}
@@ -83,10 +84,6 @@ unfolding order
 next-row t us i bs l o =
     next-head (nextOf t) (prevOf t) i bs (links-right (Edge (nextOf t) (prevOf t)) 0 us i bs 0 (subst (λ (m : List ℕ). Links (Edge (nextOf t) (prevOf t)) 0 m 0) o (l .ring .links)))
 
-order-length : (t : List ℕ) → length (order t) ≡ countOf t
-unfolding order
-order-length t = length-follow (nextOf t) (countOf t) (nextOf t 0)
-
 -- ---- the start
 rest-rows : (source store p s : List ℕ) (top byte : ℕ) → Valid source → {es : List Entry} → All (EntryLow p top byte) es → All (λ e. TextLow (length store) (e .text)) es → All (Inside source) (map (chunkOf p s) es)
     → All (λ c. ValidTexts (c .texts)) (map (chunkOf p s) es) → All (RestRow source store p s top byte) es
@@ -120,20 +117,6 @@ walk-start {indentor} {source} {store} {t} {p} {s} {top} {byte} exclude mark z h
     }
 
 -- ---- a turn
-all-first : {P : Entry → Type 0} {x : Entry} {xs : List Entry} → All P (x ∷ xs) → P x
-all-first (cons h k) = h
-
-all-rest : {P : Entry → Type 0} {x : Entry} {xs : List Entry} → All P (x ∷ xs) → All P xs
-all-rest (cons h k) = k
-
-all-append : {P : Entry → Type 0} {xs ys : List Entry} → All P xs → All P ys → All P (xs ++ ys)
-all-append nil q = q
-all-append (cons p ps) q = cons p (all-append ps q)
-
-chunks-append : (p s : List ℕ) (xs ys : List Entry) → map (chunkOf p s) (xs ++ ys) ≡ map (chunkOf p s) xs ++ map (chunkOf p s) ys
-chunks-append p s [] ys = refl
-chunks-append p s (x ∷ xs) ys = ap (λ (l : List Chunk). chunkOf p s x ∷ l) (chunks-append p s xs ys)
-
 rest-low : {source store p s : List ℕ} {top byte : ℕ} {es : List Entry} → All (RestRow source store p s top byte) es → All (EntryLow p top byte) es
 rest-low nil = nil
 rest-low (cons h k) = cons (h .low) (rest-low k)
@@ -194,7 +177,7 @@ module _ {indentor exclude source store t₀ p₀ s₀ : List ℕ} {mark₀ : Bo
     pub walk-ready : RowReady indentor source store t p s cur top byte
     walk-ready =
         let e = entryAt t cur in
-        let r = all-first rest-here in
+        let r = first-of rest-here in
         record {
           linked = w .linked;
           placed = record { us = us; bs = bs; place = next .place };
@@ -261,11 +244,11 @@ module _ {indentor exclude source store t₀ p₀ s₀ : List ℕ} {mark₀ : Bo
       done-chunks : chunksAt t' p' s' (us ++ at .vs) ≡ chunksAt t p s us ++ closedRow indentor exclude source t p s cur mark .chunks
       done-chunks =
           ap (map (chunkOf p' s')) done-entries
-          ∙ chunks-append p' s' (map (entryAt t) us) (d .es)
+          ∙ map-append (chunkOf p' s') (map (entryAt t) us) (d .es)
           ∙ ap₂ (λ (xs ys : List Chunk). xs ++ ys) (entries-same top byte p s p' s' (d .rows) (d .bytes) (w .low)) (d .chunks)
 
       rest-chunks : chunksAt t' p' s' bs ≡ chunksAt t p s bs
-      rest-chunks = ap (map (chunkOf p' s')) rest-entries ∙ entries-same top byte p s p' s' (d .rows) (d .bytes) (rest-low (all-rest rest-here))
+      rest-chunks = ap (map (chunkOf p' s')) rest-entries ∙ entries-same top byte p s p' s' (d .rows) (d .bytes) (rest-low (rest-of rest-here))
 
       pub walk-more : (r : Row) → r ≡ rowAt t cur → WalkAt indentor exclude source store t₀ p₀ s₀ mark₀ top₀ byte₀ n t' p' s' (k + 1) (r .next) mark' top' byte'
       walk-more r er =
@@ -285,7 +268,7 @@ module _ {indentor exclude source store t₀ p₀ s₀ : List ℕ} {mark₀ : Bo
             byte-up = omega (arith, w .byte-up, d .byte-up);
             byte-in = d .byte-in;
             low = subst (All (EntryLow p' top' byte')) (sym done-entries) (all-append (entries-still top byte p p' (d .rows) top' byte' (d .top-up) (d .byte-up) (w .low)) (d .low));
-            todo = subst (All (RestRow source store p' s' top' byte')) (sym rest-entries) (rest-still top' byte' (d .rows) (d .bytes) (d .top-up) (d .byte-up) (all-rest rest-here));
+            todo = subst (All (RestRow source store p' s' top' byte')) (sym rest-entries) (rest-still top' byte' (d .rows) (d .bytes) (d .top-up) (d .byte-up) (rest-of rest-here));
             indentor-row = λ l.
                 let x = w .indentor-row l in
                 record {

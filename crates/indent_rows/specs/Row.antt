@@ -10,7 +10,7 @@ use native.Mathlib.Omega.{arith}
 use lib.Dec.{leb}
 use lib.ListN.{length, take, drop}
 use lib.Seq.{take-all}
-use borrow.Author.Tests.{eq-eqb, ne-eqb, leb-true}
+use borrow.Author.Tests.{leb-true}
 use Rattle.utf8.specs.Chars.{All, nil, cons}
 use Rattle.table.specs.Order.{Entry, entryAt, countOf, Linked}
 use Rattle.model.specs.Text.{Text, sum}
@@ -18,7 +18,8 @@ use Rattle.model.specs.Chunk.{Chunk, with-texts, span-text, content-or, content
 use Rattle.model.specs.Limits.{chunk-pieces, chunk-bytes}
 use Rattle.model.specs.Indent.{Indented, indent-frag, excluded, Starts, set-edited}
 use Rattle.model.specs.WellFormed.{Valid}
-use Rattle.memory.specs.Layout.{NONE, Place, bytesAt, replacementOf, chunkOf}
+use Rattle.memory.specs.Layout.{NONE, bytesAt, replacementOf, chunkOf}
+use Rattle.memory.specs.Laws.{none-text, some-text}
 use Rattle.texts.specs.Over.{length-over, take-over, over-part, part-kept}
 use Rattle.texts.specs.Texts.{SpanIn, run-length}
 use Rattle.rows.specs.Insert.{Placed}
@@ -75,14 +76,6 @@ pub record RowDone (indentor exclude source t p s : List ℕ) (i : ℕ) (mark : 
   pub past : number ≡ 13 → (513 < countOf t + length (closedRow indentor exclude source t p s i mark .chunks)) ⊎ (length s < byte + sum chunk-bytes (closedRow indentor exclude source t p s i mark .chunks))
 
 -- ---- the row
-none-text : (s : List ℕ) (r : Place) → r .0 ≡ NONE → replacementOf s r ≡ none
-unfolding replacementOf
-none-text s r e = rw (eq-eqb (r .0) NONE e)
-
-some-text : (s : List ℕ) (r : Place) → (r .0 ≡ NONE → ⊥) → replacementOf s r ≡ some (bytesAt s r)
-unfolding replacementOf
-some-text s r e = rw (ne-eqb (r .0) NONE e)
-
 content-or-is : {o : Option Text} (p : Option Text) (x : Text) → o ≡ p → content-or o x ≡ content-or p x
 content-or-is p x e = ap (λ (y : Option Text). content-or y x) e
 

@@ -17,8 +17,8 @@ use Rattle.texts.specs.Carry.{Below}
 use Rattle.rows.specs.Insert.{Placed}
 use Rattle.rows.specs.Split.{RowSet}
 use Rattle.trim_run.specs.Low.{RowsKept, rows-same}
-use Rattle.trim_run.specs.Run.{Copied}
-use Rattle.indent_cuts.specs.Lines.{run-none}
+use Rattle.trim_run.specs.Run.{Copied, pair}
+use Rattle.memory.specs.Laws.{no-run}
 use Rattle.indent_cuts.specs.Splice.{withIntro, Rewritten, rewritten-set}
 
 -- ---- rows
@@ -34,9 +34,6 @@ pub record Prefixed (p p' : List ℕ) (at n top : ℕ) : Type 0 where
   pub kept : RowsKept top p p'
   pub first : pieceAt p' top ≡ pieceAt p 2048
   pub others : (j : ℕ) → j < n → pieceAt p' (top + 1 + j) ≡ pieceAt p (at + j)
-
-pair : {q r : Piece} → q ≡ r → _≡_ {A = Place} (q .at, q .n) (r .at, r .n)
-pair e = ap (λ (x : Piece). (x .at, x .n)) e
 
 pub prefixed : (p p1 p2 : List ℕ) (at n top : ℕ) (r : Piece) → PrefixRoom p at n top → r ≡ rows.pieceAt p 2048 → rows.PutPiece p p1 top r → length p1 ≡ length p → Copied p1 p2 at n (top + 1) → Prefixed p p2 at n top
 prefixed p p1 p2 at n top r h e w m c =
@@ -135,7 +132,7 @@ module _ {t p : List ℕ} {i top : ℕ} (h : BeginReady t p i top) (r : Row) (er
           set = row-with (2048, 1) c;
           len = m;
           kept = rows-same top p;
-          text = λ s indentor e. e ∙ ap (λ (l : List Text). indentor ∷ l) (sym (ap (λ (k : ℕ). runOf p s (entryAt t i .intro .0, k)) n ∙ run-none p s (entryAt t i .intro .0)));
+          text = λ s indentor e. e ∙ ap (λ (l : List Text). indentor ∷ l) (sym (ap (λ (k : ℕ). runOf p s (entryAt t i .intro .0, k)) n ∙ no-run p s (entryAt t i .intro .0)));
           low = λ byte b k. b;
           up = omega arith;
           used = omega arith;

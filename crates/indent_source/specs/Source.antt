@@ -15,7 +15,8 @@ use Rattle.model.specs.Indent.{Starts, then-start}
 use Rattle.texts.specs.Texts.{SpanIn}
 use Rattle.rows.specs.Insert.{Placed}
 use Rattle.indent_text.specs.Bytes.{NextStart}
-use Rattle.indent_cuts.specs.Lines.{no-tf, leb-less, linesFrom, parts, LinesReady}
+use Rattle.model.specs.Lists.{no-tf}
+use Rattle.indent_cuts.specs.Lines.{leb-less, linesFrom, parts, LinesReady}
 use Rattle.indent_source.specs.Begin.{BeginReady, Begun}
 use Rattle.indent_source.specs.Parts.{Parts, PartsDone, parts-none, own-lines-ready}
 
@@ -149,6 +150,6 @@ module _ {source t p : List ℕ} {i top : ℕ} {usable : Bool} (exclude : List �
           zero-or = d .zero-or;
           done = λ z. subst (λ (y : Starts). Parts t p i top (y .starts) t' p' top') (sym lines-then) (d .done z);
           mark-is = λ z. d .mark-is z ∙ sym (ap (λ (y : Starts). y .mark) lines-then);
-          used = λ z f. absurd (no-tf (sym u ∙ f));
+          used = λ z f. no-tf (sym u ∙ f);
           past = λ z. inl (subst (λ (y : Starts). 513 < countOf t + parts (entryAt t i .start) (y .starts)) (sym lines-then) (d .past z));
         }

@@ -20,7 +20,7 @@ use Rattle.memory.specs.WellFormed.{RunIn, Readable}
 use Rattle.texts.specs.Texts.{run-length}
 use Rattle.texts.specs.Carry.{Below}
 use Rattle.rows.specs.Insert.{runsOf}
-use Rattle.frame.specs.Front.{desk-same}
+use Rattle.memory.specs.Laws.{desk-same}
 use Rattle.trim_run.specs.Low.{DeskLow, desk-in, run-same, run-still, entries-same, entries-still}
 use Rattle.indent_closed.specs.Indent.{IndentedChunks}
 use Rattle.indent_run.specs.Run.{RunReady}

@@ -21,11 +21,11 @@ use Rattle.model.specs.WellFormed as model
 use Rattle.model.specs.Lists.{concat-sum, and-left, and-right}
 use Rattle.memory.specs.Layout.{Place, runOf, chunkOf, magicStringOf}
 use Rattle.memory.specs.WellFormed.{RunIn, ReplacementIn, EntryIn, Readable}
-use Rattle.memory.specs.Laws.{piece-front}
+use Rattle.memory.specs.Laws.{piece-front, desk-same}
 use Rattle.texts.specs.Over.{part-kept}
 use Rattle.texts.specs.Texts.{run-length}
 use Rattle.texts.specs.Carry.{Below}
-use Rattle.frame.specs.Front.{desk-same, chunks-front}
+use Rattle.frame.specs.Front.{chunks-front}
 use Rattle.frame.specs.Frame.{Did, few-chunks}
 use Rattle.trim_run.specs.Low.{RowsKept, BytesKept, TextLow, EntryLow, run-same, run-still, entries-same, entries-still}
 use Rattle.indent_closed.specs.Indent.{indented-chunks, indented}

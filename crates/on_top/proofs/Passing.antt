@@ -1,52 +1,27 @@
 -- The pass of `live`: a run, a row, and all rows so far.
-use mathlib.Core.Path.{_≡_, refl, sym, ap, ap₂, _∙_, subst}
+use mathlib.Core.Path.{_≡_, sym, ap, ap₂, _∙_, subst}
 use mathlib.Core.Bool.{true}
-use mathlib.Core.List.{List, [], _∷_, _++_, map, append-assoc, append-nil}
+use mathlib.Core.List.{List, [], _∷_, _++_, map, map-append}
 use Prim.Native.Nat.{ℕ, suc, _+_, _*_, _-_, _≤_, _<_, min, max}
 use native.Mathlib.Omega.{arith}
 use native.Mathlib.Decide.{ℕ-discrete, decLt}
-use native.Mathlib.Numerals.{add-one}
-use lib.ListN.{length, getD, take, drop, length-drop}
+use lib.ListN.{length, getD, take}
 use lib.Seq.{length-take-le, getD-take}
-use borrow.Author.Tests.{ne-eqb, eq-eqb}
 use Rattle.utf8.specs.Chars.{All, nil, cons}
-use Rattle.utf8.specs.CharLaws.{all-back}
-use Rattle.table.specs.Ring.{follow}
-use Rattle.table.specs.Order.{Entry, entryAt, entries, order, nextOf, countOf, inside-at}
+use Rattle.table.specs.Order.{Entry, entryAt, nextOf, countOf}
 use Rattle.model.specs.Text.{sum}
-use Rattle.model.specs.Chunk.{Chunk}
-use Rattle.model.specs.Limits.{full, within, chunk-pieces, chunk-bytes, piece-count, byte-count, replacement-bytes}
-use Rattle.memory.specs.Layout.{NONE, Place, bytesAt, pieceAt, tabulate, runOf, replacementOf, chunkOf, magicStringOf}
+use Rattle.model.specs.Lists.{first-of, rest-of, all-snoc}
+use Rattle.model.specs.Limits.{full, within, chunk-pieces, piece-count, byte-count, replacement-bytes}
+use Rattle.memory.specs.Layout.{NONE, Place, bytesAt, pieceAt, runOf, replacementOf, chunkOf, magicStringOf}
 use Rattle.memory.specs.WellFormed.{RunIn, ReplacementIn, EntryIn, Readable}
-use Rattle.texts.specs.Texts.{run-length, run-piece}
+use Rattle.texts.specs.Texts.{run-piece}
 use Rattle.texts.specs.Carry.{Below}
 use Rattle.rebuild.specs.Lay.{own, EntryBelow}
+use Rattle.frame.proofs.Counting.{CountAt, count-start, count-more, all-done, pieces-all, bytes-all, firstBytes, bytes-none, bytes-more, capped-more, pieces-of, text-bytes, no-bytes, two-counts, three-counts}
 use Rattle.on_top.specs.declared.Used.{Used}
 use Rattle.on_top.specs.Live.{LiveIn, TopRow, RunLive, EntryLive, LiveOf, few-uses}
 
 -- ── a run ──
-sum-snoc : {A : Type 0} (w : A → ℕ) (xs : List A) (x : A) → sum w (xs ++ (x ∷ [])) ≡ sum w xs + w x
-sum-snoc w [] x = omega arith
-sum-snoc w (y ∷ ys) x = omega (arith, sum-snoc w ys x)
-
--- the bytes of the first i texts of a run
-abbrev pub firstBytes : List ℕ → List ℕ → ℕ → ℕ → ℕ
-firstBytes p s at i = sum length (runOf p s (at, i))
-
-bytes-none : (p s : List ℕ) (at : ℕ) → firstBytes p s at 0 ≡ 0
-unfolding runOf
-bytes-none p s at = refl
-
-bytes-more : (p s : List ℕ) (at i : ℕ) → firstBytes p s at (i + 1) ≡ firstBytes p s at i + length (bytesAt s (pieceAt p (at + i)))
-unfolding runOf
-bytes-more p s at i =
-    ap (λ (n : ℕ). sum length (tabulate (λ k. bytesAt s (pieceAt p (at + k))) n)) (add-one i)
-    ∙ sum-snoc length (tabulate (λ k. bytesAt s (pieceAt p (at + k))) i) (bytesAt s (pieceAt p (at + i)))
-
--- a count that stops at c
-capped-more : (c a x s s' : ℕ) → s ≡ min a c → s' ≡ min (s + x) c → s' ≡ min (a + x) c
-capped-more c a x s s' e f = omega arith
-
 -- i pieces of the run are passed
 pub record RunAt (p s : List ℕ) (at n : ℕ) (c : Used) (i bytes byte : ℕ) : Type 0 where
   pub upto : i ≤ n
@@ -115,30 +90,12 @@ run-end {p} {s} {at} {n} {c} {i} {bytes} {byte} {pieces} {row} h l r g ep t =
     }
 
 -- ── a row ──
-pieces-of : (p s : List ℕ) (e : Entry) → chunk-pieces (chunkOf p s e) ≡ e .intro .1 + e .outro .1
-pieces-of p s e = omega (arith, run-length p s (e .intro .0) (e .intro .1), run-length p s (e .outro .0) (e .outro .1))
-
-text-bytes : (s : List ℕ) (r : Place) → ReplacementIn s r → (r .0 ≡ NONE → ⊥) → replacement-bytes (replacementOf s r) ≡ r .1
-unfolding replacementOf ReplacementIn
-text-bytes s r h e = rw (ne-eqb (r .0) NONE e) (length-take-le (r .1) (drop (r .0) s) (simp length-drop (omega (arith, h e))))
-
-no-bytes : (s : List ℕ) (r : Place) → r .0 ≡ NONE → replacement-bytes (replacementOf s r) ≡ 0
-unfolding replacementOf
-no-bytes s r e = rw (eq-eqb (r .0) NONE e)
-
 text-in : (s : List ℕ) (r : Place) → ReplacementIn s r → (r .0 ≡ NONE → ⊥) → r .0 + r .1 ≤ length s
 unfolding ReplacementIn
 text-in s r h e = h e
 
 below-up : (p : List ℕ) (byte row byte' row' : ℕ) (x : Place) → Below p byte row x → row ≤ row' → byte ≤ byte' → Below p byte' row' x
 below-up p byte row byte' row' x h a b k g = (omega (arith, h k g .0), omega (arith, h k g .1))
-
--- counts that stop at c, one after another
-two-counts : (c a x y r s z : ℕ) → r ≡ min (a + x) c → s ≡ min (r + y) c → z ≡ x + y → s ≡ min (a + z) c
-two-counts c a x y r s z e f g = omega arith
-
-three-counts : (c a x y w r s u v : ℕ) → r ≡ min (a + x) c → s ≡ min (r + y) c → u ≡ min (s + w) c → v ≡ w → u ≡ min (a + (x + y + v)) c
-three-counts c a x y w r s u v e f g h = omega arith
 
 module _ {p s : List ℕ} (e : Entry) {c a b : Used} (x : RunLive p s (e .intro) c a) (y : RunLive p s (e .outro) a b) where
   two-runs : b .pieces ≡ min (c .pieces + chunk-pieces (chunkOf p s e)) 1025
@@ -178,9 +135,7 @@ module _ {p s : List ℕ} (e : Entry) {c a b : Used} (x : RunLive p s (e .intro)
 -- ── the walk ──
 pub record LiveAt (t p s : List ℕ) (m cur pieces bytes row byte : ℕ) : Type 0 where
   pub done : List ℕ
-  pub place : order t ≡ done ++ follow (nextOf t) m cur
-  pub pieces-are : pieces ≡ min (sum chunk-pieces (map (chunkOf p s) (own t ∷ map (entryAt t) done))) 1025
-  pub bytes-are : bytes ≡ min (sum chunk-bytes (map (chunkOf p s) (own t ∷ map (entryAt t) done))) 32769
+  pub counts : CountAt t p s done m cur pieces bytes
   pub below : All (EntryBelow p byte row) (own t ∷ map (entryAt t) done)
   pub inside : LiveIn p s (record { pieces = pieces; bytes = bytes; row = row; byte = byte })
 
@@ -190,41 +145,14 @@ noUse = record { pieces = 0; bytes = 0; row = 0; byte = 0 }
 pub none-in : (p s : List ℕ) → LiveIn p s noUse
 none-in p s = record { pieces = omega arith; bytes = omega arith; row = omega arith; byte = omega arith }
 
-pub own-in : {t p s : List ℕ} → Readable t p s → EntryIn p s (own t)
-unfolding ReplacementIn
-own-in h = record { runs = record { intro = h .desk .intro; outro = h .desk .outro }; replacement = λ n. absurd (n refl) }
-
 pub live-start : (t p s : List ℕ) (e : Entry) (c : Used) → e ≡ own t → EntryLive p s e noUse c → LiveAt t p s (countOf t) (nextOf t 0) (c .pieces) (c .bytes) (c .row) (c .byte)
-unfolding order
 live-start t p s e c q l =
-    let a : chunk-pieces (chunkOf p s e) ≡ chunk-pieces (chunkOf p s (own t)) = ap (λ (x : Entry). chunk-pieces (chunkOf p s x)) q in
-    let b : chunk-bytes (chunkOf p s e) ≡ chunk-bytes (chunkOf p s (own t)) = ap (λ (x : Entry). chunk-bytes (chunkOf p s x)) q in
     record {
       done = [];
-      place = refl;
-      pieces-are = omega (arith, l .pieces);
-      bytes-are = omega (arith, l .bytes);
+      counts = count-start t p s e (c .pieces) (c .bytes) q (l .pieces) (l .bytes);
       below = cons (subst (EntryBelow p (c .byte) (c .row)) q (l .below)) nil;
       inside = l .inside;
     }
-
-map-snoc : {A B : Type 0} (f : A → B) (xs : List A) (x : A) → map f (xs ++ (x ∷ [])) ≡ map f xs ++ (f x ∷ [])
-map-snoc f [] x = refl
-map-snoc {A} {B} f (y ∷ ys) x = ap (λ (l : List B). f y ∷ l) (map-snoc f ys x)
-
-map-append : {A B : Type 0} (f : A → B) (xs ys : List A) → map f (xs ++ ys) ≡ map f xs ++ map f ys
-map-append f [] ys = refl
-map-append {A} {B} f (x ∷ xs) ys = ap (λ (l : List B). f x ∷ l) (map-append f xs ys)
-
-all-first : {A : Type 0} {P : A → Type 0} {x : A} {xs : List A} → All P (x ∷ xs) → P x
-all-first (cons h k) = h
-
-all-rest : {A : Type 0} {P : A → Type 0} {x : A} {xs : List A} → All P (x ∷ xs) → All P xs
-all-rest (cons h k) = k
-
-all-snoc : {A : Type 0} {P : A → Type 0} {xs : List A} {x : A} → All P xs → P x → All P (xs ++ (x ∷ []))
-all-snoc nil h = cons h nil
-all-snoc (cons a k) h = cons a (all-snoc k h)
 
 entry-up : {p : List ℕ} {byte row byte' row' : ℕ} (e : Entry) → EntryBelow p byte row e → row ≤ row' → byte ≤ byte' → EntryBelow p byte' row' e
 entry-up {p} {byte} {row} {byte'} {row'} e h a b =
@@ -235,31 +163,15 @@ entries-up nil a b = nil
 entries-up (cons {x = e} h k) a b = cons (entry-up e h a b) (entries-up k a b)
 
 module _ {t p s : List ℕ} {m cur pieces bytes row byte : ℕ} (h : Readable t p s) (c : LiveAt t p s (suc m) cur pieces bytes row byte) where
-  pub live-in : EntryIn p s (entryAt t cur)
-  live-in =
-      all-first (all-back (EntryIn p s) (map (entryAt t) (c .done)) (map (entryAt t) (follow (nextOf t) (suc m) cur))
-      (subst (All (EntryIn p s)) (ap (map (entryAt t)) (c .place) ∙ map-append (entryAt t) (c .done) (follow (nextOf t) (suc m) cur)) (h .chunks)))
-
-  pub live-place : cur * 12 + 12 ≤ length t
-  live-place = omega (arith, h .linked .room, inside-at t (c .done) cur (follow (nextOf t) m (nextOf t cur)) (h .linked) (c .place) .1)
-
-  more : (w : Chunk → ℕ) → sum w (map (chunkOf p s) (own t ∷ map (entryAt t) (c .done ++ (cur ∷ [])))) ≡ sum w (map (chunkOf p s) (own t ∷ map (entryAt t) (c .done))) + w (chunkOf p s (entryAt t cur))
-  more w =
-      let e : map (chunkOf p s) (map (entryAt t) (c .done ++ (cur ∷ []))) ≡ map (chunkOf p s) (map (entryAt t) (c .done)) ++ (chunkOf p s (entryAt t cur) ∷ []) =
-      ap (map (chunkOf p s)) (map-snoc (entryAt t) (c .done) cur) ∙ map-snoc (chunkOf p s) (map (entryAt t) (c .done)) (entryAt t cur) in
-      rw e (sum-snoc w (chunkOf p s (own t) ∷ map (chunkOf p s) (map (entryAt t) (c .done))) (chunkOf p s (entryAt t cur)))
-
   pub live-more : (d : Used) → EntryLive p s (entryAt t cur) (record { pieces = pieces; bytes = bytes; row = row; byte = byte }) d
       → LiveAt t p s m (nextOf t cur) (d .pieces) (d .bytes) (d .row) (d .byte)
   live-more d l =
       record {
         done = c .done ++ (cur ∷ []);
-        place = c .place ∙ sym (append-assoc (c .done) (cur ∷ []) (follow (nextOf t) m (nextOf t cur)));
-        pieces-are = capped-more 1025 _ _ pieces (d .pieces) (c .pieces-are) (l .pieces) ∙ ap (λ (x : ℕ). min x 1025) (sym (more chunk-pieces));
-        bytes-are = capped-more 32769 _ _ bytes (d .bytes) (c .bytes-are) (l .bytes) ∙ ap (λ (x : ℕ). min x 32769) (sym (more chunk-bytes));
+        counts = count-more h (c .counts) (d .pieces) (d .bytes) (l .pieces) (l .bytes);
         below =
-            cons (all-first (entries-up (c .below) (l .row-grows) (l .byte-grows)))
-            (subst (All (EntryBelow p (d .byte) (d .row))) (sym (map-snoc (entryAt t) (c .done) cur)) (all-snoc (all-rest (entries-up (c .below) (l .row-grows) (l .byte-grows))) (l .below)));
+            cons (first-of (entries-up (c .below) (l .row-grows) (l .byte-grows)))
+            (subst (All (EntryBelow p (d .byte) (d .row))) (sym (map-append (entryAt t) (c .done) (cur ∷ []))) (all-snoc (rest-of (entries-up (c .below) (l .row-grows) (l .byte-grows))) (l .below)));
         inside = l .inside;
       }
 
@@ -304,16 +216,8 @@ capped-all : (c a s : ℕ) → s ≡ min a (suc c) → a ≤ c → s ≡ a
 capped-all c a s e h = omega arith
 
 module _ {t p s : List ℕ} {n k cur pieces bytes row byte : ℕ} (l : Loop t p s n k cur pieces bytes row byte) (g : n ≤ k) where
-  all-done : entries t ≡ map (entryAt t) (l .at .done)
-  all-done = let e : n - k ≡ 0 = omega arith in ap (map (entryAt t)) (l .at .place ∙ ap (λ (m : ℕ). l .at .done ++ follow (nextOf t) m cur) e ∙ append-nil (l .at .done))
-
-  pieces-all : pieces ≡ min (piece-count (magicStringOf [] t p s)) 1025
-  unfolding magicStringOf
-  pieces-all = rw all-done (l .at .pieces-are)
-
-  bytes-all : bytes ≡ min (byte-count (magicStringOf [] t p s)) 32769
-  unfolding magicStringOf replacementOf
-  bytes-all = rw all-done (l .at .bytes-are ∙ ap (λ (x : ℕ). min x 32769) (omega arith))
+  none-left : n - k ≡ 0
+  none-left = omega arith
 
   pub live-end : Readable t p s → within full (magicStringOf [] t p s) ≡ true → LiveOf t p s (record { pieces = pieces; bytes = bytes; row = row; byte = byte })
   live-end h w =
@@ -321,15 +225,15 @@ module _ {t p s : List ℕ} {n k cur pieces bytes row byte : ℕ} (l : Loop t p 
       let b = l .at .below in
       let hr = l .at .inside .row in
       let hb = l .at .inside .byte in
-      let o = entry-below p s byte row hr hb (own t) (all-first b) in
+      let o = entry-below p s byte row hr hb (own t) (first-of b) in
       record {
-        pieces = capped-all 1024 (piece-count (magicStringOf [] t p s)) pieces pieces-all (f .0);
-        bytes = capped-all 32768 (byte-count (magicStringOf [] t p s)) bytes bytes-all (f .1);
+        pieces = capped-all 1024 (piece-count (magicStringOf [] t p s)) pieces (pieces-all (l .at .counts) none-left) (f .0);
+        bytes = capped-all 32768 (byte-count (magicStringOf [] t p s)) bytes (bytes-all (l .at .counts) none-left) (f .1);
         readable =
             record {
               linked = h .linked;
               desk = record { intro = o .runs .intro; outro = o .runs .outro };
-              chunks = rw all-done (entries-below p s byte row hr hb (all-rest b));
+              chunks = rw (all-done (l .at .counts) none-left) (entries-below p s byte row hr hb (rest-of b));
             };
         row = hr;
         byte = hb;

@@ -1,20 +1,21 @@
 -- What is put above all that a desk uses belongs to nothing else: piece rows and store bytes stay apart.
-use mathlib.Core.Path.{_≡_, refl, ap, ap₂, _∙_}
-use mathlib.Core.Bool.{Bool, true, false, _&&_, cond}
-use mathlib.Core.List.{List, [], _∷_, _++_}
+use mathlib.Core.Path.{_≡_, refl, ap, _∙_}
+use mathlib.Core.Bool.{Bool, true, false, _&&_}
+use mathlib.Core.List.{List, [], _++_}
 use Prim.Native.Nat.{ℕ, zero, suc, _+_, _*_, _-_, _≤_, _<_}
 use native.Mathlib.Omega.{arith}
-use native.Mathlib.Decide.{decLt, decLe}
+use native.Mathlib.Decide.{decLt}
 use lib.Dec.{eqb, leb, ltb}
-use lib.ListN.{length, List·getD-append}
-use borrow.Author.Tests.{le-leb, lt-leb, le-ltb, eqb-false}
+use lib.ListN.{length}
+use borrow.Author.Tests.{eqb-false}
 use Rattle.utf8.specs.Chars.{All, nil, cons}
 use Rattle.table.specs.Order.{Entry, entryAt, entries}
 use Rattle.model.specs.Text.{sum}
+use Rattle.model.specs.Lists.{bool-elim, one-most, sum-snoc}
 use Rattle.memory.specs.Layout.{NONE, Place, pieceAt, tabulate}
-use Rattle.memory.specs.WellFormed.{PieceIn, RunIn, ReplacementIn, RunsIn, EntryIn, Readable, among, pieceUses, runUses, replacementUses, listUses, byteUses, Disjoint}
+use Rattle.memory.specs.WellFormed.{RunIn, ReplacementIn, RunsIn, EntryIn, Readable, among, pieceUses, runUses, replacementUses, listUses, byteUses, Disjoint}
+use Rattle.memory.specs.Laws.{piece-front, among-out}
 use Rattle.texts.specs.Texts.{tabulate-ext}
-use Rattle.frame.specs.Front.{bool-elim}
 use Rattle.on_top.specs.Run.{TopRoom, Lengthened, withPlace, placesOf, new-places}
 
 -- how often the desk uses a row of the piece table, and a byte of the store
@@ -25,29 +26,9 @@ abbrev pub storeUses : List ℕ → List ℕ → ℕ → ℕ
 storeUses t p b = listUses p b (entryAt t 0) + sum (byteUses p b) (entries t)
 
 -- ── places ──
-pub among-out : (r : Place) (i : ℕ) → (r .0 ≤ i → i < r .0 + r .1 → ⊥) → among r i ≡ 0
-unfolding among
-among-out r i h =
-    elim (decLe (r .0) i) [
-      | yes a ↦
-          elim (decLt i (r .0 + r .1)) [
-            | yes b ↦ absurd (h a b)
-            | no b ↦ rw (le-leb (r .0) i a, le-ltb i (r .0 + r .1) (omega arith))
-          ]
-      | no a ↦ rw (lt-leb (r .0) i (omega arith))
-    ]
-
 pub among-most : (r : Place) (i : ℕ) → among r i ≤ 1
 unfolding among
-among-most r i = most (leb (r .0) i && ltb i (r .0 + r .1))
-  where
-    most : (b : Bool) → cond b 1 0 ≤ 1
-    most true = omega arith
-    most false = omega arith
-
-sum-snoc : {A : Type 0} (w : A → ℕ) (xs : List A) (x : A) → sum w (xs ++ (x ∷ [])) ≡ sum w xs + w x
-sum-snoc w [] x = omega arith
-sum-snoc w (y ∷ ys) x = omega (arith, sum-snoc w ys x)
+among-most r i = one-most (leb (r .0) i && ltb i (r .0 + r .1))
 
 sum-none : {A : Type 0} (w : A → ℕ) (f : ℕ → A) (n : ℕ) → ((k : ℕ) → k < n → w (f k) ≡ 0) → sum w (tabulate f n) ≡ 0
 sum-none w f zero h = refl
@@ -57,15 +38,15 @@ sum-none w f (suc n) h = omega (arith, sum-snoc w (tabulate f n) (f n), sum-none
 module _ (p s : List ℕ) where
   run-rows-none : (r : Place) (j : ℕ) → RunIn p s r → length p ≤ j * 2 → among r j ≡ 0
   unfolding RunIn
-  run-rows-none r j h l = among-out r j (λ a b. let k = h (j - r .0) (omega arith) .row in omega arith)
+  run-rows-none r j h l = among-out (r .0) (r .1) j (λ a b. let k = h (j - r .0) (omega arith) .row in omega arith)
 
   run-bytes-none : (r : Place) (b : ℕ) → RunIn p s r → length s ≤ b → runUses p b r ≡ 0
   unfolding RunIn runUses
-  run-bytes-none r b h l = sum-none (λ x. among x b) (λ k. pieceAt p (r .0 + k)) (r .1) (λ k g. among-out (pieceAt p (r .0 + k)) b (λ u v. omega (arith, h k g .text)))
+  run-bytes-none r b h l = sum-none (λ x. among x b) (λ k. pieceAt p (r .0 + k)) (r .1) (λ k g. among-out (pieceAt p (r .0 + k) .0) (pieceAt p (r .0 + k) .1) b (λ u v. omega (arith, h k g .text)))
 
   text-none : (r : Place) (b : ℕ) → ReplacementIn s r → length s ≤ b → replacementUses b r ≡ 0
   unfolding ReplacementIn replacementUses
-  text-none r b h l = bool-elim (eqb (r .0) NONE) (λ e. rw e) (λ e. rw e (among-out r b (λ u v. omega (arith, h (eqb-false _ _ e)))))
+  text-none r b h l = bool-elim (eqb (r .0) NONE) (λ e. rw e) (λ e. rw e (among-out (r .0) (r .1) b (λ u v. omega (arith, h (eqb-false _ _ e)))))
 
   runs-rows-none : (e : Entry) (j : ℕ) → RunsIn p s e → length p ≤ j * 2 → pieceUses j e ≡ 0
   runs-rows-none e j h l = omega (arith, run-rows-none (e .intro) j (h .intro) l, run-rows-none (e .outro) j (h .outro) l)
@@ -83,13 +64,9 @@ module _ (p s : List ℕ) where
 
   -- ── a longer table names the same texts ──
   module _ (y : List ℕ) (b : ℕ) where
-    piece-front : (j : ℕ) → PieceIn p s j → pieceAt (p ++ y) j ≡ pieceAt p j
-    piece-front j h =
-        ap₂ (λ (u v : ℕ). (u, v)) (List·getD-append p y 0 (j * 2) (omega (arith, h .row))) (List·getD-append p y 0 (j * 2 + 1) (omega (arith, h .row)))
-
     pub run-uses-front : (r : Place) → RunIn p s r → runUses (p ++ y) b r ≡ runUses p b r
     unfolding RunIn runUses
-    run-uses-front r h = ap (sum (λ (x : Place). among x b)) (tabulate-ext (λ k. pieceAt (p ++ y) (r .0 + k)) (λ k. pieceAt p (r .0 + k)) (r .1) (λ k g. piece-front (r .0 + k) (h k g)))
+    run-uses-front r h = ap (sum (λ (x : Place). among x b)) (tabulate-ext (λ k. pieceAt (p ++ y) (r .0 + k)) (λ k. pieceAt p (r .0 + k)) (r .1) (λ k g. piece-front p y (r .0 + k) (h k g .row)))
 
     pub list-uses-front : (e : Entry) → RunsIn p s e → listUses (p ++ y) b e ≡ listUses p b e
     list-uses-front e h = omega (arith, run-uses-front (e .intro) (h .intro), run-uses-front (e .outro) (h .outro))
@@ -112,7 +89,7 @@ module _ (t t' p s y y' : List ℕ) (new text : Place) (h : Readable t p s) (d :
       record {
         pieces = λ j.
             elim (decLt j (new .0)) [
-              | yes l ↦ let z = among-out new j (λ u v. omega arith) in omega (arith, rows j, d .pieces j)
+              | yes l ↦ let z = among-out (new .0) (new .1) j (λ u v. omega arith) in omega (arith, rows j, d .pieces j)
               | no l ↦
                   let z = runs-rows-none p s (entryAt t 0) j (h .desk) (omega arith) in
                   let w = rows-none p s j (omega arith) (h .chunks) in
@@ -120,7 +97,7 @@ module _ (t t' p s y y' : List ℕ) (new text : Place) (h : Readable t p s) (d :
             ];
         bytes = λ b.
             elim (decLt b (text .0)) [
-              | yes l ↦ let z = among-out text b (λ u v. omega arith) in omega (arith, bytes b, d .bytes b, store-uses-front p s y b t h)
+              | yes l ↦ let z = among-out (text .0) (text .1) b (λ u v. omega arith) in omega (arith, bytes b, d .bytes b, store-uses-front p s y b t h)
               | no l ↦
                   let z = runs-bytes-none p s (entryAt t 0) b (h .desk) (omega arith) in
                   let w = bytes-none p s b (omega arith) (h .chunks) in

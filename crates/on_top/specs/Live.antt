@@ -1,7 +1,7 @@
 -- What one pass over a desk finds: its pieces and bytes, and a row and a byte above all that it uses.
-use mathlib.Core.Path.{_≡_, refl, sym, ap₂, _∙_}
+use mathlib.Core.Path.{_≡_, sym, ap₂, _∙_}
 use mathlib.Core.List.{List, [], _++_}
-use mathlib.Core.Bool.{Bool, true, false, _&&_}
+use mathlib.Core.Bool.{true}
 use Prim.Native.Nat.{ℕ, _+_, _*_, _≤_, _<_, max, min}
 use native.Mathlib.Omega.{arith}
 use lib.Dec.{leb}
@@ -9,6 +9,7 @@ use borrow.Author.Tests.{leb-true}
 use lib.ListN.{length, take, drop, take-append-drop}
 use Rattle.table.specs.Order.{Entry}
 use Rattle.model.specs.Text.{sum}
+use Rattle.model.specs.Lists.{and-left, and-right}
 use Rattle.model.specs.Limits.{full, within, chunk-pieces, chunk-bytes, piece-count, byte-count}
 use Rattle.memory.specs.Layout.{Place, runOf, chunkOf, magicStringOf}
 use Rattle.memory.specs.WellFormed.{Readable, WellFormed}
@@ -67,14 +68,6 @@ pub record Room (l : Used) (n len : ℕ) : Type 0 where
   pub rows : l .row + l .pieces < 2048
   pub places : l .byte + len ≤ 32768
   pub bytes : l .bytes + len ≤ 32768
-
-and-right : (x y : Bool) → x && y ≡ true → y ≡ true
-and-right true y e = e
-and-right false y e = let z : _≡_ {A = ℕ} 0 1 = cc in absurd (omega arith)
-
-and-left : (x y : Bool) → x && y ≡ true → x ≡ true
-and-left true y e = refl
-and-left false y e = e
 
 -- a desk that keeps the limits
 pub few-uses : (source t p s : List ℕ) → within full (magicStringOf source t p s) ≡ true → (piece-count (magicStringOf [] t p s) ≤ 1024) × (byte-count (magicStringOf [] t p s) ≤ 32768)

@@ -1,7 +1,7 @@
 -- A run with a text more, on top of the tables: its rows are those of the run, copied, and one that names the new text. No text of the run is copied.
 use mathlib.Core.Path.{_≡_, refl, sym, ap, ap₂, _∙_, subst}
 use mathlib.Core.Bool.{Bool, true, false}
-use mathlib.Core.List.{List, [], _∷_, _++_, map}
+use mathlib.Core.List.{List, [], _∷_, _++_, map, map-append}
 use Prim.Native.Nat.{ℕ, zero, suc, _+_, _*_, _-_, _^_, _≤_, _<_}
 use native.Mathlib.Omega.{arith}
 use native.Mathlib.Decide.{decLt}
@@ -85,11 +85,7 @@ over-text s byte text h =
 
 map-tabulate : {A B : Type 0} (g : A → B) (f : ℕ → A) (n : ℕ) → map g (tabulate f n) ≡ tabulate (λ k. g (f k)) n
 map-tabulate g f zero = refl
-map-tabulate {A} {B} g f (suc n) = map-snoc g (tabulate f n) (f n) ∙ ap (λ (l : List B). l ++ (g (f n) ∷ [])) (map-tabulate g f n)
-  where
-    map-snoc : {A B : Type 0} (g : A → B) (xs : List A) (x : A) → map g (xs ++ (x ∷ [])) ≡ map g xs ++ (g x ∷ [])
-    map-snoc g [] x = refl
-    map-snoc {A} {B} g (y ∷ ys) x = ap (λ (l : List B). g y ∷ l) (map-snoc g ys x)
+map-tabulate {A} {B} g f (suc n) = map-append g (tabulate f n) (f n ∷ []) ∙ ap (λ (l : List B). l ++ (g (f n) ∷ [])) (map-tabulate g f n)
 
 -- the places of a run's texts
 abbrev pub placesOf : List ℕ → Place → List Place

@@ -1,23 +1,18 @@
 -- The trims as calls: 15, and what is done past it.
 -- Assumes nothing.
-use mathlib.Core.Path.{_≡_, refl}
+use mathlib.Core.Path.{refl}
 use mathlib.Core.Bool.{true, false}
 use mathlib.Core.List.{List}
 use Prim.Native.Nat.{ℕ, _≤_, _<_}
 use borrow.Author.Tests.{le-leb, lt-leb}
-use Rattle.model.specs.MagicString.{MagicString}
-use Rattle.model.specs.Call.{Edit, options-valid, trim, trim-start, trim-end, trim-lines, refused-before}
+use Rattle.model.specs.Call.{trim, trim-start, trim-end, trim-lines}
 use Rattle.memory.specs.Layout.{magicStringOf}
 use Rattle.memory.specs.WellFormed.{WellFormed}
 use Rattle.memory.specs.Calls.{idle, Ran}
-use Rattle.frame.specs.Frame.{ran-before, not-refused}
+use Rattle.frame.specs.Frame.{refused-15, ran-before, not-refused}
 use Rattle.trim_call.specs.Call.{TrimRan}
 
 -- ---- 15
-refused-15 : (e : Edit) (m : MagicString) → options-valid e ≡ false → refused-before m e ≡ 15
-unfolding refused-before
-refused-15 e m h = rw h
-
 module _ {source t p s : List ℕ} (n : ℕ) (w : WellFormed source t p s) where
   module _ (h : 1 < n) where
     pub start-refused : Ran (trim-start n) source t p s t p s 15

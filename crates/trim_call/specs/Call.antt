@@ -1,20 +1,21 @@
 -- The trims as calls, on scratch tables: the desk loaded, one side or both, and the desk written back.
 -- Assumes nothing.
-use mathlib.Core.Path.{_≡_, refl, sym, ap, ap₂, _∙_, subst}
+use mathlib.Core.Path.{_≡_, refl, sym, ap, _∙_, subst}
 use mathlib.Core.Bool.{Bool, false}
 use mathlib.Core.List.{List, [], _++_}
 use Prim.Native.Nat.{ℕ, _+_, _*_, _≤_}
 use native.Mathlib.Omega.{arith}
-use lib.ListN.{length, getD, drop, length-append, length-drop, List·getD-append}
+use lib.ListN.{length, drop, length-append, length-drop}
 use Rattle.utf8.specs.Chars.{All, nil, cons}
 use Rattle.table.specs.Order.{Entry}
 use Rattle.model.specs.MagicString.{MagicString, ok}
 use Rattle.model.specs.Limits.{piece-count}
 use Rattle.model.specs.Call.{Edit, steps, refused-before}
 use Rattle.model.specs.WellFormed as model
-use Rattle.memory.specs.Layout.{Place, pieceAt, magicStringOf}
+use Rattle.memory.specs.Layout.{Place, magicStringOf}
 use Rattle.memory.specs.WellFormed.{RunIn, ReplacementIn, EntryIn, Readable, WellFormed}
 use Rattle.memory.specs.Calls.{idle, Ran}
+use Rattle.memory.specs.Laws.{piece-front}
 use Rattle.texts.specs.Carry.{Below}
 use Rattle.rebuild.specs.Rebuilt.{Finished}
 use Rattle.frame.specs.Loaded.{Loaded}
@@ -34,16 +35,10 @@ pub record Wide (p s : List ℕ) : Type 0 where
 
 -- ---- what is read from the front of the tables lies below its end
 module _ (p s y : List ℕ) (row byte : ℕ) (lp : length p ≡ row * 2) (ls : length s ≡ byte) where
-  piece-front : (j : ℕ) → j * 2 + 2 ≤ length p → pieceAt (p ++ y) j ≡ pieceAt p j
-  piece-front j h =
-      let a : getD (p ++ y) (j * 2) 0 ≡ getD p (j * 2) 0 = List·getD-append p y 0 (j * 2) (omega arith) in
-      let b : getD (p ++ y) (j * 2 + 1) 0 ≡ getD p (j * 2 + 1) 0 = List·getD-append p y 0 (j * 2 + 1) (omega arith) in
-      ap₂ (λ (u v : ℕ). (u, v)) a b
-
   run-low : (r : Place) → RunIn p s r → Below (p ++ y) byte row r
   unfolding RunIn
   run-low r h k g =
-      let e = ap (λ (x : Place). x .0 + x .1) (piece-front (r .0 + k) (omega (arith, h k g .row))) in
+      let e = ap (λ (x : Place). x .0 + x .1) (piece-front p y (r .0 + k) (h k g .row)) in
       (omega (arith, h k g .row), omega (arith, h k g .text, e))
 
   entry-low : (e : Entry) → EntryIn p s e → EntryLow (p ++ y) row byte e

@@ -6,14 +6,14 @@ use mathlib.Core.List.{List, []}
 use Prim.Native.Nat.{ℕ, _+_, _*_, _≤_}
 use native.Mathlib.Omega.{arith}
 use lib.Dec.{leb}
-use lib.ListN.{length, take, drop, length-map, take-append-drop}
+use lib.ListN.{length, take, drop, take-append-drop}
 use lib.Seq.{length-take-le}
 use borrow.Author.Tests.{le-leb}
-use Rattle.table.specs.Order.{entries, countOf, count-entries}
 use Rattle.model.specs.MagicString.{MagicString, ok}
 use Rattle.model.specs.Limits.{full, within, piece-count, byte-count}
-use Rattle.memory.specs.Layout.{chunkOf, magicStringOf}
+use Rattle.memory.specs.Layout.{magicStringOf}
 use Rattle.memory.specs.WellFormed.{WellFormed}
+use Rattle.memory.specs.Laws.{chunk-count}
 use Rattle.uses.specs.Kept.{kept-same, kept-within}
 use Rattle.frame.specs.Frame.{few-chunks, may-write-0}
 use Rattle.in_place.specs.InPlace.{ran-in-place}
@@ -34,10 +34,6 @@ pub record TrimRoom (l : Used) (n : ℕ) : Type 0 where
 bytes-any : (source t p s : List ℕ) → byte-count (magicStringOf source t p s) ≡ byte-count (magicStringOf [] t p s)
 unfolding magicStringOf
 bytes-any source t p s = refl
-
-chunk-count : (source t p s : List ℕ) → length (magicStringOf source t p s .chunks) ≡ countOf t
-unfolding magicStringOf
-chunk-count source t p s = length-map (entries t) (chunkOf p s) ∙ count-entries t
 
 no-source : (t p s : List ℕ) → leb (length (magicStringOf [] t p s .source)) 16384 ≡ true
 unfolding magicStringOf

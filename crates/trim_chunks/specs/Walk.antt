@@ -2,12 +2,12 @@
 -- Assumes nothing.
 use mathlib.Core.Path.{_≡_, refl, sym, ap, ap₂, _∙_, subst}
 use mathlib.Core.Bool.{Bool, true, false, cond}
-use mathlib.Core.List.{List, [], _∷_, _++_, map, reverse, reverse-cons, reverse-append, reverse-reverse, append-assoc, append-nil}
+use mathlib.Core.List.{List, [], _∷_, _++_, map, map-append, map-map, reverse, reverse-cons, reverse-append, reverse-reverse, append-assoc, append-nil}
 use Prim.Native.Nat.{ℕ, zero, suc, _+_, _*_, _-_, _≤_, _<_}
 use native.Mathlib.Omega.{arith}
 use native.Mathlib.Decide.{ℕ-discrete}
 use lib.ListN.{length, length-append, length-reverse}
-use Rattle.utf8.specs.Chars.{All, nil, cons}
+use Rattle.utf8.specs.Chars.{All}
 use Rattle.table.specs.declared.Row.{Row}
 use Rattle.table.specs.Ring.{Each, each-append, each-left, each-right, each-map, Not, follow, length-follow, Edge, Links, links-left, links-right}
 use Rattle.table.specs.Table.{rowAt, Put}
@@ -16,6 +16,7 @@ use Rattle.model.specs.Text.{sum}
 use Rattle.model.specs.Chunk.{Chunk}
 use Rattle.model.specs.Trim.{Trimmed, trim-chunks}
 use Rattle.memory.specs.Layout.{chunkOf}
+use Rattle.memory.specs.Laws.{each-all}
 use Rattle.trim_run.specs.Low.{RowsKept, BytesKept, rows-same, bytes-same, TextLow, EntryLow, entry-same, runs-still, entry-still}
 use Rattle.trim_row.specs.Sides.{trim-chunk}
 use Rattle.trim_row.specs.Plain.{plainOf, Behind}
@@ -41,10 +42,6 @@ way-way false l = reverse-reverse l
 pub way-length : {A : Type 0} (front : Bool) (l : List A) → length (way front l) ≡ length l
 way-length true l = refl
 way-length false l = length-reverse l
-
-map-append : {A B : Type 0} (f : A → B) (xs ys : List A) → map f (xs ++ ys) ≡ map f xs ++ map f ys
-map-append f [] ys = refl
-map-append {A} {B} f (x ∷ xs) ys = ap (λ (l : List B). f x ∷ l) (map-append f xs ys)
 
 map-reverse : {A B : Type 0} (f : A → B) (l : List A) → map f (reverse l) ≡ reverse (map f l)
 map-reverse f [] = refl
@@ -280,14 +277,6 @@ module _ (f : Chunk → Trimmed) (G H : ℕ → Chunk) where
   trim-to [] i bs h k b = rw k (ap (λ (l : List Chunk). H i ∷ l) (same-rest bs b))
   trim-to (x ∷ us) i bs h k b = rw (h .0) (ap (λ (l : List Chunk). H x ∷ l) (trim-to us i bs (h .1) k b))
 
-map-map : {A B C : Type 0} (f : B → C) (g : A → B) (l : List A) → map f (map g l) ≡ map (λ x. f (g x)) l
-map-map f g [] = refl
-map-map {A} {B} {C} f g (x ∷ l) = ap (λ (m : List C). f (g x) ∷ m) (map-map f g l)
-
-all-map : {P : Entry → Type 0} (f : ℕ → Entry) (l : List ℕ) → Each (λ x. P (f x)) l → All P (map f l)
-all-map f [] h = nil
-all-map f (x ∷ l) h = cons (h .0) (all-map f l (h .1))
-
 -- the chunks of a table, in the direction of the trim
 chunks-way : (front : Bool) (p s t : List ℕ) → map (λ x. chunkOf p s (entryAt t x)) (way front (order t)) ≡ way front (map (chunkOf p s) (entries t))
 chunks-way front p s t = map-way front (λ x. chunkOf p s (entryAt t x)) (order t) ∙ ap (way front) (sym (map-map (chunkOf p s) (entryAt t) (order t)))
@@ -383,7 +372,7 @@ module _ (front : Bool) (pattern : ℕ) (source p s : List ℕ) (top wide byte :
         → All (EntryLow p' (top + wide) b) (entries t') × (map (chunkOf p' s') (entries t') ≡ way front (trim-chunks (trim-chunk front pattern source) (way front (map (chunkOf p s) (entries t)))))
     unfolding Low
     together o h e = (
-      all-map (entryAt t') (order t') (subst (Each Low) (sym o) (subst (Each Low) (way-way front (order t)) (each-way front Low (way front (order t)) h))),
+      each-all (entryAt t') (order t') (subst (Each Low) (sym o) (subst (Each Low) (way-way front (order t)) (each-way front Low (way front (order t)) h))),
       sym (way-way front (map (chunkOf p' s') (entries t')))
           ∙ ap (way front) (sym (chunks-way front p' s' t') ∙ ap (λ (m : List ℕ). map (λ x. chunkOf p' s' (entryAt t' x)) (way front m)) o ∙ sym e ∙ ap (trim-chunks (trim-chunk front pattern source)) (chunks-way front p s t)),
     )

@@ -3,7 +3,7 @@
 use mathlib.Core.Path.{_≡_, refl, sym, ap, ap₂, _∙_, subst}
 use mathlib.Core.Bool.{Bool, true, false, _&&_, cond}
 use mathlib.Core.List.{List, [], _∷_, _++_, append-nil}
-use mathlib.Core.Option.{Option, none, some}
+use mathlib.Core.Option.{Option, some}
 use Prim.Native.Nat.{ℕ, zero, suc, _+_, _*_, _-_, _^_, _≤_, _<_}
 use native.Mathlib.Omega.{arith}
 use native.Mathlib.Decide.{decLt, ℕ-discrete}
@@ -17,6 +17,7 @@ use Rattle.table.specs.declared.Piece.{Piece}
 use Rattle.table.specs.declared.Row.{Row}
 use Rattle.table.specs.Order.{Entry, entryOf}
 use Rattle.model.specs.Text.{Text, is-nil, all}
+use Rattle.model.specs.Lists.{and-left, and-right}
 use Rattle.model.specs.Chunk.{Chunk, Texts, content}
 use Rattle.model.specs.Trim.{Trimmed}
 use Rattle.model.specs.WellFormed.{Valid, ValidTexts}
@@ -27,9 +28,9 @@ use Rattle.texts.specs.Texts.{SpanIn, contentAt, run-tabulate}
 use Rattle.texts.specs.Carry.{Below}
 use Rattle.trim_text.specs.Sides.{trim-text, blank, PlaceTrimmed}
 use Rattle.trim_run.specs.Deque.{trim-deque, all-nil-deque, deque-nil}
-use Rattle.trim_run.specs.Low.{RowsKept, BytesKept, rows-same, bytes-same, TextLow, RunsLow, EntryLow, run-same, run-still, run-in}
+use Rattle.trim_run.specs.Low.{RowsKept, BytesKept, rows-same, bytes-same, none-below, TextLow, RunsLow, EntryLow, run-same, run-still, run-in}
 use Rattle.trim_run.specs.Run.{RunReady, RowRoom, RunTrimmed}
-use Rattle.memory.specs.Laws.{among-none}
+use Rattle.memory.specs.Laws.{no-run, none-text, some-text, among-none}
 use Rattle.trim_row.specs.Uses.{NoMore, no-more-none, no-more-same, no-more-trimmed, rows-above, among-most, text-before, text-within, text-empty, Fewer, RowApart, row-apart}
 use Rattle.trim_row.specs.Plain.{plainOf, plain-width, Behind, spent-of}
 use Rattle.trim_row.specs.Sides.{trim-chunk, near, far, sides, with-sides, near-left, content-left, content-blank}
@@ -181,20 +182,13 @@ sides-spent : (front : Bool) (e : Entry) (byte : ℕ) (n f x : Place) → (x .0 
 sides-spent true e byte n f x = spent-of e (withSides true e n f x) byte refl
 sides-spent false e byte n f x = spent-of e (withSides false e n f x) byte refl
 
-run-none : (p s : List ℕ) (at : ℕ) → runOf p s (at, 0) ≡ []
-unfolding runOf
-run-none p s at = refl
-
-none-below : (p : List ℕ) (byte top at : ℕ) → Below p byte top (at, 0)
-none-below p byte top at k h = absurd (omega arith)
-
 -- a run that is not blank has a piece, so its rows end below
 run-room : (pattern : ℕ) (p s : List ℕ) (top byte : ℕ) (r : Place) → Below p byte top r → all (blank pattern) (runOf p s r) ≡ false → (top + r .1) * 2 ≤ length p
     → length p ≤ 4294967296 → length s ≤ 65536 → RowRoom p s (r .0) (r .1) top
 run-room pattern p s top byte r h b a n m = go (r .1) refl
   where
     go : (k : ℕ) → r .1 ≡ k → RowRoom p s (r .0) (r .1) top
-    go zero e = let z : _≡_ {A = ℕ} 0 1 = cc (ap (λ (x : ℕ). all (blank pattern) (runOf p s (r .0, x))) e ∙ ap (all (blank pattern)) (run-none p s (r .0))) in absurd (omega arith)
+    go zero e = let z : _≡_ {A = ℕ} 0 1 = cc (ap (λ (x : ℕ). all (blank pattern) (runOf p s (r .0, x))) e ∙ ap (all (blank pattern)) (no-run p s (r .0))) in absurd (omega arith)
     go (suc k) e = record { below = omega (arith, h k (omega arith) .0); room = omega arith; narrow = n; narrow-store = omega arith }
 
 -- the chunk of a row with other sides
@@ -205,14 +199,6 @@ sides-are true pattern source p s p' s' e n f x h a b d = h ∙ rw (a, b, d)
 sides-are false pattern source p s p' s' e n f x h a b d = h ∙ rw (a, b, d)
 
 -- ---- the content of a chunk, and the replacement of one whose content is blank
-some-text : (s : List ℕ) (r : Place) → (r .0 ≡ NONE → ⊥) → replacementOf s r ≡ some (bytesAt s r)
-unfolding replacementOf
-some-text s r n = rw (ne-eqb (r .0) NONE n)
-
-none-text : (s : List ℕ) (r : Place) → r .0 ≡ NONE → replacementOf s r ≡ none
-unfolding replacementOf
-none-text s r n = rw (eq-eqb (r .0) NONE n)
-
 plain-content : (source s : List ℕ) (e : Entry) → e .text .0 ≡ NONE → contentOf source s e ≡ take (e .end - e .start) (drop (e .start) source)
 unfolding replacementOf
 plain-content source s e h = rw (eq-eqb (e .text .0) NONE h)
@@ -426,7 +412,7 @@ module _ (front : Bool) (pattern : ℕ) (source p s : List ℕ) (e : Entry) (top
         rows = rows-same top p;
         bytes = d .kept;
         chunk =
-            sides-are front pattern source p s p s' e (0, 0) (farOf front e) x k (run-none p s' 0)
+            sides-are front pattern source p s p s' e (0, 0) (farOf front e) x k (no-run p s' 0)
             (run-same top byte p s p s' (rows-same top p) (d .kept) (farOf front e) (far-low p s e front top byte (h .low)) ∙ sym (far-run p s e front)) (d .text);
         runs = sides-low p s' e front (top + piecesOf e) byte (0, 0) (farOf front e) x (none-below p byte (top + piecesOf e) 0) (far-still p (rows-same top p));
         text = sides-text front (0, 0) (farOf front e) x (d .low (h .low .text));
@@ -447,7 +433,7 @@ module _ (front : Bool) (pattern : ℕ) (source p s : List ℕ) (e : Entry) (top
         rows = d .kept;
         bytes = bytes-same byte s;
         chunk =
-            sides-are front pattern source p s p' s e (0, 0) q (clearedText e) (k ∙ rw z) (run-none p' s 0) (d .text ∙ ap (trim-deque front pattern) (sym (far-run p s e front)))
+            sides-are front pattern source p s p' s e (0, 0) q (clearedText e) (k ∙ rw z) (no-run p' s 0) (d .text ∙ ap (trim-deque front pattern) (sym (far-run p s e front)))
             (cleared-text source s e (r .span) (r .entry .replacement));
         runs =
             sides-low p' s e front (top + piecesOf e) byte (0, 0) q (clearedText e) (none-below p' byte (top + piecesOf e) 0)
@@ -503,14 +489,6 @@ row-blank front pattern source p s e r b =
     let n : trim-deque front pattern (far front (c .texts)) ≡ [] = all-nil-deque front pattern (far front (c .texts)) (either front far o i) in
     k ∙ rw n (both front (cleared-text source s e (r .span) (r .entry .replacement)))
   where
-    and-left : (x y : Bool) → x && y ≡ true → x ≡ true
-    and-left true y q = refl
-    and-left false y q = q
-
-    and-right : (x y : Bool) → x && y ≡ true → y ≡ true
-    and-right true y q = q
-    and-right false y q = let z : _≡_ {A = ℕ} 0 1 = cc in absurd (omega arith)
-
     either : (f : Bool) (g : Bool → Texts → List Text) → all (blank pattern) (g true (textsOf p s e)) ≡ true → all (blank pattern) (g false (textsOf p s e)) ≡ true
         → all (blank pattern) (g f (textsOf p s e)) ≡ true
     either true g x y = x
@@ -518,8 +496,8 @@ row-blank front pattern source p s e r b =
 
     both : (f : Bool) → replacementOf s (clearedText e) ≡ cond (is-nil (contentOf source s e)) (replacementOf s (e .text)) (some [])
         → with-sides f (chunkOf p s e) [] [] (cond (is-nil (contentOf source s e)) (replacementOf s (e .text)) (some [])) true ≡ record { goes-on = true; chunk = chunkOf p s (clearOf e) }
-    both true q = rw (q, run-none p s 0)
-    both false q = rw (q, run-none p s 0)
+    both true q = rw (q, no-run p s 0)
+    both false q = rw (q, no-run p s 0)
 
 -- ---- the tests of `is_blank`
 module _ (pattern : ℕ) (source p s : List ℕ) (e : Entry) where
@@ -535,7 +513,7 @@ module _ (pattern : ℕ) (source p s : List ℕ) (e : Entry) where
   unfolding blankRow
   blank-third h k = rw (h, k)
 
-sides-start : (front : Bool) (e : Entry) (n f x : Place) → withSides front e n f x .start ≡ e .start
+pub sides-start : (front : Bool) (e : Entry) (n f x : Place) → withSides front e n f x .start ≡ e .start
 sides-start true e n f x = refl
 sides-start false e n f x = refl
 

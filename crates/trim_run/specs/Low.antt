@@ -35,6 +35,10 @@ rows-same top p = record { len = refl; rows = λ j h. refl }
 pub bytes-same : (byte : ℕ) (s : List ℕ) → BytesKept byte s s
 bytes-same byte s = record { len = refl; bytes = refl }
 
+-- a run of no piece lies below any row
+pub none-below : (p : List ℕ) (byte top at : ℕ) → Below p byte top (at, 0)
+none-below p byte top at k h = absurd (omega arith)
+
 -- a chunk's texts lie below
 abbrev pub TextLow : ℕ → Place → Type 0
 TextLow byte r = (r .0 ≡ NONE → ⊥) → r .0 + r .1 ≤ byte

@@ -18,6 +18,7 @@ use Rattle.model.specs.Text.{Text, is-nil, all}
 use Rattle.model.specs.WellFormed.{Valid}
 use Rattle.memory.specs.Layout.{Place, bytesAt, pieceAt, tabulate, runOf}
 use Rattle.memory.specs.WellFormed.{RunIn}
+use Rattle.memory.specs.Laws.{no-run}
 use Rattle.texts.specs.Texts.{tabulate-ext, tabulate-cons, run-tabulate, run-piece}
 use Rattle.texts.specs.Carry.{Below}
 use Rattle.trim_text.specs.Sides.{trim-text, blank, all-append, PlaceTrimmed}
@@ -105,10 +106,6 @@ run-cons p s at m =
 pub run-mid : (p s : List ℕ) (at k m : ℕ) → runOf p s (at, k + suc m) ≡ runOf p s (at, k) ++ textAt p s (at + k) ∷ runOf p s (at + k + 1, m)
 run-mid p s at k m = run-split p s at k (suc m) ∙ ap (λ (l : List Text). runOf p s (at, k) ++ l) (run-cons p s (at + k) m)
 
-run-none : (p s : List ℕ) (at : ℕ) → runOf p s (at, 0) ≡ []
-unfolding runOf
-run-none p s at = refl
-
 -- the same rows elsewhere
 run-ext : (p s p' : List ℕ) (at top n : ℕ) → ((j : ℕ) → j < n → pieceAt p' (top + j) ≡ pieceAt p (at + j)) → runOf p' s (top, n) ≡ runOf p s (at, n)
 run-ext p s p' at top n f =
@@ -144,14 +141,14 @@ module _ (p s : List ℕ) (at n a m : ℕ) (h : a + m ≤ n) where
 -- ---- blank pieces, from the front and from the end
 module _ (pattern : ℕ) (p s : List ℕ) (at n : ℕ) where
   pub front-none : all (blank pattern) (runOf p s (at, 0)) ≡ true
-  front-none = rw (run-none p s at)
+  front-none = rw (no-run p s at)
 
   pub front-more : (k : ℕ) → all (blank pattern) (runOf p s (at, k)) ≡ true → blank pattern (textAt p s (at + k)) ≡ true
       → all (blank pattern) (runOf p s (at, k + 1)) ≡ true
-  front-more k h e = ap (all (blank pattern)) (run-mid p s at k 0) ∙ all-append (blank pattern) (runOf p s (at, k)) _ ∙ rw (h, e, run-none p s (at + k + 1))
+  front-more k h e = ap (all (blank pattern)) (run-mid p s at k 0) ∙ all-append (blank pattern) (runOf p s (at, k)) _ ∙ rw (h, e, no-run p s (at + k + 1))
 
   pub back-none : all (blank pattern) (runOf p s (at + n, n - n)) ≡ true
-  back-none = let e : n - n ≡ 0 = omega arith in rw (e, run-none p s (at + n))
+  back-none = let e : n - n ≡ 0 = omega arith in rw (e, no-run p s (at + n))
 
   pub back-more : (k : ℕ) → 0 < k → k ≤ n → all (blank pattern) (runOf p s (at + k, n - k)) ≡ true → blank pattern (textAt p s (at + (k - 1))) ≡ true
       → all (blank pattern) (runOf p s (at + (k - 1), n - (k - 1))) ≡ true
@@ -196,7 +193,7 @@ back-stop pattern p s at n k b h =
 pub copied-none : (p : List ℕ) (at top : ℕ) → Copied p p at 0 top
 copied-none p at top = record { kept = record { len = refl; rows = λ j h. refl }; copies = λ j h. absurd (omega arith) }
 
-pair : {q r : Piece} → q ≡ r → _≡_ {A = Place} (q .at, q .n) (r .at, r .n)
+pub pair : {q r : Piece} → q ≡ r → _≡_ {A = Place} (q .at, q .n) (r .at, r .n)
 pair e = ap (λ (x : Piece). (x .at, x .n)) e
 
 pub copied-more : (p p1 p2 : List ℕ) (at k top : ℕ) (r : Piece) → at + k < top → Copied p p1 at k top → r ≡ rows.pieceAt p1 (at + k) → rows.PutPiece p1 p2 (top + k) r → length p2 ≡ length p1
@@ -272,7 +269,7 @@ trimmed-front pattern p s p' at n k top b g d =
       kept = d .kept;
       text =
           d .text m (omega arith)
-          ∙ rw (run-none p s (at + k), z) (sym (ap (λ (x : ℕ). trim-deque true pattern (runOf p s (at, x))) e
+          ∙ rw (no-run p s (at + k), z) (sym (ap (λ (x : ℕ). trim-deque true pattern (runOf p s (at, x))) e
           ∙ ap (trim-deque true pattern) (run-mid p s at k m)
           ∙ deque-front pattern (runOf p s (at, k)) (textAt p s (at + k)) (runOf p s (at + k + 1, m)) (b .blanks) (b .stop g)));
       low = λ byte h. below-more p' byte (top + (n - k)) (top + n) (top, n - k) (omega arith) (d .low byte (below-part p byte top at n k (n - k) (omega (arith, b .most)) h));
@@ -295,7 +292,7 @@ trimmed-back pattern p s p' at n k top b g d =
       kept = d .kept;
       text =
           d .text 0 (omega arith)
-          ∙ rw (run-none p s (at + i + 1)) (sym (ap (λ (x : ℕ). trim-deque false pattern (runOf p s (at, x))) e
+          ∙ rw (no-run p s (at + i + 1)) (sym (ap (λ (x : ℕ). trim-deque false pattern (runOf p s (at, x))) e
           ∙ ap (trim-deque false pattern) (run-mid p s at i m)
           ∙ deque-back pattern (runOf p s (at, i)) (textAt p s (at + i)) (runOf p s (at + i + 1, m)) (rw f (b .blanks)) (b .stop g)));
       low = λ byte h. below-more p' byte (top + k) (top + n) (top, k) (omega (arith, b .most)) (d .low byte (rw z at (below-part p byte top at n 0 k (omega (arith, b .most)) h)));

@@ -1,6 +1,6 @@
 -- One side of a desk trimmed, or one after the other.
 -- Assumes nothing.
-use mathlib.Core.Path.{_≡_, refl, sym, ap, _∙_, subst}
+use mathlib.Core.Path.{_≡_, sym, ap, _∙_, subst}
 use mathlib.Core.Bool.{Bool, true, false}
 use mathlib.Core.List.{List}
 use Prim.Native.Nat.{ℕ, _+_, _*_, _≤_}
@@ -13,6 +13,7 @@ use Rattle.model.specs.Trim as trim-rs
 use Rattle.model.specs.WellFormed as model
 use Rattle.memory.specs.Layout.{magicStringOf}
 use Rattle.memory.specs.WellFormed.{Readable, HoldsEach, Disjoint}
+use Rattle.memory.specs.Laws.{source-of}
 use Rattle.counts.specs.Once.{linked-once}
 use Rattle.preservation.specs.Desk.{FormedOf}
 use Rattle.trim_run.specs.Low.{DeskLow, rows-same, runs-still, entries-still, desk-in}
@@ -28,10 +29,6 @@ pub record SidesTrimmed (both front : Bool) (pattern : ℕ) (source t p s t' p' 
   pub store-len : length s' ≡ length s
   pub each : HoldsEach t → HoldsEach t'
   pub apart : Disjoint t p → Disjoint t' p'
-
-source-of : (source t p s : List ℕ) → magicStringOf source t p s .source ≡ source
-unfolding magicStringOf
-source-of source t p s = refl
 
 desk-more : (t p : List ℕ) (top byte top' : ℕ) → top ≤ top' → DeskLow t p top byte → DeskLow t p top' byte
 desk-more t p top byte top' h d =

@@ -12,6 +12,7 @@ use Rattle.table.specs.Ring.{Each}
 use Rattle.table.specs.Table.{rowAt, Put}
 use Rattle.table.specs.Order.{Entry, entryOf, entryAt, entries, order, countOf, Linked, write-keeps}
 use Rattle.model.specs.Text.{Text, sum, all}
+use Rattle.model.specs.Lists.{sum-part}
 use Rattle.model.specs.Chunk.{Chunk}
 use Rattle.model.specs.MagicString.{MagicString}
 use Rattle.model.specs.Limits.{chunk-pieces, piece-count}
@@ -19,19 +20,18 @@ use Rattle.model.specs.Trim.{trim-chunks}
 use Rattle.model.specs.WellFormed.{Valid, ValidTexts, Formed}
 use Rattle.memory.specs.Layout.{Place, runOf, chunkOf, magicStringOf}
 use Rattle.memory.specs.WellFormed.{Disjoint}
+use Rattle.memory.specs.Laws.{no-run, desk-same}
 use Rattle.texts.specs.Texts.{run-length}
 use Rattle.texts.specs.Carry.{Below}
-use Rattle.model.specs.Lists.{sum-part}
 use Rattle.preservation.specs.Spans.{Inside, spans-inside}
 use Rattle.preservation.specs.Trim.{content-valid}
-use Rattle.frame.specs.Front.{desk-same}
 use Rattle.trim_text.specs.Sides.{blank}
 use Rattle.trim_run.specs.Deque.{trim-deque, all-nil-deque}
 use Rattle.trim_run.specs.Low.{RowsKept, rows-same, bytes-same, RunsLow, EntryLow, DeskLow, run-in, entry-in, run-same, run-still, entries-same, entries-still}
 use Rattle.trim_run.specs.Run.{RunReady, RowRoom, RunTrimmed}
 use Rattle.trim_row.specs.Sides.{trim-chunk}
 use Rattle.trim_row.specs.Plain.{plain-bytes, plainOf, plain-rows}
-use Rattle.trim_row.specs.Row.{nearOf, farOf, withSides, Rewritten, RowReady, RowFits, piecesOf, run-at}
+use Rattle.trim_row.specs.Row.{nearOf, farOf, withSides, Rewritten, RowReady, RowFits, piecesOf, sides-start, run-at}
 use Rattle.trim_row.specs.Uses.{NoMore, no-more-none, no-more-trimmed}
 use Rattle.trim_chunks.specs.Sums.{way}
 use Rattle.trim_chunks.specs.Walk.{ReadyAt, ChunksReady, ChunksTrimmed, chunkRows}
@@ -86,10 +86,6 @@ pub record OwnTrimmed (front : Bool) (pattern : ℕ) (p s : List ℕ) (top : ℕ
   pub gone-is : gone ≡ all (blank pattern) (runOf p s (nearOf front (entryAt t 0)))
   pub same : gone ≡ true → p' ≡ p
 
-run-none : (p s : List ℕ) (at : ℕ) → runOf p s (at, 0) ≡ []
-unfolding runOf
-run-none p s at = refl
-
 -- ---- row 0
 -- a write to row 0 that keeps its links and its count keeps every chunk
 module _ (t t' : List ℕ) (l : Linked t) (r : Row) (u : Put t t' 0 r) (nx : r .next ≡ rowAt t 0 .next) (pv : r .prev ≡ rowAt t 0 .prev) (st : r .start ≡ rowAt t 0 .start)
@@ -104,10 +100,6 @@ module _ (t t' : List ℕ) (l : Linked t) (r : Row) (u : Put t t' 0 r) (nx : r .
       let o = write-keeps t t' 0 r u nx pv (λ _. st) m l in
       (o .1, ap (map (entryAt t')) (o .0) ∙ map-each (order t) (l .ring .inside))
 
-sides-start : (front : Bool) (e : Entry) (n f x : Place) → withSides front e n f x .start ≡ e .start
-sides-start true e n f x = refl
-sides-start false e n f x = refl
-
 module _ (front : Bool) (pattern : ℕ) (p s : List ℕ) (top : ℕ) (t : List ℕ) (h : OwnReady front p s top t) (z : Row) (ez : z ≡ rowAt t 0) (q : Place) (eq : q ≡ nearOf front (entryOf z)) where
   near-is : q ≡ nearOf front (entryAt t 0)
   near-is = eq ∙ ap (λ (r : Row). nearOf front (entryOf r)) ez
@@ -121,7 +113,7 @@ module _ (front : Bool) (pattern : ℕ) (p s : List ℕ) (top : ℕ) (t : List �
       go : (k : ℕ) → nearOf front (entryAt t 0) .1 ≡ k → RowRoom p s (nearOf front (entryAt t 0) .0) (nearOf front (entryAt t 0) .1) top
       go zero e =
           let w : all (blank pattern) (runOf p s (nearOf front (entryAt t 0))) ≡ true =
-          ap (λ (x : ℕ). all (blank pattern) (runOf p s (nearOf front (entryAt t 0) .0, x))) e ∙ ap (all (blank pattern)) (run-none p s (nearOf front (entryAt t 0) .0)) in
+          ap (λ (x : ℕ). all (blank pattern) (runOf p s (nearOf front (entryAt t 0) .0, x))) e ∙ ap (all (blank pattern)) (no-run p s (nearOf front (entryAt t 0) .0)) in
           let v : all (blank pattern) (runOf p s (nearOf front (entryAt t 0))) ≡ false = ap (λ (x : Place). all (blank pattern) (runOf p s x)) (sym near-is) ∙ b in
           let y : _≡_ {A = ℕ} 0 1 = cc in absurd (omega arith)
       go (suc k) e = record { below = omega (arith, h .below k (omega arith)); room = omega (arith, h .rows); narrow = h .narrow; narrow-store = omega (arith, h .small) }
@@ -148,7 +140,7 @@ module _ (front : Bool) (pattern : ℕ) (p s : List ℕ) (top : ℕ) (t : List �
         near = (0, 0);
         row = row-is r (0, 0) w t' u m;
         rows = rows-same top p;
-        text = run-none p s 0 ∙ sym (all-nil-deque front pattern (runOf p s (nearOf front (entryAt t 0))) e);
+        text = no-run p s 0 ∙ sym (all-nil-deque front pattern (runOf p s (nearOf front (entryAt t 0))) e);
         low = λ byte g j i. absurd (omega arith);
         no-more = no-more-none p p top (0, 0) (nearOf front (entryAt t 0)) refl;
         gone-is = sym e;
@@ -356,4 +348,4 @@ module _ (front : Bool) (pattern : ℕ) (source t p s : List ℕ) (top wide byte
         }
       where
         none-text : (p' s' : List ℕ) (n : Place) → n .1 ≡ 0 → runOf p' s' n ≡ []
-        none-text p' s' n z = ap (λ (k : ℕ). runOf p' s' (n .0, k)) z ∙ run-none p' s' (n .0)
+        none-text p' s' n z = ap (λ (k : ℕ). runOf p' s' (n .0, k)) z ∙ no-run p' s' (n .0)

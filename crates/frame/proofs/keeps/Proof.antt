@@ -1,12 +1,12 @@
 use mathlib.Core.Path.{_≡_, refl, sym, ap, _∙_, subst}
+use mathlib.Core.List.{[], _∷_, _++_}
 use Prim.Native.Nat.{_+_, _-_, _≤_}
 use native.Mathlib.Nat.{sub-zero}
 use native.Mathlib.Omega.{arith}
-use native.Mathlib.Numerals.{add-one}
 use Rattle.table.specs.declared.Row.{Row}
 use Rattle.table.specs.Order.{countOf, entryOf, nextOf}
-use Rattle.rebuild.specs.Lay.{own, ownOf}
-use Rattle.frame.proofs.Counting.{Loop, CountAt, own-in, count-start, count-in, count-row, count-more, loop-next, too-many, too-many-pieces, rest-is}
+use Rattle.rebuild.specs.Lay.{own, ownOf, own-in}
+use Rattle.frame.proofs.Counting.{Loop, CountAt, count-start, count-in, count-row, count-more, loop-next, too-many, too-many-pieces, rest-is}
 use borrow.Author.Needs.{needs}
 use Rattle.frame.proofs.keeps.Statement.{statement}
 use Rattle.frame.proofs.keeps.Tie as tie
@@ -52,7 +52,7 @@ loop-holds c =
     let count-row = c .count-row in
     let a = start .args in
     let z = get-row .ensures in
-    (ap (λ (r : Row). r .start) z, record { below = omega arith; at = rw (sub-zero, z) (count-start (a .t .now) (a .p .now) (a .s .now) _ _ _ (own-row .ensures ∙ ap ownOf z) (count-row .ensures .0) (count-row .ensures .1)) })
+    (ap (λ (r : Row). r .start) z, record { below = omega arith; done = []; at = rw (sub-zero, z) (count-start (a .t .now) (a .p .now) (a .s .now) _ _ _ (own-row .ensures ∙ ap ownOf z) (count-row .ensures .0) (count-row .ensures .1)) })
 
 get-row-requires-2 : tie.Need-get-row-requires-2 Inv-loop μ-loop
 get-row-requires-2 c κs =
@@ -89,7 +89,7 @@ loop-again c =
     let start = c .before .before .before .before .before .before .before .before .before .before .before in
     let e = get-row2 .ensures in
     let d = rw e at (count-row2 .ensures) in
-    (loop .inv .0, record { below = omega (arith, loop-test .taken); at = rw (ap (λ (r : Row). r .next) e, add-one (loop .k)) (rw (add-one (loop .k)) at (count-more (start .pre) (loop-next (loop .inv .1) (loop-test .taken)) _ _ (d .0) (d .1))) })
+    (loop .inv .0, record { below = omega (arith, loop-test .taken); done = loop .inv .1 .done ++ (loop .cur ∷ []); at = rw (ap (λ (r : Row). r .next) e) (count-more (start .pre) (loop-next (loop .inv .1) (loop-test .taken)) _ _ (d .0) (d .1)) })
 
 returns-2 : tie.Need-returns-2 Inv-loop μ-loop
 returns-2 c =

@@ -6,8 +6,9 @@ use native.Mathlib.Nat.{sub-zero}
 use native.Mathlib.Omega.{arith}
 use Rattle.table.specs.declared.Row.{Row}
 use Rattle.table.specs.Order.{countOf, entryOf, nextOf}
-use Rattle.rebuild.specs.Lay.{own, ownOf}
-use Rattle.on_top.proofs.Passing.{Loop, none-in, own-in, live-start, live-in, live-place, live-more, loop-next, live-end}
+use Rattle.rebuild.specs.Lay.{own, ownOf, own-in}
+use Rattle.frame.proofs.Counting.{count-in, count-row}
+use Rattle.on_top.proofs.Passing.{Loop, none-in, live-start, live-more, loop-next, live-end}
 use borrow.Author.Needs.{needs}
 use Rattle.on_top.proofs.live.Statement.{statement}
 use Rattle.on_top.proofs.live.Tie as tie
@@ -53,7 +54,7 @@ get-row-requires-2 c κs =
     let start = c .before .before .before .before .before .before .before .before in
     let loop = c .before .loop in
     let loop-test = c .loop-test in
-    live-place (start .pre .0) (loop-next (loop .inv .1) (loop-test .taken))
+    count-row (start .pre .0) (loop-next (loop .inv .1) (loop-test .taken) .counts)
 
 live-row-requires-2 : tie.Need-live-row-requires-2 Inv-loop μ-loop
 live-row-requires-2 c κs =
@@ -61,7 +62,7 @@ live-row-requires-2 c κs =
     let start = c .before .before .before .before .before .before .before .before .before in
     let loop = c .before .before .loop in
     let loop-test = c .before .loop-test in
-    (rw (get-row2 .ensures) (live-in (start .pre .0) (loop-next (loop .inv .1) (loop-test .taken))), loop .inv .1 .at .inside)
+    (rw (get-row2 .ensures) (count-in (start .pre .0) (loop-next (loop .inv .1) (loop-test .taken) .counts)), loop .inv .1 .at .inside)
 
 add-k : tie.Need-add-k Inv-loop μ-loop
 add-k c =

@@ -1,4 +1,5 @@
-use Rattle.trim_row.proofs.Laws.{put-back}
+use mathlib.Core.Path.{refl}
+use Rattle.texts.specs.Over.{put-back}
 use borrow.Author.Needs.{needs}
 use Rattle.trim_row.proofs.put_at.Statement.{statement}
 use Rattle.trim_row.proofs.put_at.Tie as tie
@@ -19,7 +20,7 @@ same-length : tie.Need-same-length
 same-length c = search needs
 
 returns : tie.Need-returns
-returns c = put-back _ _ _ _ (c .before .before .before .before .before .before .pre) (c .before .before .put .ensures)
+returns c = put-back _ _ _ _ _ (c .before .before .before .before .before .before .pre) (c .before .before .put .ensures) refl
 
 pub put-at-spec : {M : Type 1} → statement M
 put-at-spec =
