@@ -10,7 +10,7 @@ use Rattle.memory.specs.Layout.{magicStringOf}
 use Rattle.memory.specs.WellFormed.{WellFormed}
 use Rattle.memory.specs.Calls.{idle, Ran}
 use Rattle.frame.specs.Frame.{refused-15, ran-before, not-refused}
-use Rattle.trim_call.specs.Call.{TrimRan}
+use Rattle.trim_scratch.specs.Call.{TrimRan}
 
 -- ---- 15
 module _ {source t p s : List ℕ} (n : ℕ) (w : WellFormed source t p s) where

@@ -1,5 +1,5 @@
 use Rattle.on_top.specs.Live.{live-small}
-use Rattle.trim_call.specs.OnTop.{bare-within}
+use Rattle.trim_on_top.specs.OnTop.{bare-within}
 use borrow.Author.Needs.{needs}
 use Rattle.trim_call.proofs.trim_with.Statement.{statement}
 use Rattle.trim_call.proofs.trim_with.Tie as tie

@@ -1,8 +1,8 @@
 use native.Mathlib.Omega.{arith}
 use Rattle.counts.specs.Sums.{is-yes, is-no}
 use borrow.Author.Needs.{needs}
-use Rattle.trim_call.proofs.has_room.Statement.{statement}
-use Rattle.trim_call.proofs.has_room.Tie as tie
+use Rattle.trim_on_top.proofs.has_room.Statement.{statement}
+use Rattle.trim_on_top.proofs.has_room.Tie as tie
 
 add-if1 : tie.Need-add-if1
 add-if1 c = search needs

@@ -22,8 +22,8 @@ use Rattle.on_top.specs.Live.{LiveOf, few-uses}
 use Rattle.trim_run.specs.Low.{DeskLow}
 use Rattle.trim_sides.specs.Side.{SideReady}
 use Rattle.trim_sides.specs.Both.{SidesTrimmed}
-use Rattle.trim_call.specs.Weight.{trim-sides-pieces, trim-sides-chunks, trim-sides-bytes}
-use Rattle.trim_call.specs.Call.{desk-low, plain-of, pieces-any, TrimRan}
+use Rattle.trim_scratch.specs.Weight.{trim-sides-pieces, trim-sides-chunks, trim-sides-bytes}
+use Rattle.trim_scratch.specs.Call.{desk-low, plain-of, pieces-any, TrimRan}
 
 -- above a desk whose source has n bytes: rows for any two of its runs, and n bytes; and n bytes more keep the limit
 pub record TrimRoom (l : Used) (n : ℕ) : Type 0 where

@@ -1,3 +1,2 @@
 pub mod Weight
 pub mod Call
-pub mod OnTop

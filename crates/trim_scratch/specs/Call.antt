@@ -26,7 +26,7 @@ use Rattle.trim_row.specs.Plain.{plain-bytes}
 use Rattle.trim_sides.specs.Model.{trim-sides}
 use Rattle.trim_sides.specs.Side.{SideReady}
 use Rattle.trim_sides.specs.Both.{SidesTrimmed}
-use Rattle.trim_call.specs.Weight.{plain-small}
+use Rattle.trim_scratch.specs.Weight.{plain-small}
 
 -- scratch pieces and store with room behind the lent ones: for the rows of two trims, and for all of a source
 pub record Wide (p s : List ℕ) : Type 0 where

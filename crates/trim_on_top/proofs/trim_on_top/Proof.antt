@@ -1,8 +1,8 @@
 use native.Mathlib.Omega.{arith}
-use Rattle.trim_call.specs.OnTop.{top-ready, top-rows, top-ran}
+use Rattle.trim_on_top.specs.OnTop.{top-ready, top-rows, top-ran}
 use borrow.Author.Needs.{needs}
-use Rattle.trim_call.proofs.trim_on_top.Statement.{statement}
-use Rattle.trim_call.proofs.trim_on_top.Tie as tie
+use Rattle.trim_on_top.proofs.trim_on_top.Statement.{statement}
+use Rattle.trim_on_top.proofs.trim_on_top.Tie as tie
 
 cast-trim-sides : tie.Need-cast-trim-sides
 cast-trim-sides c = search needs

@@ -2,8 +2,8 @@ use mathlib.Core.Path.{sym}
 use native.Mathlib.Omega.{arith}
 use Rattle.memory.specs.Laws.{zeros-length, zeros-at}
 use borrow.Author.Needs.{needs}
-use Rattle.trim_call.proofs.trim_scratch.Statement.{statement}
-use Rattle.trim_call.proofs.trim_scratch.Tie as tie
+use Rattle.trim_scratch.proofs.trim_scratch.Statement.{statement}
+use Rattle.trim_scratch.proofs.trim_scratch.Tie as tie
 
 array-borrow-prefix-t : tie.Need-array-borrow-prefix-t
 array-borrow-prefix-t c = search needs

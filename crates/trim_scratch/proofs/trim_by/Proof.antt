@@ -1,8 +1,8 @@
 use native.Mathlib.Omega.{arith}
-use Rattle.trim_call.specs.Call.{loaded-ready, loaded-rows, trim-ran}
+use Rattle.trim_scratch.specs.Call.{loaded-ready, loaded-rows, trim-ran}
 use borrow.Author.Needs.{needs}
-use Rattle.trim_call.proofs.trim_by.Statement.{statement}
-use Rattle.trim_call.proofs.trim_by.Tie as tie
+use Rattle.trim_scratch.proofs.trim_by.Statement.{statement}
+use Rattle.trim_scratch.proofs.trim_by.Tie as tie
 
 load-requires : tie.Need-load-requires
 load-requires c κs =

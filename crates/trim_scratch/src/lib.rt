@@ -1,0 +1,62 @@
+// The trims past their test of the pattern, on scratch tables.
+ghost use Rattle.memory.specs.WellFormed.{WellFormed};
+ghost use Rattle.frame.specs.Frame.{Scratch};
+ghost use Rattle.trim_scratch.specs.Call.{Wide, TrimRan};
+
+// One side, and after it the end where both are trimmed, with scratch tables lent.
+fn trim_by(
+    source: &[u8],
+    chunks: &mut [u32],
+    pieces: &mut [u32],
+    store: &mut [u8],
+    t: &mut [u32],
+    p: &mut [u32],
+    s: &mut [u8],
+    both: bool,
+    front: bool,
+    pattern: u32,
+) -> u32
+    requires { ⌜ WellFormed (now source) (now chunks) (now pieces) (now store) ⌝ }
+    requires { ⌜ Scratch (now t) (now p) (now s) ⌝ }
+    requires { ⌜ Wide (now p) (now s) ⌝ }
+    ensures { λ r. ⌜ TrimRan both front pattern (now (source .entry)) (now (chunks .entry)) (now (pieces .entry)) (now (store .entry))
+        (now (chunks .exit)) (now (pieces .exit)) (now (store .exit)) r ⌝ }
+{
+    frame::load(chunks, pieces, store, t, p, s);
+    trim_sides::trim_sides(source, t, p, s, 2048, 1024, 32768, both, front, pattern);
+    frame::finish(t, p, s, chunks, pieces, store, 0)
+}
+
+// The same with scratch tables of its own.
+pub fn trim_scratch(
+    source: &[u8],
+    chunks: &mut [u32],
+    pieces: &mut [u32],
+    store: &mut [u8],
+    both: bool,
+    front: bool,
+    pattern: u32,
+) -> u32
+    requires { ⌜ WellFormed (now source) (now chunks) (now pieces) (now store) ⌝ }
+    ensures { λ r. ⌜ TrimRan both front pattern (now (source .entry)) (now (chunks .entry)) (now (pieces .entry)) (now (store .entry))
+        (now (chunks .exit)) (now (pieces .exit)) (now (store .exit)) r ⌝ }
+{
+    let rows = 6192usize;
+    let words = 8192usize;
+    let size = 49152usize;
+    let mut t = [0u32; 6192];
+    let mut p = [0u32; 8192];
+    let mut s = [0u8; 49152];
+    trim_by(
+        source,
+        chunks,
+        pieces,
+        store,
+        &mut t[..rows],
+        &mut p[..words],
+        &mut s[..size],
+        both,
+        front,
+        pattern,
+    )
+}
