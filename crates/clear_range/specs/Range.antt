@@ -14,7 +14,7 @@ use Rattle.model.specs.Chunk.{Chunk, Texts, bare}
 use Rattle.model.specs.MagicString.{ok, err, and-then, with-chunks}
 use Rattle.model.specs.Movement.{change-by-position, change-range}
 use Rattle.model.specs.Call.{Edit, steps, refused-before}
-use Rattle.model.specs.Lists.{first-of}
+use Rattle.model.specs.Lists.{first-of, bool-elim}
 use Rattle.memory.specs.Layout.{NONE, replacementOf, chunkOf, magicStringOf}
 use Rattle.memory.specs.WellFormed.{ReplacementIn, EntryIn, Readable, WellFormed}
 use Rattle.memory.specs.Calls.{idle, may-write, Ran}
@@ -27,7 +27,6 @@ use Rattle.rows.specs.Clear.{clearIn, ClearDone}
 use Rattle.uses.specs.Kept.{Kept, kept-then}
 use Rattle.uses.specs.Steps.{clear-kept}
 use Rattle.rebuild.specs.Rebuilt.{Finished}
-use Rattle.frame.specs.Front.{bool-elim}
 use Rattle.frame.specs.Loaded.{Loaded}
 use Rattle.frame.specs.Frame.{Scratch, Did, did-loaded, loaded-readable, ran-finished, may-write-0, may-write-6}
 use Rattle.in_place.specs.InPlace.{ran-rows}

@@ -1,36 +1,28 @@
 -- The walk of `is_range_within_edited_chunk`. Assumes nothing.
 use mathlib.Core.Path.{_≡_, refl, ap, sym, _∙_}
-use mathlib.Core.Bool.{Bool, true, false, _&&_, _||_, not, cond}
+use mathlib.Core.Bool.{Bool, true, false, _&&_, _||_}
 use mathlib.Core.List.{List, [], map}
-use mathlib.Core.Option.{none, some}
 use Prim.Native.Nat.{ℕ, suc, _+_, _*_, _-_, _≤_, _<_}
 use native.Mathlib.Omega.{arith}
 use native.Mathlib.Numerals.{add-one}
-use lib.Dec.{eqb, leb}
+use lib.Dec.{leb}
 use lib.ListN.{length, drop}
 use Rattle.table.specs.declared.Row.{Row}
 use Rattle.table.specs.Table.{rowAt}
 use Rattle.table.specs.Order.{Entry, entryOf, entryAt, entries, countOf, nextOf, Linked}
 use Rattle.model.specs.Text.{any}
-use Rattle.model.specs.Chunk.{Chunk, start-of, end-of, is-edited, is-some}
+use Rattle.model.specs.Chunk.{Chunk, start-of, end-of, is-edited}
 use Rattle.model.specs.MagicString.{is-range-within-edited-chunk}
 use Rattle.model.specs.Call.{show, value-of, bit, is-range-within-edited-chunk as IsRange}
-use Rattle.memory.specs.Layout.{magicStringOf, chunkOf, replacementOf, bytesAt, NONE}
+use Rattle.memory.specs.Layout.{magicStringOf, chunkOf}
 use Rattle.memory.specs.Calls.{Told}
+use Rattle.memory.specs.Laws.{edited-is}
 use Rattle.fragments.specs.Sections.{section, rowNo, row-edge, row-first, row-in, section-chunk, entries-drop, entries-end}
 use Rattle.fragments.specs.Telling.{told-value}
 use Rattle.edited_range.specs.Within.{within}
 
 pub holding : ℕ → ℕ → Chunk → Bool
 holding start end c = (leb (start-of c) start && leb end (end-of c)) && is-edited c
-
-edited-is : (s : List ℕ) (r : ℕ × ℕ) → is-some (replacementOf s r) ≡ not (eqb (r .0) NONE)
-unfolding replacementOf
-edited-is s r = go (eqb (r .0) NONE)
-  where
-    go : (b : Bool) → is-some (cond b none (some (bytesAt s r))) ≡ not b
-    go true = refl
-    go false = refl
 
 holding-is : (p s : List ℕ) (start end : ℕ) (e : Entry) → holding start end (chunkOf p s e) ≡ within (e .start) (e .end) (e .text .0) start end
 unfolding holding

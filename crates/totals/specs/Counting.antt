@@ -8,7 +8,7 @@ use native.Mathlib.Numerals.{add-one}
 use lib.ListN.{length, getD, take, drop, take-append-drop}
 use lib.Seq.{drop-append-seam}
 use Rattle.utf8.specs.Chars.{All, nil, cons}
-use Rattle.table.specs.Order.{Entry, entryAt, entries, countOf, Linked}
+use Rattle.table.specs.Order.{Entry, entries, countOf, count-entries, Linked}
 use Rattle.model.specs.Text.{Text, sum}
 use Rattle.model.specs.MagicString.{fragments, chunk-fragments}
 use Rattle.model.specs.WellFormed.{Valid}
@@ -103,13 +103,10 @@ chunks-sum f source t p s stop n l x e =
     let a : drop 1 (sections t) ≡ entries t ++ (tailOf t ∷ []) = ap (drop 1) (sections-are t l) in
     let b : drop stop (sections t) ≡ tailOf t ∷ [] =
     ap (λ (k : ℕ). drop k (sections t)) (x ∙ add-one (countOf t)) ∙ ap (drop (suc (countOf t))) (sections-are t l)
-    ∙ ap (λ (k : ℕ). drop k (entries t ++ (tailOf t ∷ []))) (sym (entries-length t)) ∙ drop-append-seam (entries t) (tailOf t ∷ []) in
+    ∙ ap (λ (k : ℕ). drop k (entries t ++ (tailOf t ∷ []))) (sym (count-entries t)) ∙ drop-append-seam (entries t) (tailOf t ∷ []) in
     let q : sum f (F (drop 1 (sections t))) ≡ sum f (F (entries t)) + sum f (F (tailOf t ∷ [])) = ap (λ (x : List Entry). sum f (F x)) a ∙ ap (sum f) (all-append source p s (entries t) (tailOf t ∷ [])) ∙ sum-append f (F (entries t)) (F (tailOf t ∷ [])) in
     let r : sum f (F (drop stop (sections t))) ≡ sum f (F (tailOf t ∷ [])) = ap (λ (x : List Entry). sum f (F x)) b in
     omega arith
-  where
-    entries-length : (t : List ℕ) → length (entries t) ≡ countOf t
-    entries-length t = lib.ListN.length-map (Rattle.table.specs.Order.order t) (entryAt t) ∙ Rattle.fragments.specs.Sections.order-length t
 
 pub chunks-is : (m : Measure) (source t p s : List ℕ) (stop n : ℕ) → WellFormed source t p s → stop ≡ countOf t + 1
     → n + sum (measureOf m) (rest source t p s stop 0) ≡ sum (measureOf m) (rest source t p s 1 0) → OfChunks m (magicStringOf source t p s) n
