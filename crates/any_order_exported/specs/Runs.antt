@@ -6,9 +6,10 @@ use mathlib.Core.List.{List, [], _∷_}
 use lib.ListN.{length, take}
 use Rattle.model.specs.Text.{Text}
 use Rattle.model.specs.MagicString.{MagicString}
+use Rattle.model.specs.Limits.{Limits}
 use Rattle.model.specs.Call.{Edit, Report, to-string, slice, last-line, get-indent-string, len, len-utf16, line-count, is-empty, has-changed, is-range-within-edited-chunk, last-char, Shown}
 use Rattle.memory.specs.Layout.{magicStringOf}
-use Rattle.memory.specs.WellFormed.{WellFormed}
+use Rattle.memory.specs.WellFormed.{limitsOf, Taken}
 use Rattle.memory.specs.Calls.{Edited, Reported}
 
 -- the lent tables of a desk
@@ -17,12 +18,15 @@ pub record Tables : Type 0 where
   pub pieces : List ℕ
   pub store : List ℕ
 
--- they hold a well-formed desk over the source, and which
+-- they hold a well-formed desk over the source, and which; and its limits
 abbrev pub Holds : List ℕ → Tables → Type 0
-Holds source T = WellFormed source (T .chunks) (T .pieces) (T .store)
+Holds source T = Taken source (T .chunks) (T .pieces) (T .store)
 
 abbrev pub deskOf : List ℕ → Tables → MagicString
 deskOf source T = magicStringOf source (T .chunks) (T .pieces) (T .store)
+
+abbrev pub limits : Tables → Limits
+limits T = limitsOf (T .chunks) (T .pieces) (T .store)
 
 -- "each edit gets the desk that the one before it left, and nothing else changes that desk meanwhile": a list of edits, the numbers that they got, and the tables after
 pub data EditRun (source : List ℕ) : List Edit → Tables → List ℕ → Tables → Type 0 where

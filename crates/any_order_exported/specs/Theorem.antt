@@ -17,33 +17,43 @@ use Rattle.model.specs.MagicString.{MagicString, to-string}
 use Rattle.model.specs.MagicString as mod-rs
 use Rattle.model.specs.Slice as slice-rs
 use Rattle.model.specs.Indent as indent-rs
-use Rattle.model.specs.Limits.{full}
+use Rattle.model.specs.Limits.{Limits}
 use Rattle.model.specs.Slice.{Sliced, text, refused}
 use Rattle.model.specs.Call.{Edit, Report, slice, last-line, get-indent-string, len, len-utf16, line-count, is-empty, has-changed, is-range-within-edited-chunk, last-char, Shown, run, show, into, sliced-into}
 use Rattle.model.specs.Call as call
 use Rattle.memory.specs.Layout.{magicStringOf}
-use Rattle.memory.specs.WellFormed.{WellFormed}
+use Rattle.memory.specs.Laws.{full-as, limits-as, limits-full}
 use Rattle.memory.specs.Calls.{Ran, Edited, Told, Reported}
 use Rattle.any_order.specs.Claim.{Order, Premises, Conclusion, AllAccepted, after}
 use Rattle.any_order.specs.Theorem.{any-order}
-use Rattle.any_order_exported.specs.Runs.{Tables, Holds, deskOf, EditRun, Later, change, report, fills, seen, answered, LaterRun}
+use Rattle.any_order_exported.specs.Runs.{Tables, Holds, limits, deskOf, EditRun, Later, change, report, fills, seen, answered, LaterRun}
 use Rattle.any_order_exported.specs.Runs as runs
 
 -- ── a run of edits is the model's ──
+-- what an edit leaves holds a desk again, of the same limits
+next-holds : {e : Edit} {source : List ℕ} {T T₁ : Tables} {number : ℕ} → Holds source T
+    → Ran e source (T .chunks) (T .pieces) (T .store) (T₁ .chunks) (T₁ .pieces) (T₁ .store) number → Holds source T₁
+next-holds w ran = record { full = full-as (ran .lengths) (w .full); well-formed = ran .well-formed }
+
 pub record Follows (source : List ℕ) (L : List Edit) (T : Tables) (numbers : List ℕ) (T₁ : Tables) : Type 0 where
   pub holds : Holds source T₁
-  pub desk : deskOf source T₁ ≡ after full L (deskOf source T)
-  pub accepted : AllAccepted full L (deskOf source T) → All (λ n. n ≡ 0) numbers
+  pub same : limits T₁ ≡ limits T
+  pub desk : deskOf source T₁ ≡ after (limits T) L (deskOf source T)
+  pub accepted : AllAccepted (limits T) L (deskOf source T) → All (λ n. n ≡ 0) numbers
 
 pub follows : {source : List ℕ} {L : List Edit} {T : Tables} {numbers : List ℕ} {T₁ : Tables} → EditRun source L T numbers T₁ → Holds source T → Follows source L T numbers T₁
-follows runs.EditRun.done w = record { holds = w; desk = refl; accepted = λ a. nil }
-follows (runs.EditRun.next {L = L} x r) w =
+follows runs.EditRun.done w = record { holds = w; same = refl; desk = refl; accepted = λ a. nil }
+follows {source} (runs.EditRun.next {L = L} {T = T} {T₁ = T₁} x r) w =
     let ran = x .well-formed w in
-    let f = follows r (ran .well-formed) in
+    let f = follows r (next-holds {T = T} {T₁ = T₁} w ran) in
+    let e : limits T₁ ≡ limits T = limits-as (ran .lengths) in
     record {
       holds = f .holds;
-      desk = f .desk ∙ ap (after full L) (ran .desk-is);
-      accepted = λ a. cons (ran .number-is ∙ a .0) (f .accepted (subst (AllAccepted full L) (sym (ran .desk-is)) (a .1)));
+      same = f .same ∙ e;
+      desk = f .desk ∙ ap (λ (k : Limits). after k L (deskOf source T₁)) e ∙ ap (after (limits T) L) (ran .desk-is);
+      accepted = λ a.
+          cons (ran .number-is ∙ a .0)
+          (f .accepted (subst (λ (k : Limits). AllAccepted k L (deskOf source T₁)) (sym e) (subst (AllAccepted (limits T) L) (sym (ran .desk-is)) (a .1))));
     }
 
 -- ── what a report shows is what the model shows ──
@@ -89,16 +99,18 @@ seen-is q m out out′ number value d =
     λ i. record { number = d .number-is i; value = d .value-is i; written = e i }
 
 -- ── a run of later calls shows what the model shows ──
-abbrev expected : List Later → MagicString → List Shown
-expected [] m = []
-expected (change e ∷ L) m = answered (run full e m .number) ∷ expected L (run full e m .desk)
-expected (report q ∷ L) m = show q m ∷ expected L m
+abbrev expected : Limits → List Later → MagicString → List Shown
+expected k [] m = []
+expected k (change e ∷ L) m = answered (run k e m .number) ∷ expected k L (run k e m .desk)
+expected k (report q ∷ L) m = show q m ∷ expected k L m
 
-later-is : {source : List ℕ} {L : List Later} {T : Tables} {shown : List Shown} → LaterRun source L T shown → Holds source T → shown ≡ expected L (deskOf source T)
+later-is : {source : List ℕ} {L : List Later} {T : Tables} {shown : List Shown} → LaterRun source L T shown → Holds source T → shown ≡ expected (limits T) L (deskOf source T)
 later-is runs.LaterRun.done w = refl
-later-is (runs.LaterRun.changed {L = L} x r) w =
+later-is {source} (runs.LaterRun.changed {L = L} {T = T} {T₁ = T₁} x r) w =
     let ran = x .well-formed w in
-    ap₂ (λ (a : Shown) (l : List Shown). a ∷ l) (ap answered (ran .number-is)) (later-is r (ran .well-formed) ∙ ap (expected L) (ran .desk-is))
+    let e : limits T₁ ≡ limits T = limits-as (ran .lengths) in
+    ap₂ (λ (a : Shown) (l : List Shown). a ∷ l) (ap answered (ran .number-is))
+    (later-is r (next-holds {T = T} {T₁ = T₁} w ran) ∙ ap (λ (k : Limits). expected k L (deskOf source T₁)) e ∙ ap (expected (limits T) L) (ran .desk-is))
 later-is (runs.LaterRun.reported {q = q} x r) w =
     ap₂ (λ (a : Shown) (l : List Shown). a ∷ l) (seen-is q _ _ _ _ _ (x .well-formed w)) (later-is r w)
 
@@ -117,21 +129,26 @@ pub record Alike (source : List ℕ) (numbers numbers′ : List ℕ) (T T′ : T
 
 -- From two memories that hold the same well-formed desk, any two orders of L: whatever numbering and places the functions choose
 pub any-order-exported : (source : List ℕ) (T T′ : Tables) → Holds source T → Holds source T′ → deskOf source T ≡ deskOf source T′
-    → (L L₁ L₂ : List Edit) → Premises full (deskOf source T) L → Order L L₁ → Order L L₂
+    → (L L₁ L₂ : List Edit) → Premises (limits T) (deskOf source T) L → Order L L₁ → Order L L₂
     → {numbers numbers′ : List ℕ} {T₁ T₂ : Tables} → EditRun source L₁ T numbers T₁ → EditRun source L₂ T′ numbers′ T₂ → Alike source numbers numbers′ T₁ T₂
-any-order-exported source T T′ w w′ same L L₁ L₂ p o₁ o₂ r₁ r₂ =
-    let c₁ = any-order full (deskOf source T) L p L₁ o₁ in
-    let c₂ = any-order full (deskOf source T) L p L₂ o₂ in
+any-order-exported source T T′ w w′ same L L₁ L₂ p o₁ o₂ {T₁ = T₁} {T₂} r₁ r₂ =
+    let k = limits T in
+    let u : limits T′ ≡ k = limits-full (w′ .full) ∙ sym (limits-full (w .full)) in
+    let c₁ = any-order k (deskOf source T) L p L₁ o₁ in
+    let c₂ = any-order k (deskOf source T) L p L₂ o₂ in
     let f₁ = follows r₁ w in
     let f₂ = follows r₂ w′ in
-    let e : deskOf source _ ≡ deskOf source _ = f₁ .desk ∙ c₁ .desk ∙ sym (c₂ .desk) ∙ ap (after full L₂) same ∙ sym (f₂ .desk) in
+    let e : deskOf source T₁ ≡ deskOf source T₂ =
+    f₁ .desk ∙ c₁ .desk ∙ sym (c₂ .desk) ∙ ap (after k L₂) same ∙ ap (λ (j : Limits). after j L₂ (deskOf source T′)) (sym u) ∙ sym (f₂ .desk) in
+    let v : limits T₁ ≡ limits T₂ = f₁ .same ∙ sym (f₂ .same ∙ u) in
     record {
       accepted = f₁ .accepted (c₁ .accepted);
-      accepted′ = f₂ .accepted (subst (AllAccepted full L₂) same (c₂ .accepted));
+      accepted′ = f₂ .accepted (subst (λ (j : Limits). AllAccepted j L₂ (deskOf source T′)) (sym u) (subst (AllAccepted k L₂) same (c₂ .accepted)));
       holds = f₁ .holds;
       holds′ = f₂ .holds;
       desk = e;
-      later = λ calls a b. later-is a (f₁ .holds) ∙ ap (expected calls) e ∙ sym (later-is b (f₂ .holds));
+      later = λ calls a b.
+          later-is a (f₁ .holds) ∙ ap (λ (j : Limits). expected j calls (deskOf source T₁)) v ∙ ap (expected (limits T₂) calls) e ∙ sym (later-is b (f₂ .holds));
     }
 
 -- "The final text is what `to_string` writes into a buffer that is long enough": in such a buffer it is the model's text

@@ -131,12 +131,12 @@ RangeRan a b v source t p s t' p' s' r =
 range-writes : {a b v : ℕ} {t t' : List ℕ} {r : ℕ} → RangeDone a b v t t' r → (e : Edit) → idle e ≡ false → may-write e r ≡ true
 range-writes {r = r} x e i = ⊎-elim {C = may-write e r ≡ true} (λ (z : r ≡ 0). rw z (may-write-0 e i)) (λ (z : r ≡ 6). rw z (may-write-6 e)) (x .number)
 
--- on the lent rows themselves, where two chunks more are within the limit
-pub range-in-place : {a b v : ℕ} {source t p s t' : List ℕ} {r : ℕ} → WellFormed source t p s → countOf t + 2 ≤ 512 → RangeDone a b v t t' r → length t' ≡ length t
+-- on the lent rows themselves, where there is room for two chunks more
+pub range-in-place : {a b v : ℕ} {source t p s t' : List ℕ} {r : ℕ} → WellFormed source t p s → RangeDone a b v t t' r → length t' ≡ length t
     → RangeRan a b v source t p s t' p s r
-range-in-place {source = source} {p = p} {s = s} w few x len e h q i =
+range-in-place {source = source} {p = p} {s = s} w x len e h q i =
     let g = x .leave source p s (w .readable) (formed-spans w) in
-    ran-rows w h (record { readable = g .readable; result = q ∙ g .result }) (range-writes x e i) len (x .kept) (omega (arith, x .count))
+    ran-rows w h (record { readable = g .readable; result = q ∙ g .result }) (range-writes x e i) len (x .kept)
 
 -- on scratch rows
 pub range-ran : {a b v : ℕ} {source t p s t₀ p₀ s₀ t1 p1 s1 t2 t' p' s' : List ℕ} {r r' : ℕ} → WellFormed source t p s → Scratch t₀ p₀ s₀ → Loaded t p s t₀ p₀ s₀ t1 p1 s1

@@ -24,7 +24,7 @@ use Rattle.model.specs.Lists.{all-map, map-kept, concat-sum}
 pub use Rattle.model.specs.Lists.{sum-append}
 use Rattle.memory.specs.Layout.{runOf, chunkOf, magicStringOf, replacementOf}
 use Rattle.memory.specs.WellFormed.{RunIn, ReplacementIn, EntryIn, RunsIn, Readable, WellFormed}
-use Rattle.memory.specs.Laws.{no-run}
+use Rattle.memory.specs.Laws.{no-run, desk-full}
 use Rattle.texts.specs.Texts.{SpanIn, concat-cons, concat-nil, concat-one, run-length, run-piece}
 use Rattle.fragments.specs.Sections.{headOf, tailOf, section, sections, sections-are, fragmentsOf, fragmentsAll, size, Shown, Ready, Narrow, each-section}
 
@@ -168,4 +168,4 @@ ready source t p s w =
 -- the length of the output
 pub output-bound : (source t p s : List ℕ) → WellFormed source t p s → sum length (fragmentsAll source p s (sections t)) ≤ 8421376
 output-bound source t p s w =
-    rw (sum-sections length refl source t p s (w .readable .linked)) (output-short (magicStringOf source t p s) (w .desk .limits))
+    rw (sum-sections length refl source t p s (w .readable .linked)) (output-short (magicStringOf source t p s) (desk-full w))

@@ -19,10 +19,10 @@ use Rattle.table.specs.Order.{Entry, entryOf, entryAt, entries, order, nextOf, 
 use Rattle.model.specs.Text.{Text, sum}
 use Rattle.model.specs.Chunk.{Chunk}
 use Rattle.model.specs.MagicString.{MagicString}
-use Rattle.model.specs.Limits.{full, within, chunk-pieces, chunk-bytes, piece-count, byte-count, replacement-bytes}
+use Rattle.model.specs.Limits.{within, chunk-pieces, chunk-bytes, piece-count, byte-count, replacement-bytes}
 use Rattle.memory.specs.Layout.{NONE, Place, bytesAt, pieceAt, tabulate, runOf, replacementOf, chunkOf, magicStringOf}
-use Rattle.memory.specs.WellFormed.{RunIn, ReplacementIn, EntryIn, Readable}
-use Rattle.memory.specs.Laws.{chunk-count}
+use Rattle.memory.specs.WellFormed.{limitsBy, limitsOf, Lengths, RunIn, ReplacementIn, EntryIn, Readable}
+use Rattle.memory.specs.Laws.{chunk-count, same-lengths}
 use Rattle.model.specs.Lists.{no-tf, first-of, sum-snoc}
 use Rattle.texts.specs.Texts.{run-tabulate, run-length}
 use Rattle.rebuild.specs.Lay.{own, ownOf}
@@ -106,12 +106,12 @@ pub loop-next : {t p s : List ℕ} {n k cur pieces bytes : ℕ} → (l : Loop t 
 loop-next {n = n} {k = k} l g = let e : n - k ≡ suc (n - (k + 1)) = omega arith in rw e at (l .at)
 
 -- ── the limits ──
-pub too-many : (t p s : List ℕ) → 512 < countOf t → false ≡ within full (magicStringOf [] t p s)
+pub too-many : (t p s : List ℕ) (c x y : ℕ) → c < countOf t → false ≡ within (limitsBy c x y) (magicStringOf [] t p s)
 unfolding within magicStringOf
-too-many t p s h = rw (lt-leb (length (map (chunkOf p s) (entries t))) 512 (omega (arith, chunk-count [] t p s)))
+too-many t p s c x y h = rw (lt-leb (length (map (chunkOf p s) (entries t))) c (omega (arith, chunk-count [] t p s)))
 
-leb-min : (x c : ℕ) → leb (min x (suc c)) c ≡ leb x c
-leb-min x c = elim (decLe x c) [ yes h ↦ rw (le-leb x c h, le-leb (min x (suc c)) c (omega arith)) | no h ↦ rw (lt-leb x c (omega arith), lt-leb (min x (suc c)) c (omega arith)) ]
+leb-min : (x c d : ℕ) → d ≤ c → leb (min x (suc c)) d ≡ leb x d
+leb-min x c d k = elim (decLe x d) [ yes h ↦ rw (le-leb x d h, le-leb (min x (suc c)) d (omega arith)) | no h ↦ rw (lt-leb x d (omega arith), lt-leb (min x (suc c)) d (omega arith)) ]
 
 -- where no row is left, all are counted
 module _ {t p s done : List ℕ} {m cur pieces bytes : ℕ} (c : CountAt t p s done m cur pieces bytes) (z : m ≡ 0) where
@@ -126,22 +126,22 @@ module _ {t p s done : List ℕ} {m cur pieces bytes : ℕ} (c : CountAt t p s d
   unfolding magicStringOf replacementOf
   bytes-all = rw all-done (c .bytes-are ∙ ap (λ (x : ℕ). min x 32769) (omega arith))
 
-module _ {t p s : List ℕ} {n k cur pieces bytes : ℕ} (l : Loop t p s n k cur pieces bytes) (g : n ≤ k) (few : countOf t ≤ 512) where
+module _ {t p s : List ℕ} {n k cur pieces bytes mc mp mb : ℕ} (l : Loop t p s n k cur pieces bytes) (g : n ≤ k) (few : countOf t ≤ mc) (hp : mp ≤ 1024) (hb : mb ≤ 32768) where
   none-left : n - k ≡ 0
   none-left = omega arith
 
-  within-is : within full (magicStringOf [] t p s) ≡ (leb pieces 1024 && leb bytes 32768)
+  within-is : within (limitsBy mc mp mb) (magicStringOf [] t p s) ≡ (leb pieces mp && leb bytes mb)
   unfolding within magicStringOf
   within-is =
-      let a : leb pieces 1024 ≡ leb (piece-count (magicStringOf [] t p s)) 1024 = ap (λ (x : ℕ). leb x 1024) (pieces-all (l .at) none-left) ∙ leb-min (piece-count (magicStringOf [] t p s)) 1024 in
-      let b : leb bytes 32768 ≡ leb (byte-count (magicStringOf [] t p s)) 32768 = ap (λ (x : ℕ). leb x 32768) (bytes-all (l .at) none-left) ∙ leb-min (byte-count (magicStringOf [] t p s)) 32768 in
-      rw (a, b, le-leb (length (map (chunkOf p s) (entries t))) 512 (omega (arith, chunk-count [] t p s)))
+      let a : leb pieces mp ≡ leb (piece-count (magicStringOf [] t p s)) mp = ap (λ (x : ℕ). leb x mp) (pieces-all (l .at) none-left) ∙ leb-min (piece-count (magicStringOf [] t p s)) 1024 mp hp in
+      let b : leb bytes mb ≡ leb (byte-count (magicStringOf [] t p s)) mb = ap (λ (x : ℕ). leb x mb) (bytes-all (l .at) none-left) ∙ leb-min (byte-count (magicStringOf [] t p s)) 32768 mb hb in
+      rw (a, b, le-leb (length (map (chunkOf p s) (entries t))) mc (omega (arith, chunk-count [] t p s)))
 
-  pub too-many-pieces : 1024 < pieces → false ≡ within full (magicStringOf [] t p s)
-  too-many-pieces h = sym (within-is ∙ rw (lt-leb pieces 1024 h))
+  pub too-many-pieces : mp < pieces → false ≡ within (limitsBy mc mp mb) (magicStringOf [] t p s)
+  too-many-pieces h = sym (within-is ∙ rw (lt-leb pieces mp h))
 
-  pub rest-is : pieces ≤ 1024 → leb bytes 32768 ≡ within full (magicStringOf [] t p s)
-  rest-is h = sym (within-is ∙ rw (le-leb pieces 1024 h))
+  pub rest-is : pieces ≤ mp → leb bytes mb ≡ within (limitsBy mc mp mb) (magicStringOf [] t p s)
+  rest-is h = sym (within-is ∙ rw (le-leb pieces mp h))
 
 -- counts that stop at c, one after another
 pub two-counts : (c a x y r s z : ℕ) → r ≡ min (a + x) c → s ≡ min (r + y) c → z ≡ x + y → s ≡ min (a + z) c
@@ -151,12 +151,12 @@ pub three-counts : (c a x y w r s u v : ℕ) → r ≡ min (a + x) c → s ≡ m
 three-counts c a x y w r s u v e f g h = omega arith
 
 -- ── the end of every edit ──
-pub finish-fits : {t p s t₀ p₀ s₀ t' p' s' : List ℕ} {r : ℕ} → within full (magicStringOf [] t p s) ≡ true → Rebuilt t p s t' p' s'
+pub finish-fits : {t p s t₀ p₀ s₀ t' p' s' : List ℕ} {r : ℕ} → within (limitsOf t₀ p₀ s₀) (magicStringOf [] t p s) ≡ true → Lengths t₀ p₀ s₀ t' p' s' → Rebuilt t p s t' p' s'
     → Finished t p s t₀ p₀ s₀ t' p' s' r r
-finish-fits e d = record { fits = λ _. (refl, d); breaks = λ f. no-tf (sym e ∙ f) }
+finish-fits e l d = record { lengths = l; fits = λ _. (refl, d); breaks = λ f. no-tf (sym e ∙ f) }
 
-pub finish-breaks : {t p s t' p' s' : List ℕ} {r : ℕ} → within full (magicStringOf [] t p s) ≡ false → Finished t p s t' p' s' t' p' s' r 13
-finish-breaks e = record { fits = λ f. no-tf (sym f ∙ e); breaks = λ _. (refl, record { chunks = refl; pieces = refl; store = refl }) }
+pub finish-breaks : {t p s t' p' s' : List ℕ} {r : ℕ} → within (limitsOf t' p' s') (magicStringOf [] t p s) ≡ false → Finished t p s t' p' s' t' p' s' r 13
+finish-breaks {t' = t'} {p'} {s'} e = record { lengths = same-lengths t' p' s'; fits = λ f. no-tf (sym f ∙ e); breaks = λ _. (refl, record { chunks = refl; pieces = refl; store = refl }) }
 
 -- two tests, one after the other
 pub both-true : (a b : Bool) (r q : Bool) → r ≡ a → r ≡ true → q ≡ b → q ≡ (a && (b && true))

@@ -2,25 +2,25 @@
 use mathlib.Core.Path.{_≡_, refl, sym, ap, ap₂, _∙_, subst}
 use mathlib.Core.Bool.{true, false, cond}
 use mathlib.Core.List.{List, [], _∷_, _++_}
-use Prim.Native.Nat.{ℕ, suc, _+_, _*_, _-_, _≤_, _<_}
+use Prim.Native.Nat.{ℕ, suc, _+_, _*_, _-_, _/_, _≤_, _<_}
 use native.Mathlib.Omega.{arith}
 use lib.Dec.{leb}
 use lib.ListN.{length, getD, drop, length-append, length-drop}
 use borrow.Author.Tests.{leb-true, le-leb}
 use Rattle.table.specs.Order.{Linked, countOf}
 use Rattle.model.specs.MagicString.{MagicString, Result, err}
-use Rattle.model.specs.Limits.{full, within, judged, piece-count, byte-count}
+use Rattle.model.specs.Limits.{Limits, full, within, judged, piece-count, byte-count}
 use Rattle.model.specs.Text.{all}
 use Rattle.model.specs.Call.{Edit, options-valid, texts, positions, steps, refused-before, run}
 use Rattle.utf8.specs.Rfc3629.{utf8, between}
 use Rattle.model.specs.WellFormed as model
 use Rattle.memory.specs.Layout.{magicStringOf}
-use Rattle.memory.specs.WellFormed.{Sized, Readable, WellFormed}
+use Rattle.memory.specs.WellFormed.{limitsOf, Sized, Readable, WellFormed}
 use Rattle.memory.specs.Calls.{idle, may-write, Ran}
 use Rattle.preservation.specs.Calls.{run-keeps}
 use Rattle.rebuild.specs.Rebuilt.{Rebuilt, Finished}
 pub use Rattle.memory.specs.Laws.{zeros-length, zeros-at}
-use Rattle.memory.specs.Laws.{all-same, chunk-count}
+use Rattle.memory.specs.Laws.{all-same, chunk-count, short-source, desk-full, past-full, limits-as, sized-as, same-lengths}
 use Rattle.model.specs.Lists.{no-tf, and-left, and-right, bool-elim}
 use Rattle.frame.specs.Loaded.{Loaded}
 use Rattle.frame.specs.Front.{padded, same-desk, desk-front}
@@ -51,9 +51,9 @@ few-chunks source t p s e =
     omega (arith, leb-true (length (magicStringOf source t p s .chunks)) 512 k, chunk-count source t p s)
 
 -- the source's length is the only limit that the source decides
-within-any : (source t p s : List ℕ) → length source ≤ 16384 → within full (magicStringOf [] t p s) ≡ within full (magicStringOf source t p s)
+within-any : (k : Limits) (source t p s : List ℕ) → length source ≤ k .source → within k (magicStringOf [] t p s) ≡ within k (magicStringOf source t p s)
 unfolding within magicStringOf
-within-any source t p s h = rw (le-leb (length source) 16384 h)
+within-any k source t p s h = rw (le-leb (length source) (k .source) h, le-leb 0 (k .source) (omega arith))
 
 -- ── loaded tables ──
 module _ {source t p s t₀ p₀ s₀ t1 p1 s1 : List ℕ} (w : WellFormed source t p s) (f : Scratch t₀ p₀ s₀) (d : Loaded t p s t₀ p₀ s₀ t1 p1 s1) where
@@ -76,7 +76,7 @@ module _ {source t p s t₀ p₀ s₀ t1 p1 s1 : List ℕ} (w : WellFormed sourc
   -- with room for three chunks
   pub loaded-roomy : Roomy 3 t1
   loaded-roomy =
-      let c = few-chunks source t1 p s (ap (within full) loaded-desk ∙ w .desk .limits) in
+      let c = few-chunks source t1 p s (ap (within full) loaded-desk ∙ desk-full w) in
       record { linked = loaded-readable .linked; room = omega (arith, loaded-length); narrow = omega (arith, loaded-length) }
 
   -- and so it does with the scratch pieces and store, whatever the steps made of the rows
@@ -91,30 +91,31 @@ pub refused-15 : (e : Edit) (m : MagicString) → options-valid e ≡ false → 
 unfolding refused-before
 refused-15 e m h = rw h
 
-run-refused : (e : Edit) (m : MagicString) (n : ℕ) → refused-before m e ≡ suc n → run full e m ≡ err (suc n) m
+run-refused : (k : Limits) (e : Edit) (m : MagicString) (n : ℕ) → refused-before m e ≡ suc n → run k e m ≡ err (suc n) m
 unfolding run
-run-refused e m n h = rw (h, run)
+run-refused k e m n h = rw (h, run)
 
-run-judged : (e : Edit) (m : MagicString) → refused-before m e ≡ 0 → run full e m ≡ judged full m (steps e m)
+run-judged : (k : Limits) (e : Edit) (m : MagicString) → refused-before m e ≡ 0 → run k e m ≡ judged k m (steps e m)
 unfolding run
-run-judged e m h = rw (h, run)
+run-judged k e m h = rw (h, run)
 
-judged-in : (m : MagicString) (r : Result) → within full (r .desk) ≡ true → judged full m r ≡ r
+judged-in : (k : Limits) (m : MagicString) (r : Result) → within k (r .desk) ≡ true → judged k m r ≡ r
 unfolding judged
-judged-in m r e = rw e
+judged-in k m r e = rw e
 
-judged-out : (m : MagicString) (r : Result) → within full (r .desk) ≡ false → judged full m r ≡ err 13 m
+judged-out : (k : Limits) (m : MagicString) (r : Result) → within k (r .desk) ≡ false → judged k m r ≡ err 13 m
 unfolding judged
-judged-out m r e = rw e
+judged-out k m r e = rw e
 
 -- nothing is written where the call leaves the desk as it was
-still : (e : Edit) (source t p s : List ℕ) (r : ℕ) → WellFormed source t p s → run full e (magicStringOf source t p s) ≡ err r (magicStringOf source t p s)
+still : (e : Edit) (source t p s : List ℕ) (r : ℕ) → WellFormed source t p s → run (limitsOf t p s) e (magicStringOf source t p s) ≡ err r (magicStringOf source t p s)
     → Ran e source t p s t p s r
 still e source t p s r w q =
     record {
       number-is = sym (ap (λ (x : Result). x .number) q);
       desk-is = sym (ap (λ (x : Result). x .desk) q);
       well-formed = w;
+      lengths = same-lengths t p s;
       same = λ _. all-same t p s;
     }
 
@@ -134,21 +135,21 @@ module _ (e : Edit) (source t p s : List ℕ) (o : options-valid e ≡ true) whe
 
 pub ran-before : (e : Edit) (source t p s : List ℕ) (n r : ℕ) → WellFormed source t p s → refused-before (magicStringOf source t p s) e ≡ suc n → r ≡ suc n
     → Ran e source t p s t p s r
-ran-before e source t p s n r w h q = still e source t p s r w (run-refused e (magicStringOf source t p s) n h ∙ rw q)
+ran-before e source t p s n r w h q = still e source t p s r w (run-refused (limitsOf t p s) e (magicStringOf source t p s) n h ∙ rw q)
 
 -- a refusal that changes nothing, and a no-op
 pub ran-same : (e : Edit) (source t p s : List ℕ) (r : ℕ) → WellFormed source t p s → refused-before (magicStringOf source t p s) e ≡ 0
     → steps e (magicStringOf source t p s) ≡ err r (magicStringOf source t p s) → Ran e source t p s t p s r
 ran-same e source t p s r w h q =
     let m = magicStringOf source t p s in
-    still e source t p s r w (run-judged e m h ∙ ap (judged full m) q ∙ judged-in m (err r m) (w .desk .limits))
+    still e source t p s r w (run-judged (limitsOf t p s) e m h ∙ ap (judged (limitsOf t p s) m) q ∙ judged-in (limitsOf t p s) m (err r m) (w .desk .limits))
 
 -- 13 where the steps would leave too much
 pub ran-past-limits : (e : Edit) (source t p s : List ℕ) → WellFormed source t p s → refused-before (magicStringOf source t p s) e ≡ 0
     → within full (steps e (magicStringOf source t p s) .desk) ≡ false → Ran e source t p s t p s 13
 ran-past-limits e source t p s w h q =
     let m = magicStringOf source t p s in
-    still e source t p s 13 w (run-judged e m h ∙ judged-out m (steps e m) q)
+    still e source t p s 13 w (run-judged (limitsOf t p s) e m h ∙ judged-out (limitsOf t p s) m (steps e m) (past-full (w .sized) (steps e m .desk) q))
 
 -- what steps show: the desk of t p s before, the desk of t2 p2 s2 after, and r, their answer, are the model's
 pub record Did (f : MagicString → Result) (source t p s t2 p2 s2 : List ℕ) (r : ℕ) : Type 0 where
@@ -187,34 +188,37 @@ pub ran-finished : {e : Edit} {source t p s t2 p2 s2 t' p' s' : List ℕ} {r r' 
 ran-finished {e} {source} {t} {p} {s} {t2} {p2} {s2} {t'} {p'} {s'} {r} {r'} w h d may f =
     let m = magicStringOf source t p s in
     let n = magicStringOf source t2 p2 s2 in
-    let q : run full e m ≡ judged full m (err r n) = run-judged e m h ∙ ap (judged full m) (d .result) in
-    let i : within full (magicStringOf [] t2 p2 s2) ≡ within full n = within-any source t2 p2 s2 (small-source source t p s (w .desk .limits)) in
-    bool-elim (within full n)
+    let k₀ = limitsOf t p s in
+    let q : run k₀ e m ≡ judged k₀ m (err r n) = run-judged k₀ e m h ∙ ap (judged k₀ m) (d .result) in
+    let i : within k₀ (magicStringOf [] t2 p2 s2) ≡ within k₀ n = within-any k₀ source t2 p2 s2 (short-source w) in
+    bool-elim (within k₀ n)
     (λ k.
     let g = f .fits (i ∙ k) in
-    let o : run full e m ≡ err r n = q ∙ judged-in m (err r n) k in
-    let x : magicStringOf source t' p' s' ≡ run full e m .desk = g .1 .desk source ∙ sym (ap (λ (y : Result). y .desk) o) in
+    let o : run k₀ e m ≡ err r n = q ∙ judged-in k₀ m (err r n) k in
+    let x : magicStringOf source t' p' s' ≡ run k₀ e m .desk = g .1 .desk source ∙ sym (ap (λ (y : Result). y .desk) o) in
     record {
       number-is = g .0 ∙ sym (ap (λ (y : Result). y .number) o);
       desk-is = x;
       well-formed =
           record {
-            sized = g .1 .sized;
+            sized = sized-as (f .lengths) (w .sized);
             readable = g .1 .readable;
             each = g .1 .each;
             disjoint = g .1 .disjoint;
-            desk = subst (model.WellFormed full) (sym x) (run-keeps full e m (w .desk));
+            desk = rw (limits-as (f .lengths)) (subst (model.WellFormed k₀) (sym x) (run-keeps k₀ e m (w .desk)));
           };
+      lengths = f .lengths;
       same = λ z. no-tf (sym may ∙ ap (may-write e) (sym (g .0)) ∙ z);
     })
     (λ k.
     let g = f .breaks (i ∙ k) in
-    let o : run full e m ≡ err 13 m = q ∙ judged-out m (err r n) k in
+    let o : run k₀ e m ≡ err 13 m = q ∙ judged-out k₀ m (err r n) k in
     let a = g .1 in
     let x : magicStringOf source t' p' s' ≡ m = rw (a .chunks, a .pieces, a .store) refl in
     record {
       number-is = g .0 ∙ sym (ap (λ (y : Result). y .number) o);
       desk-is = x ∙ sym (ap (λ (y : Result). y .desk) o);
       well-formed = rw (a .chunks, a .pieces, a .store) w;
+      lengths = f .lengths;
       same = λ _. a;
     })

@@ -7,9 +7,9 @@ ghost use lib.ListN.{length};
 ghost use Rattle.table.specs.Order.{entryOf};
 ghost use Rattle.utf8.specs.Rfc3629.{utf8, between};
 ghost use Rattle.model.specs.Text.{sum, all};
-ghost use Rattle.model.specs.Limits.{full, within, chunk-pieces, chunk-bytes};
+ghost use Rattle.model.specs.Limits.{within, chunk-pieces, chunk-bytes};
 ghost use Rattle.memory.specs.Layout.{runOf, chunkOf, magicStringOf};
-ghost use Rattle.memory.specs.WellFormed.{RunIn, EntryIn, Readable, Sized};
+ghost use Rattle.memory.specs.WellFormed.{limitsBy, RunIn, EntryIn, Readable, Sized};
 ghost use Rattle.rebuild.specs.Rebuilt.{Finished};
 ghost use Rattle.frame.specs.Loaded.{Loaded};
 
@@ -95,14 +95,15 @@ fn count_row(p: &[u32], s: &[u8], r: table::Row, c: Counts) -> Counts
     Counts { pieces, bytes }
 }
 
-// Whether the desk keeps the limits of document 01: 512 chunks, 1,024 pieces, 32,768 bytes.
-pub fn keeps(t: &[u32], p: &[u32], s: &[u8]) -> bool
+// Whether the desk keeps limits that are not above document 01's.
+pub fn keeps(t: &[u32], p: &[u32], s: &[u8], cmax: u32, pmax: usize, bmax: usize) -> bool
     requires { ⌜ Readable (now t) (now p) (now s) ⌝ }
-    ensures { λ r. ⌜ r ≡ within full (magicStringOf [] (now (t .entry)) (now (p .entry)) (now (s .entry))) ⌝ }
+    requires { ⌜ (cmax ≤ 512) × (pmax ≤ 1024) × (bmax ≤ 32768) ⌝ }
+    ensures { λ r. ⌜ r ≡ within (limitsBy cmax pmax bmax) (magicStringOf [] (now (t .entry)) (now (p .entry)) (now (s .entry))) ⌝ }
 {
     let z = table::get_row(t, 0);
     let n = z.start;
-    if n > 512 {
+    if n > cmax {
         return false;
     }
     let c = count_row(
@@ -126,10 +127,10 @@ pub fn keeps(t: &[u32], p: &[u32], s: &[u8]) -> bool
         cur = r.next;
         k += 1;
     }
-    if pieces > 1024 {
+    if pieces > pmax {
         return false;
     }
-    bytes <= 32768
+    bytes <= bmax
 }
 
 // The end of such a call: the desk of the scratch tables written into the lent tables with the answer r; or 13, and nothing written.
@@ -147,7 +148,8 @@ pub fn finish(
     ensures { λ q. ⌜ Finished (now (t .entry)) (now (p .entry)) (now (s .entry)) (now (chunks .entry)) (now (pieces .entry)) (now (store .entry))
         (now (chunks .exit)) (now (pieces .exit)) (now (store .exit)) r q ⌝ }
 {
-    if keeps(t, p, s) {
+    let most = (chunks.len() / 12 - 1) as u32;
+    if keeps(t, p, s, most, pieces.len() / 4, store.len()) {
         rebuild::rebuild(t, p, s, chunks, pieces, store);
         return r;
     }

@@ -2,39 +2,40 @@
 use mathlib.Core.Path.{_≡_, refl, sym, _∙_}
 use mathlib.Core.Bool.{true}
 use mathlib.Core.List.{List, []}
-use Prim.Native.Nat.{ℕ, _+_, _≤_}
+use Prim.Native.Nat.{ℕ, _+_, _*_, _≤_}
 use native.Mathlib.Omega.{arith}
 use lib.ListN.{length}
 use Rattle.table.specs.Order.{countOf}
-use Rattle.model.specs.Limits.{full, within}
+use Rattle.model.specs.Limits.{within}
 use Rattle.model.specs.Call.{Edit, steps, refused-before}
 use Rattle.model.specs.Lists.{no-tf}
 use Rattle.memory.specs.Layout.{magicStringOf}
-use Rattle.memory.specs.WellFormed.{Sized, HoldsEach, Disjoint, WellFormed}
+use Rattle.memory.specs.WellFormed.{limitsOf, Lengths, Readable, HoldsEach, Disjoint, WellFormed}
 use Rattle.memory.specs.Calls.{may-write, Ran}
 use Rattle.rebuild.specs.Rebuilt.{Finished}
 use Rattle.frame.specs.Frame.{Roomy, Did, ran-finished}
 use Rattle.uses.specs.Kept.{Kept, kept-apart, kept-within}
 
 -- lent rows with room for n chunks more
-pub lent-roomy : {source t p s : List ℕ} (n : ℕ) → WellFormed source t p s → countOf t + n ≤ 512 → Roomy n t
-lent-roomy n w h = record { linked = w .readable .linked; room = omega (arith, w .sized .chunks); narrow = omega (arith, w .sized .chunks) }
+pub lent-roomy : {source t p s : List ℕ} (n : ℕ) → WellFormed source t p s → (countOf t + n) * 12 + 12 ≤ length t → Roomy n t
+lent-roomy n w h = record { linked = w .readable .linked; room = h; narrow = omega (arith, w .sized .chunks) }
 
 -- the lent tables are what the steps left
 pub ran-in-place : {e : Edit} {source t p s t' p' s' : List ℕ} {r : ℕ} → WellFormed source t p s → refused-before (magicStringOf source t p s) e ≡ 0
-    → Did (steps e) source t p s t' p' s' r → may-write e r ≡ true → Sized t' p' s' → HoldsEach t' → Disjoint t' p' → within full (magicStringOf [] t' p' s') ≡ true
-    → Ran e source t p s t' p' s' r
+    → Did (steps e) source t p s t' p' s' r → may-write e r ≡ true → Lengths t p s t' p' s' → HoldsEach t' → Disjoint t' p'
+    → within (limitsOf t p s) (magicStringOf [] t' p' s') ≡ true → Ran e source t p s t' p' s' r
 ran-in-place {t = t} {p} {s} {t'} {p'} {s'} {r} w h d may z each apart k =
     let f : Finished t' p' s' t p s t' p' s' r r =
     record {
-      fits = λ _. (refl, record { sized = z; readable = d .readable; each = each; disjoint = apart; desk = λ source. refl });
+      lengths = z;
+      fits = λ _. (refl, record { readable = d .readable; each = each; disjoint = apart; desk = λ source. refl });
       breaks = λ b. no-tf (sym k ∙ b);
     } in
     ran-finished w h d may f
 
 -- the chunk rows alone changed
 pub ran-rows : {e : Edit} {source t p s t' : List ℕ} {r : ℕ} → WellFormed source t p s → refused-before (magicStringOf source t p s) e ≡ 0
-    → Did (steps e) source t p s t' p s r → may-write e r ≡ true → length t' ≡ length t → Kept t t' → countOf t' ≤ 512 → Ran e source t p s t' p s r
-ran-rows {source = source} {p = p} {s = s} w h d may len k few =
-    ran-in-place w h d may (record { chunks = len ∙ w .sized .chunks; pieces = w .sized .pieces; store = w .sized .store }) (k .each (w .each)) (kept-apart k p (w .disjoint))
-    (kept-within k source p s (w .desk .limits) few)
+    → Did (steps e) source t p s t' p s r → may-write e r ≡ true → length t' ≡ length t → Kept t t' → Ran e source t p s t' p s r
+ran-rows {source = source} {t} {p} {s} {t'} w h d may len k =
+    ran-in-place w h d may (record { chunks = len; pieces = refl; store = refl }) (k .each (w .each)) (kept-apart k p (w .disjoint))
+    (kept-within k (limitsOf t p s) source p s (w .desk .limits) (omega (arith, d .readable .linked .room)))

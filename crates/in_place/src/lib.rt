@@ -1,1 +1,15 @@
-// Laws of edits that work on the lent tables themselves, in specs/: there is no code here.
+// Laws of edits that work on the lent tables themselves, in specs/, and the test of the lent rows.
+ghost use mathlib.Core.Path.{_≡_};
+ghost use mathlib.Core.Bool.{true};
+ghost use Prim.Native.Nat.{_+_, _*_, _≤_};
+ghost use lib.ListN.{length};
+ghost use Rattle.table.specs.Order.{countOf};
+
+// Whether the lent rows have room for n chunks more.
+pub fn has_rows(chunks: &[u32], n: usize) -> bool
+    requires { ⌜ (24 ≤ length (now chunks)) × (n ≤ 3) ⌝ }
+    ensures { λ r. ⌜ (r ≡ true → (countOf (now (chunks .entry)) + n) * 12 + 12 ≤ length (now (chunks .entry))) ⌝ }
+{
+    let count = chunks[0] as usize;
+    (count + n) * 12 + 12 <= chunks.len()
+}

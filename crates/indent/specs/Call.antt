@@ -23,7 +23,7 @@ use Rattle.model.specs.Lists.{nil-true}
 use Rattle.memory.specs.Layout.{magicStringOf}
 use Rattle.memory.specs.WellFormed.{Readable, WellFormed}
 use Rattle.memory.specs.Calls.{idle, Ran}
-use Rattle.memory.specs.Laws.{source-of}
+use Rattle.memory.specs.Laws.{source-of, desk-full}
 use Rattle.rebuild.specs.Rebuilt.{Finished}
 use Rattle.frame.specs.Loaded.{Loaded}
 use Rattle.frame.specs.Frame.{Scratch, loaded-readable, loaded-desk, ran-before, ran-same, ran-past-limits, ran-finished, refused-1, refused-3, not-refused, may-write-0}
@@ -47,7 +47,7 @@ module _ {source t p s t₀ p₀ s₀ t1 p1 s1 : List ℕ} (w : WellFormed sourc
   steps-ready =
       record {
         readable = loaded-readable w (f .scratch) d;
-        desk = subst (model.WellFormed full) (sym (loaded-desk w (f .scratch) d)) (w .desk);
+        desk = subst (model.WellFormed full) (sym (loaded-desk w (f .scratch) d)) (record { formed = w .desk .formed; limits = desk-full w });
         chunks = ap length (d .chunks) ∙ simp (length-append, length-drop) (omega (arith, w .sized .chunks, f .scratch .chunks));
         pieces = w .sized .pieces;
         store = w .sized .store;

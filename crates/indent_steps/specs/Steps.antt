@@ -8,7 +8,7 @@ use Prim.Native.Nat.{ℕ, _+_, _≤_, _<_}
 use native.Mathlib.Omega.{arith}
 use lib.Dec.{leb}
 use lib.ListN.{length, take}
-use lib.Seq.{take-at}
+use lib.Seq.{take-at, take-take}
 use borrow.Author.Tests.{leb-true}
 use Rattle.utf8.specs.Chars.{All, nil, cons, concat}
 use Rattle.table.specs.Order.{Entry, entryAt, entries}
@@ -41,8 +41,8 @@ pub record StepsReady (source t p s p1 s1 : List ℕ) : Type 0 where
   pub readable : Readable t p s
   pub desk : model.WellFormed full (magicStringOf source t p s)
   pub chunks : length t ≡ 6192
-  pub pieces : length p ≡ 4096
-  pub store : length s ≡ 32768
+  pub pieces : length p ≤ 4096
+  pub store : length s ≤ 32768
   pub behind : List ℕ
   pub after : List ℕ
   pub pieces-is : p1 ≡ p ++ behind
@@ -57,7 +57,7 @@ pub record IndentSteps (indentor exclude source t p s t2 p2 s2 : List ℕ) (r : 
   pub past : r ≡ 13 → within full (indent-by indentor exclude (magicStringOf source t p s) .desk) ≡ false
 
 -- ---- the loaded desk lies below row 2048 and byte 32,768
-module _ (p s y : List ℕ) (lp : length p ≡ 4096) (ls : length s ≡ 32768) where
+module _ (p s y : List ℕ) (lp : length p ≤ 4096) (ls : length s ≤ 32768) where
   run-low : (r : Place) → RunIn p s r → Below (p ++ y) 32768 2048 r
   unfolding RunIn
   run-low r h k g =
@@ -200,7 +200,7 @@ module _ (indentor exclude source t p s p1 s1 : List ℕ) (w : StepsReady source
 
         store-front : take (length s) s3 ≡ s
         store-front =
-            ap (λ (n : ℕ). take n s3) (w .store) ∙ bytes-kept .bytes ∙ ap (take 32768) (w .store-is) ∙ take-at s (w .after) 32768 (w .store)
+            sym (take-take (length s) 32768 s3 (w .store)) ∙ ap (take (length s)) (bytes-kept .bytes) ∙ take-take (length s) 32768 s1 (w .store) ∙ ap (take (length s)) (w .store-is) ∙ take-at s (w .after) (length s) refl
 
         pub rest-ready : RestReady indentor source p s t3 p3 s3 byte
         rest-ready =

@@ -21,7 +21,14 @@ pub fn insert_with(
 {
     let l = on_top::live(chunks, pieces, store);
     let z = table::get_row(chunks, 0);
-    if on_top::has_room(l, z.start + 1, text.len()) {
+    if on_top::has_room(
+        l,
+        z.start + 1,
+        text.len(),
+        chunks.len(),
+        pieces.len(),
+        store.len(),
+    ) {
         return insert_on_top::insert_on_top(source, chunks, pieces, store, text, q, left, front, l);
     }
     insert_scratch::insert_scratch(source, chunks, pieces, store, text, q, left, front)
@@ -42,7 +49,7 @@ pub fn whole_with(
         (now (chunks .exit)) (now (pieces .exit)) (now (store .exit)) r ⌝ }
 {
     let l = on_top::live(chunks, pieces, store);
-    if on_top::has_room(l, 0, text.len()) {
+    if on_top::has_room(l, 0, text.len(), chunks.len(), pieces.len(), store.len()) {
         insert_on_top::add_on_top(chunks, pieces, store, text, 0, outro, front, l.row, l.byte);
         return 0;
     }

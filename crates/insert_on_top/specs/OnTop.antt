@@ -2,7 +2,7 @@
 use mathlib.Core.Path.{_≡_, refl, sym, ap, _∙_, subst}
 use mathlib.Core.Bool.{Bool, true, false}
 use mathlib.Core.List.{List, [], _∷_, _++_, map, map-append}
-use Prim.Native.Nat.{ℕ, suc, _+_, _*_, _-_, _≤_, _<_}
+use Prim.Native.Nat.{ℕ, suc, _+_, _*_, _/_, _-_, _≤_, _<_}
 use native.Mathlib.Omega.{arith}
 use native.Mathlib.Numerals.{add-one}
 use lib.ListN.{length, take, drop, take-append-drop}
@@ -210,18 +210,18 @@ module _ (outro front : Bool) (text : List ℕ) (row byte : ℕ) (P S t t' P' S'
 pub record TopReady (t P S text : List ℕ) (l : Used) : Type 0 where
   pub readable : Readable t (take (l .row * 2) P) (take (l .byte) S)
   pub pieces : piece-count (magicStringOf [] t (take (l .row * 2) P) (take (l .byte) S)) ≤ l .pieces
-  pub rows : l .row + l .pieces < 2048
-  pub bytes : l .byte + length text ≤ 32768
-  pub lent-pieces : length P ≡ 4096
-  pub lent-store : length S ≡ 32768
+  pub rows : l .row + l .pieces < length P / 2
+  pub bytes : l .byte + length text ≤ length S
+  pub lent-pieces : length P ≤ 4096
+  pub lent-store : length S ≤ 32768
 
 room-of : (t P S text : List ℕ) (l : Used) (x : Place) → TopReady t P S text l → RunIn (take (l .row * 2) P) (take (l .byte) S) x → x .1 ≤ l .pieces → TopRoom x text P S (l .row) (l .byte)
 room-of t P S text l x k h f =
-    let lp = length-take-le (l .row * 2) P (omega (arith, k .rows, k .lent-pieces)) in
+    let lp = length-take-le (l .row * 2) P (omega (arith, k .rows)) in
     record {
       under = λ g. let q = run-piece (take (l .row * 2) P) (take (l .byte) S) (x .0) (x .1) (x .1 - 1) h (omega arith) .row in omega arith;
-      rows-in = omega (arith, k .rows, k .lent-pieces);
-      bytes-in = omega (arith, k .bytes, k .lent-store);
+      rows-in = omega (arith, k .rows);
+      bytes-in = omega (arith, k .bytes);
       narrow = omega (arith, k .lent-store);
     }
 

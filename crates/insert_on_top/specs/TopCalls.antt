@@ -3,25 +3,24 @@ use mathlib.Core.Path.{_≡_, refl, sym, ap, _∙_, subst}
 use mathlib.Core.Bool.{Bool, true, false, not, cond}
 use mathlib.Core.List.{List, [], _∷_}
 use mathlib.Core.Option.{Option, none, some}
-use Prim.Native.Nat.{ℕ, suc, _+_, _*_, _≤_}
+use Prim.Native.Nat.{ℕ, suc, _+_, _-_, _*_, _/_, _≤_}
 use native.Mathlib.Omega.{arith}
-use lib.Dec.{leb, eqb}
+use lib.Dec.{eqb}
 use lib.ListN.{length, take}
-use borrow.Author.Tests.{le-leb}
 use Rattle.table.specs.Ring.{Each}
 use Rattle.table.specs.Order.{entryAt, order, countOf}
 use Rattle.model.specs.Text.{Text, sum}
 use Rattle.model.specs.Chunk.{Chunk, Texts, with-texts, start-of, end-of}
 use Rattle.model.specs.MagicString.{MagicString, Result, ok, err, and-then, with-chunks, with-intro, with-outro, by-start, by-end, at-start, at-end}
-use Rattle.model.specs.Limits.{full, within, chunk-pieces, chunk-bytes, byte-count, piece-count}
+use Rattle.model.specs.Limits.{within, chunk-pieces, chunk-bytes, byte-count, piece-count}
 use Rattle.memory.specs.Layout.{magicStringOf}
-use Rattle.memory.specs.WellFormed.{Readable, WellFormed}
+use Rattle.memory.specs.WellFormed.{limitsOf, Lengths, Readable, WellFormed}
 use Rattle.memory.specs.Calls.{may-write}
-use Rattle.memory.specs.Laws.{chunk-count}
+use Rattle.memory.specs.Laws.{chunk-count, source-of, keeps-within}
 use Rattle.texts.specs.Carry.{withText}
 use Rattle.rows.specs.Find.{meets, First}
 use Rattle.uses.specs.Kept.{Kept, kept-same, kept-apart, kept-within, fewer-pieces, fewer-bytes}
-use Rattle.frame.specs.Frame.{Did, few-chunks, may-write-0, may-write-6}
+use Rattle.frame.specs.Frame.{Did, may-write-0, may-write-6}
 use Rattle.in_place.specs.InPlace.{ran-in-place, ran-rows}
 use Rattle.split.specs.Cuts.{CutsDone, formed-spans, stop}
 use Rattle.on_top.specs.declared.Used.{Used}
@@ -112,29 +111,24 @@ step-more false front q t m = go (by-start q (m .chunks))
     go none = whole-more true front t m
     go (some c) = here
 
-pub no-source : (t p s : List ℕ) → leb (length (magicStringOf [] t p s .source)) 16384 ≡ true
-unfolding magicStringOf
-no-source t p s = refl
-
--- what the desk has, one piece more, and the limits
-within-more : (text t p s t' p' s' : List ℕ) (l : Used) (n : ℕ) → piece-count (magicStringOf [] t p s) ≤ l .pieces → byte-count (magicStringOf [] t p s) ≤ l .bytes → countOf t ≤ 512
-    → Room l n (length text) → OneMore text (magicStringOf [] t p s) (magicStringOf [] t' p' s') → within full (magicStringOf [] t' p' s') ≡ true
-unfolding within
-within-more text t p s t' p' s' l n a b c rm o =
-    let m = magicStringOf [] t' p' s' in
-    rw (
-      no-source t' p' s',
-      le-leb (length (m .chunks)) 512 (omega (arith, o .chunks, chunk-count [] t p s)),
-      le-leb (piece-count m) 1024 (omega (arith, o .pieces, rm .pieces)),
-      le-leb (byte-count m) 32768 (omega (arith, o .bytes, rm .bytes)),
-    )
+-- what the desk has, one piece more, and the limits of tables of the lengths of T, P and S
+within-more : (T P S text t p s t' p' s' : List ℕ) (l : Used) (n : ℕ) → piece-count (magicStringOf [] t p s) ≤ l .pieces → byte-count (magicStringOf [] t p s) ≤ l .bytes → countOf t ≤ length T / 12 - 1
+    → Room (length T) (length P) (length S) l n (length text) → OneMore text (magicStringOf [] t p s) (magicStringOf [] t' p' s') → within (limitsOf T P S) (magicStringOf [] t' p' s') ≡ true
+within-more T P S text t p s t' p' s' l n a b c rm o =
+    keeps-within
+    (record {
+      source = rw (source-of [] t' p' s') (omega arith);
+      chunks = omega (arith, o .chunks, chunk-count [] t p s);
+      pieces = omega (arith, o .pieces, rm .pieces);
+      bytes = omega (arith, o .bytes, rm .bytes);
+    })
 
 -- the limits do not ask which source it is
-pub bare-within : {source t P S : List ℕ} → WellFormed source t P S → within full (magicStringOf [] t P S) ≡ true
-bare-within {source} {t} {P} {S} w = kept-within (kept-same t) source P S (w .desk .limits) (few-chunks source t P S (w .desk .limits))
+pub bare-within : {source t P S : List ℕ} → WellFormed source t P S → within (limitsOf t P S) (magicStringOf [] t P S) ≡ true
+bare-within {source} {t} {P} {S} w = kept-within (kept-same t) (limitsOf t P S) source P S (w .desk .limits) (omega (arith, w .readable .linked .room))
 
 -- ── ready for the piece, before the cut or behind it ──
-module _ {source t P S t1 : List ℕ} {l : Used} {n : ℕ} (text : List ℕ) (w : WellFormed source t P S) (lv : LiveOf t P S l) (rm : Room l n (length text))
+module _ {source t P S t1 : List ℕ} {l : Used} {n : ℕ} (text : List ℕ) (w : WellFormed source t P S) (lv : LiveOf t P S l) (rm : Room (length t) (length P) (length S) l n (length text))
     (h : Readable t1 (take (l .row * 2) P) (take (l .byte) S)) (k : Kept t t1) where
   pieces-after : piece-count (magicStringOf [] t1 (take (l .row * 2) P) (take (l .byte) S)) ≤ l .pieces
   pieces-after = omega (arith, ap piece-count (read-below t1 P S (l .row) (l .byte) h []), fewer-pieces k P S, lv .pieces)
@@ -153,8 +147,8 @@ module _ {source t P S t1 : List ℕ} {l : Used} {n : ℕ} (text : List ℕ) (w 
         lent-store = w .sized .store;
       }
 
-  within-after : countOf t1 ≤ 512 → (t' P' S' : List ℕ) → OneMore text (magicStringOf [] t1 (take (l .row * 2) P) (take (l .byte) S)) (magicStringOf [] t' P' S') → within full (magicStringOf [] t' P' S') ≡ true
-  within-after c t' P' S' o = within-more text t1 (take (l .row * 2) P) (take (l .byte) S) t' P' S' l n pieces-after bytes-after c rm o
+  within-after : countOf t1 ≤ length t / 12 - 1 → (t' P' S' : List ℕ) → OneMore text (magicStringOf [] t1 (take (l .row * 2) P) (take (l .byte) S)) (magicStringOf [] t' P' S') → within (limitsOf t P S) (magicStringOf [] t' P' S') ≡ true
+  within-after c t' P' S' o = within-more t P S text t1 (take (l .row * 2) P) (take (l .byte) S) t' P' S' l n pieces-after bytes-after c rm o
 
 -- ── the piece behind the cut ──
 pub record InsertedTop (left front : Bool) (q : ℕ) (text : List ℕ) (row byte : ℕ) (t P S t' P' S' : List ℕ) : Type 0 where
@@ -163,10 +157,10 @@ pub record InsertedTop (left front : Bool) (q : ℕ) (text : List ℕ) (row byte
 
 module _ (left front : Bool) (q : ℕ) (text P S t t' P' S' : List ℕ) (l : Used) (k : TopReady t P S text l) (len : length t' ≡ length t) where
   rows-in : l .row * 2 ≤ length P
-  rows-in = omega (arith, k .rows, k .lent-pieces)
+  rows-in = omega (arith, k .rows)
 
   bytes-in : l .byte ≤ length S
-  bytes-in = omega (arith, k .bytes, k .lent-store)
+  bytes-in = omega (arith, k .bytes)
 
   pub top-found : (i : ℕ) → First (meets (key-of left) q) t i → AddedOnTop left front text (l .row) (l .byte) P S t t' P' S' i → InsertedTop left front q text (l .row) (l .byte) t P S t' P' S'
   top-found i w a =
@@ -184,12 +178,12 @@ module _ (left front : Bool) (q : ℕ) (text P S t t' P' S' : List ℕ) (l : Use
       }
 
 -- ── the call, for any of the four ──
-module _ (left front : Bool) (q : ℕ) (text : List ℕ) {source t P S t1 : List ℕ} {l : Used} {r : ℕ} (w : WellFormed source t P S) (lv : LiveOf t P S l) (rm : Room l (countOf t + 1) (length text))
+module _ (left front : Bool) (q : ℕ) (text : List ℕ) {source t P S t1 : List ℕ} {l : Used} {r : ℕ} (w : WellFormed source t P S) (lv : LiveOf t P S l) (rm : Room (length t) (length P) (length S) l (countOf t + 1) (length text))
     (c : CutsDone (q ∷ []) t t1 r) where
   pub top-ready : TopReady t1 P S text l
   top-ready = ready-after text w lv rm (c .readable (take (l .row * 2) P) (take (l .byte) S) (lv .readable)) (c .kept)
 
-  few : countOf t1 ≤ 512
+  few : countOf t1 ≤ length t / 12 - 1
   few = omega (arith, c .count, rm .chunks)
 
   pub top-refused : length t1 ≡ length t → (r ≡ 0 → ⊥) → InsertRan left front q text source t P S t1 P S r
@@ -200,7 +194,7 @@ module _ (left front : Bool) (q : ℕ) (text : List ℕ) {source t P S t1 : List
         readable = k .readable;
         result = q' (magicStringOf source t P S) ∙ k .result (insert-step left front q text) ∙ stop r (magicStringOf source t1 P S) (insert-step left front q text) n;
       })
-      (subst (λ (x : ℕ). may-write e x ≡ true) (sym (six (c .number) n)) (may-write-6 e)) len (c .kept) few
+      (subst (λ (x : ℕ). may-write e x ≡ true) (sym (six (c .number) n)) (may-write-6 e)) len (c .kept)
 
   pub top-inserted : (t' P' S' : List ℕ) → r ≡ 0 → InsertedTop left front q text (l .row) (l .byte) t1 P S t' P' S' → length t1 ≡ length t → length t' ≡ length t1 → length P' ≡ length P → length S' ≡ length S
       → InsertRan left front q text source t P S t' P' S' 0
@@ -221,13 +215,13 @@ module _ (left front : Bool) (q : ℕ) (text : List ℕ) {source t P S t1 : List
             ∙ g .result;
       })
       (may-write-0 e i)
-      (record { chunks = len ∙ len1 ∙ w .sized .chunks; pieces = lp ∙ w .sized .pieces; store = ls ∙ w .sized .store })
+      (record { chunks = len ∙ len1; pieces = lp; store = ls })
       (x .top .each (c .kept .each (w .each)))
       (x .top .apart (kept-apart (c .kept) P (w .disjoint)))
       (within-after text w lv rm (top-ready .readable) (c .kept) few t' P' S' (subst (OneMore text (magicStringOf [] t1 p s)) o (step-more left front q text (magicStringOf [] t1 p s))))
 
 -- ── head and tail ──
-module _ (outro front : Bool) {text source t P S : List ℕ} {l : Used} {n : ℕ} (w : WellFormed source t P S) (lv : LiveOf t P S l) (rm : Room l n (length text)) where
+module _ (outro front : Bool) {text source t P S : List ℕ} {l : Used} {n : ℕ} (w : WellFormed source t P S) (lv : LiveOf t P S l) (rm : Room (length t) (length P) (length S) l n (length text)) where
   pub whole-top-ready : TopReady t P S text l
   whole-top-ready = ready-after text w lv rm (lv .readable) (kept-same t)
 
@@ -248,8 +242,8 @@ module _ (outro front : Bool) {text source t P S : List ℕ} {l : Used} {n : ℕ
             ∙ did source .result;
       })
       (may-write-0 e i)
-      (record { chunks = len ∙ w .sized .chunks; pieces = lp ∙ w .sized .pieces; store = ls ∙ w .sized .store })
+      (record { chunks = len; pieces = lp; store = ls })
       (top .each (w .each))
       (top .apart (w .disjoint))
-      (within-after text w lv rm (lv .readable) (kept-same t) (few-chunks source t P S (w .desk .limits)) t' P' S'
+      (within-after text w lv rm (lv .readable) (kept-same t) (omega (arith, w .readable .linked .room)) t' P' S'
       (subst (OneMore text (magicStringOf [] t p s)) o (whole-more outro front text (magicStringOf [] t p s))))

@@ -26,7 +26,7 @@ pub fn add_on_top(
     byte: usize,
 )
     requires { ⌜ i * 12 + 12 ≤ length (now chunks) ⌝ }
-    requires { ⌜ length (now pieces) ≡ 4096 ⌝ }
+    requires { ⌜ length (now pieces) ≤ 4096 ⌝ }
     requires { ⌜ TopRoom (side outro (entryAt (now chunks) i)) (now text) (now pieces) (now store) row byte ⌝ }
     requires { ⌜ RunIn (take (row * 2) (now pieces)) (take byte (now store)) (side outro (entryAt (now chunks) i)) ⌝ }
     ensures { λ _. ⌜ AddedOnTop outro front (now (text .entry)) row byte (now (pieces .entry)) (now (store .entry)) (now (chunks .entry))
@@ -80,7 +80,7 @@ pub fn insert_on_top(
 ) -> u32
     requires { ⌜ WellFormed (now source) (now chunks) (now pieces) (now store) ⌝ }
     requires { ⌜ LiveOf (now chunks) (now pieces) (now store) l ⌝ }
-    requires { ⌜ Room l (countOf (now chunks) + 1) (length (now text)) ⌝ }
+    requires { ⌜ Room (length (now chunks)) (length (now pieces)) (length (now store)) l (countOf (now chunks) + 1) (length (now text)) ⌝ }
     ensures { λ r. ⌜ InsertRan left front q (now (text .entry)) (now (source .entry)) (now (chunks .entry)) (now (pieces .entry)) (now (store .entry))
         (now (chunks .exit)) (now (pieces .exit)) (now (store .exit)) r ⌝ }
 {

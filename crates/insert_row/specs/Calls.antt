@@ -19,6 +19,7 @@ use Rattle.model.specs.Call.{Edit, steps, refused-before}
 use Rattle.model.specs.Lists.{sum-append}
 use Rattle.memory.specs.Layout.{magicStringOf}
 use Rattle.memory.specs.WellFormed.{Readable, WellFormed}
+use Rattle.memory.specs.Laws.{desk-full}
 use Rattle.memory.specs.Calls.{idle, may-write, Ran}
 use Rattle.texts.specs.Carry.{withText}
 use Rattle.rebuild.specs.Rebuilt.{Finished}
@@ -181,4 +182,4 @@ module _ (outro front : Bool) (text : List ℕ) {source t p s : List ℕ} (w : W
 
 -- what the loaded rows and the lent tables give the piece
 pub loaded-small : {source t p s t₀ p₀ s₀ t1 p1 s1 : List ℕ} → WellFormed source t p s → LongScratch t₀ p₀ s₀ → Loaded t p s t₀ p₀ s₀ t1 p1 s1 → DeskSmall t1 p s
-loaded-small {source} {p = p} {s = s} {t1 = t1} w f d = desk-small source t1 p s (ap (within full) (loaded-desk w (f .scratch) d) ∙ w .desk .limits)
+loaded-small {source} {p = p} {s = s} {t1 = t1} w f d = desk-small source t1 p s (ap (within full) (loaded-desk w (f .scratch) d) ∙ desk-full w)

@@ -2,7 +2,7 @@
 use mathlib.Core.Path.{_≡_, refl, sym, ap, _∙_, subst}
 use mathlib.Core.Bool.{Bool, true, false, cond}
 use mathlib.Core.List.{List, [], _∷_, _++_, append-assoc, append-nil}
-use Prim.Native.Nat.{ℕ, zero, suc, _+_, _*_, _≤_, _<_}
+use Prim.Native.Nat.{ℕ, zero, suc, _+_, _*_, _-_, _≤_, _<_}
 use native.Mathlib.Omega.{arith}
 use native.Mathlib.Nat.{add-zero}
 use lib.ListN.{length, take, drop, length-append, length-drop}
@@ -15,7 +15,7 @@ use Rattle.table.specs.Order.{Entry, entryOf, entryAt}
 use Rattle.model.specs.Text.{Text}
 use Rattle.memory.specs.Layout.{Place, runOf}
 use Rattle.memory.specs.WellFormed.{RunIn, WellFormed, RunsIn}
-use Rattle.texts.specs.Over.{over, over-behind}
+use Rattle.texts.specs.Over.{over}
 use Rattle.texts.specs.Texts.{concat-one, run-length}
 use Rattle.texts.specs.Carry.{Carried, RoomOf, withText, carried-run, carried-in, rowsFor}
 use Rattle.frame.specs.Loaded.{Loaded}
@@ -47,16 +47,28 @@ with-side outro x r =
       spare1 = r .spare1;
     }
 
+-- a list written over what stands behind d, not before its end
+over-cons : (x : ℕ) (d xs : List ℕ) (n : ℕ) → over (x ∷ d) (suc n) xs ≡ x ∷ over d n xs
+unfolding over
+over-cons x d xs n = let e : suc n + length xs ≡ suc (n + length xs) = omega arith in rw e
+
+over-past : (d y xs : List ℕ) (n : ℕ) → length d ≤ n → over (d ++ y) n xs ≡ d ++ over y (n - length d) xs
+over-past [] y xs n h = let e : n - 0 ≡ n = omega arith in rw e
+over-past (x ∷ d) y xs zero h = absurd (omega arith)
+over-past (x ∷ d) y xs (suc n) h =
+    let e : suc n - suc (length d) ≡ n - length d = omega arith in
+    over-cons x (d ++ y) xs n ∙ ap (λ (l : List ℕ). x ∷ l) (over-past d y xs n (omega arith)) ∙ rw e
+
 -- the lent pieces and store stand at the front of the scratch ones, with room behind for any run and a text more
 pub record Spare (p s p1 s1 : List ℕ) : Type 0 where
   pub behind : List ℕ
   pub after : List ℕ
   pub pieces : p1 ≡ p ++ behind
   pub store : s1 ≡ s ++ after
-  pub lent-pieces : length p ≡ 4096
-  pub lent-store : length s ≡ 32768
-  pub rows-room : 2050 ≤ length behind
-  pub bytes-room : 65536 ≤ length after
+  pub lent-pieces : length p ≤ 4096
+  pub lent-store : length s ≤ 32768
+  pub rows-room : 6146 ≤ length p1
+  pub bytes-room : 98304 ≤ length s1
   pub rows-narrow : length p1 < 4294967296
   pub narrow : length s1 < 4294967296
 
@@ -89,11 +101,9 @@ pub spare-room : {p s p1 s1 : List ℕ} (front : Bool) (text : List ℕ) (x : Pl
 spare-room {p} {s} {p1} {s1} front text x h k l =
     let a = with-length front text (runOf p s x) in
     let b = with-bytes front text (runOf p s x) in
-    let lp : length p1 ≡ length p + length (h .behind) = ap length (h .pieces) ∙ length-append p (h .behind) in
-    let ls : length s1 ≡ length s + length (h .after) = ap length (h .store) ∙ length-append s (h .after) in
     record {
-      rows-in = omega (arith, h .lent-pieces, h .rows-room, k .pieces);
-      bytes-in = omega (arith, h .lent-store, h .bytes-room, k .bytes);
+      rows-in = omega (arith, h .rows-room, k .pieces);
+      bytes-in = omega (arith, h .bytes-room, k .bytes);
       rows-narrow = h .rows-narrow;
       narrow = h .narrow;
     }
@@ -114,10 +124,10 @@ module _ {p s p1 s1 : List ℕ} (front : Bool) (text : List ℕ) (x : Place) {p'
       let c' = subst (λ (l : List Text). Carried l p1 s1 32768 2048 p' s' byte' row') alone c in
       let r' = subst (λ (l : List Text). RoomOf l p1 s1 32768 2048) alone room in
       record {
-        behind = rowsFor 32768 ts ++ drop (length (rowsFor 32768 ts)) (h .behind);
-        after = concat ts ++ drop (length (concat ts)) (h .after);
-        pieces = c .pieces-is ∙ ap (λ (l : List ℕ). over l (2048 * 2) (rowsFor 32768 ts)) (h .pieces) ∙ over-behind p (h .behind) (rowsFor 32768 ts) (2048 * 2) (sym (h .lent-pieces));
-        store = c .store-is ∙ ap (λ (l : List ℕ). over l 32768 (concat ts)) (h .store) ∙ over-behind s (h .after) (concat ts) 32768 (sym (h .lent-store));
+        behind = over (h .behind) (2048 * 2 - length p) (rowsFor 32768 ts);
+        after = over (h .after) (32768 - length s) (concat ts);
+        pieces = c .pieces-is ∙ ap (λ (l : List ℕ). over l (2048 * 2) (rowsFor 32768 ts)) (h .pieces) ∙ over-past p (h .behind) (rowsFor 32768 ts) (2048 * 2) (h .lent-pieces);
+        store = c .store-is ∙ ap (λ (l : List ℕ). over l 32768 (concat ts)) (h .store) ∙ over-past s (h .after) (concat ts) 32768 (h .lent-store);
         texts = ap (λ (n : ℕ). runOf p' s' (2048, n)) (sym size) ∙ carried-run [] ts [] c' r';
         run-in = subst (λ (n : ℕ). RunIn p' s' (2048, n)) size (carried-in [] ts [] c' r');
       }
@@ -129,11 +139,9 @@ pub record LongScratch (t p s : List ℕ) : Type 0 where
   pub store : length s ≡ 98304
 
 pub loaded-spare : {source t p s t₀ p₀ s₀ t1 p1 s1 : List ℕ} → WellFormed source t p s → LongScratch t₀ p₀ s₀ → Loaded t p s t₀ p₀ s₀ t1 p1 s1 → Spare p s p1 s1
-loaded-spare {p = p} {s = s} {p₀ = p₀} {s₀ = s₀} w f d =
-    let a : length (drop (length p) p₀) ≡ 2050 = simp length-drop (omega (arith, w .sized .pieces, f .pieces)) in
-    let b : length (drop (length s) s₀) ≡ 65536 = simp length-drop (omega (arith, w .sized .store, f .store)) in
-    let lp = ap length (d .pieces) ∙ length-append p (drop (length p) p₀) in
-    let ls = ap length (d .store) ∙ length-append s (drop (length s) s₀) in
+loaded-spare {p = p} {s = s} {p₀ = p₀} {s₀ = s₀} {p1 = p1} {s1 = s1} w f d =
+    let lp : length p1 ≡ 6146 = ap length (d .pieces) ∙ simp (length-append, length-drop) (omega (arith, w .sized .pieces, f .pieces)) in
+    let ls : length s1 ≡ 98304 = ap length (d .store) ∙ simp (length-append, length-drop) (omega (arith, w .sized .store, f .store)) in
     record {
       behind = drop (length p) p₀;
       after = drop (length s) s₀;
@@ -143,8 +151,8 @@ loaded-spare {p = p} {s = s} {p₀ = p₀} {s₀ = s₀} w f d =
       lent-store = w .sized .store;
       rows-room = omega arith;
       bytes-room = omega arith;
-      rows-narrow = omega (arith, w .sized .pieces);
-      narrow = omega (arith, w .sized .store);
+      rows-narrow = omega arith;
+      narrow = omega arith;
     }
 
 -- the row read, its run copied, and the row written

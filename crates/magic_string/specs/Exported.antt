@@ -9,7 +9,7 @@ use Rattle.model.specs.MagicString.{MagicString}
 use Rattle.model.specs.Call.{Edit, Report, show}
 use Rattle.counts.specs.Counts.{Decides}
 use Rattle.memory.specs.Layout.{magicStringOf}
-use Rattle.memory.specs.WellFormed.{WellFormed}
+use Rattle.memory.specs.WellFormed.{Taken}
 use Rattle.memory.specs.Calls.{Same, Ran, Edited, Told, Reported}
 
 -- an option: any number but 0 is yes
@@ -18,25 +18,25 @@ flag n = not (eqb n 0)
 
 -- the check as a call: 0 exactly if the memory holds a well-formed desk, else 2
 pub record Checked (source t p s : List ℕ) (number : ℕ) : Type 0 where
-  pub well-formed : WellFormed source t p s → number ≡ 0
-  pub not-well-formed : (WellFormed source t p s → ⊥) → number ≡ 2
+  pub well-formed : Taken source t p s → number ≡ 0
+  pub not-well-formed : (Taken source t p s → ⊥) → number ≡ 2
 
 module _ {source t p s : List ℕ} where
-  pub checked-yes : WellFormed source t p s → Checked source t p s 0
+  pub checked-yes : Taken source t p s → Checked source t p s 0
   checked-yes w = record { well-formed = λ _. refl; not-well-formed = λ n. absurd (n w) }
 
-  pub checked-no : (WellFormed source t p s → ⊥) → Checked source t p s 2
+  pub checked-no : (Taken source t p s → ⊥) → Checked source t p s 2
   checked-no n = record { well-formed = λ w. absurd (n w); not-well-formed = λ _. refl }
 
-  pub edited-yes : {e : Edit} {t′ p′ s′ : List ℕ} {number : ℕ} → WellFormed source t p s → Ran e source t p s t′ p′ s′ number → Edited e source t p s t′ p′ s′ number
+  pub edited-yes : {e : Edit} {t′ p′ s′ : List ℕ} {number : ℕ} → Taken source t p s → Ran e source t p s t′ p′ s′ number → Edited e source t p s t′ p′ s′ number
   edited-yes w r = record { not-well-formed = λ n. absurd (n w); well-formed = λ _. r }
 
-  pub edited-no : {e : Edit} → (WellFormed source t p s → ⊥) → Edited e source t p s t p s 2
+  pub edited-no : {e : Edit} → (Taken source t p s → ⊥) → Edited e source t p s t p s 2
   edited-no n = record { not-well-formed = λ _. (refl, record { chunks = refl; pieces = refl; store = refl }); well-formed = λ w. absurd (n w) }
 
-  pub reported-yes : {q : Report} {out out′ : List ℕ} {number value : ℕ} → WellFormed source t p s → Told q (magicStringOf source t p s) out out′ number value
+  pub reported-yes : {q : Report} {out out′ : List ℕ} {number value : ℕ} → Taken source t p s → Told q (magicStringOf source t p s) out out′ number value
       → Reported q source t p s out out′ number value
   reported-yes w r = record { not-well-formed = λ n. absurd (n w); well-formed = λ _. r }
 
-  pub reported-no : {q : Report} {out : List ℕ} → (WellFormed source t p s → ⊥) → Reported q source t p s out out 2 0
+  pub reported-no : {q : Report} {out : List ℕ} → (Taken source t p s → ⊥) → Reported q source t p s out out 2 0
   reported-no n = record { not-well-formed = λ _. (refl, refl, refl); well-formed = λ w. absurd (n w) }

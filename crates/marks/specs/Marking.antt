@@ -206,10 +206,10 @@ row-in words at n i h l = h i l
 pub total-more : (t : List ℕ) (k total x : ℕ) → total ≡ pieceTotal t k → x ≡ pieceCount (entryAt t (k + 1)) → total + x ≡ pieceTotal t (k + 1)
 total-more t k total x e f = omega (arith, ap (pieceTotal t) (add-one k))
 
-pub total-over : (t : List ℕ) (k n total : ℕ) → k ≤ n → total ≡ pieceTotal t k → 1024 < total → pieceTotal t n ≤ 1024 → ⊥
+pub total-over : (t : List ℕ) (k n total : ℕ) {limit : ℕ} → k ≤ n → total ≡ pieceTotal t k → limit < total → pieceTotal t n ≤ limit → ⊥
 total-over t k n total h e o x = omega (arith, sum-mono (λ j. pieceCount (entryAt t (j + 1))) k n h)
 
-pub total-kept : (t : List ℕ) (k n total : ℕ) → k ≡ n → total ≡ pieceTotal t k → total ≤ 1024 → pieceTotal t n ≤ 1024
+pub total-kept : (t : List ℕ) (k n total : ℕ) {limit : ℕ} → k ≡ n → total ≡ pieceTotal t k → total ≤ limit → pieceTotal t n ≤ limit
 total-kept t k n total e q h = omega (arith, ap (pieceTotal t) e)
 
 -- ── texts ──

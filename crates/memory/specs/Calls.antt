@@ -6,11 +6,10 @@ use mathlib.Core.List.{List, [], _∷_, _++_}
 use lib.Dec.{eqb}
 use lib.ListN.{length, drop}
 use Rattle.model.specs.MagicString.{MagicString, Result, new}
-use Rattle.model.specs.Limits.{full}
 use Rattle.model.specs.Indent.{is-empty-indentor}
 use Rattle.model.specs.Call.{Edit, remove, update-with, reset, append-left, append-right, prepend-left, prepend-right, append, prepend, relocate, trim, trim-start, trim-end, trim-lines, indent-with, Report, Shown, may-change, run, show, opened}
 use Rattle.memory.specs.Layout.{magicStringOf}
-use Rattle.memory.specs.WellFormed.{Sized, WellFormed}
+use Rattle.memory.specs.WellFormed.{limitsOf, Full, Lengths, WellFormed, Taken}
 
 -- every byte of the lent tables is as it was
 pub record Same (t p s t′ p′ s′ : List ℕ) : Type 0 where
@@ -43,15 +42,16 @@ may-write e n = may-change e n && not (eqb n 0 && idle e)
 -- A call that changes a well-formed desk: its number and the desk after are the model's. Numbering, places in the store and unused bytes are the program's choice;
 -- every choice is a well-formed desk that reads as the model's
 pub record Ran (e : Edit) (source t p s t′ p′ s′ : List ℕ) (number : ℕ) : Type 0 where
-  pub number-is : number ≡ run full e (magicStringOf source t p s) .number
-  pub desk-is : magicStringOf source t′ p′ s′ ≡ run full e (magicStringOf source t p s) .desk
+  pub number-is : number ≡ run (limitsOf t p s) e (magicStringOf source t p s) .number
+  pub desk-is : magicStringOf source t′ p′ s′ ≡ run (limitsOf t p s) e (magicStringOf source t p s) .desk
   pub well-formed : WellFormed source t′ p′ s′
+  pub lengths : Lengths t p s t′ p′ s′
   pub same : may-write e number ≡ false → Same t p s t′ p′ s′
 
 -- the same on any memory: 2 and nothing written where it holds no well-formed desk
 pub record Edited (e : Edit) (source t p s t′ p′ s′ : List ℕ) (number : ℕ) : Type 0 where
-  pub not-well-formed : (WellFormed source t p s → ⊥) → (number ≡ 2) × Same t p s t′ p′ s′
-  pub well-formed : WellFormed source t p s → Ran e source t p s t′ p′ s′ number
+  pub not-well-formed : (Taken source t p s → ⊥) → (number ≡ 2) × Same t p s t′ p′ s′
+  pub well-formed : Taken source t p s → Ran e source t p s t′ p′ s′ number
 
 -- A report on a desk: the number, the value, and the buffer `out` after the call, `out′`, with the model's bytes at its front. Where a call takes no buffer both are empty
 pub record Told (q : Report) (m : MagicString) (out out′ : List ℕ) (number value : ℕ) : Type 0 where
@@ -61,13 +61,13 @@ pub record Told (q : Report) (m : MagicString) (out out′ : List ℕ) (number v
 
 -- the same on any memory
 pub record Reported (q : Report) (source t p s out out′ : List ℕ) (number value : ℕ) : Type 0 where
-  pub not-well-formed : (WellFormed source t p s → ⊥) → (number ≡ 2) × (value ≡ 0) × (out′ ≡ out)
-  pub well-formed : WellFormed source t p s → Told q (magicStringOf source t p s) out out′ number value
+  pub not-well-formed : (Taken source t p s → ⊥) → (number ≡ 2) × (value ≡ 0) × (out′ ≡ out)
+  pub well-formed : Taken source t p s → Told q (magicStringOf source t p s) out out′ number value
 
 -- Opening, over any earlier content: 2 for tables of other lengths, then what `opened` says. A refusal writes nothing
 pub record Opened (source t p s t′ p′ s′ : List ℕ) (number : ℕ) : Type 0 where
-  pub not-sized : (Sized t p s → ⊥) → number ≡ 2
-  pub number-is : Sized t p s → number ≡ opened full source (new []) .number
+  pub not-sized : (Full t p s → ⊥) → number ≡ 2
+  pub number-is : Full t p s → number ≡ opened (limitsOf t p s) source (new []) .number
   pub desk-is : number ≡ 0 → magicStringOf source t′ p′ s′ ≡ new source
   pub well-formed : number ≡ 0 → WellFormed source t′ p′ s′
   pub refused : (number ≡ 0 → ⊥) → Same t p s t′ p′ s′

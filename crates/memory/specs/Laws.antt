@@ -1,9 +1,9 @@
 -- Laws of the desk that memory holds which many crates cite. They define nothing and assume nothing.
-use Prim.Native.Nat.{ℕ, zero, suc, _+_, _*_, _^_, _≤_, _<_}
+use Prim.Native.Nat.{ℕ, zero, suc, _+_, _-_, _*_, _/_, _^_, _≤_, _<_}
 use native.Mathlib.Omega.{arith}
 use native.Mathlib.Decide.{ℕ-discrete, decLe, decLt}
 use mathlib.Core.Path.{_≡_, refl, sym, ap, ap₂, _∙_}
-use mathlib.Core.Bool.{true, not}
+use mathlib.Core.Bool.{true, false, not}
 use mathlib.Core.List.{List, [], _∷_, _++_, map}
 use mathlib.Core.Option.{none, some}
 use lib.Dec.{leb, eqb}
@@ -17,10 +17,10 @@ use Rattle.table.specs.Order.{entries, countOf, count-entries}
 use Rattle.model.specs.Text.{Text}
 use Rattle.model.specs.Chunk.{Chunk, is-some}
 use Rattle.model.specs.MagicString.{MagicString}
-use Rattle.model.specs.Limits.{within}
-use Rattle.model.specs.Lists.{and-left, first-of, all-snoc, bool-elim}
+use Rattle.model.specs.Limits.{Limits, full, within, piece-count, byte-count}
+use Rattle.model.specs.Lists.{and-left, and-right, first-of, all-snoc, bool-elim, no-tf}
 use Rattle.memory.specs.Layout.{NONE, Place, bytesAt, pieceAt, tabulate, runOf, replacementOf, chunkOf, magicStringOf}
-use Rattle.memory.specs.WellFormed.{RunIn, times, among, replacementUses, WellFormed}
+use Rattle.memory.specs.WellFormed.{limitsOf, Sized, Full, Lengths, RunIn, times, among, replacementUses, WellFormed}
 use Rattle.memory.specs.Calls.{Same}
 
 -- ── lists f 0, f 1, .. ──
@@ -72,6 +72,95 @@ some-text s r n = rw (ne-eqb (r .0) NONE n)
 pub edited-is : (s : List ℕ) (r : Place) → is-some (replacementOf s r) ≡ not (eqb (r .0) NONE)
 unfolding replacementOf
 edited-is s r = bool-elim (eqb (r .0) NONE) (λ e. rw e) (λ e. rw e)
+
+-- ── sizes and limits ──
+-- on tables of the full sizes the limits are document 01's
+pub limits-full : {t p s : List ℕ} → Full t p s → limitsOf t p s ≡ full
+limits-full z = rw (z .chunks, z .pieces, z .store)
+
+pub full-sized : {t p s : List ℕ} → Full t p s → Sized t p s
+full-sized z =
+    record {
+      whole-chunks = rw (z .chunks);
+      whole-pieces = rw (z .pieces);
+      some = omega (arith, z .chunks);
+      chunks = omega (arith, z .chunks);
+      pieces = omega (arith, z .pieces);
+      store = omega (arith, z .store);
+    }
+
+pub full-as : {t p s t′ p′ s′ : List ℕ} → Lengths t p s t′ p′ s′ → Full t p s → Full t′ p′ s′
+full-as l z = record { chunks = l .chunks ∙ z .chunks; pieces = l .pieces ∙ z .pieces; store = l .store ∙ z .store }
+
+pub same-lengths : (t p s : List ℕ) → Lengths t p s t p s
+same-lengths t p s = record { chunks = refl; pieces = refl; store = refl }
+
+-- tables as long have the same limits, and are sized where the others are
+pub limits-as : {t p s t′ p′ s′ : List ℕ} → Lengths t p s t′ p′ s′ → limitsOf t′ p′ s′ ≡ limitsOf t p s
+limits-as l = rw (l .chunks, l .pieces, l .store)
+
+pub sized-as : {t p s t′ p′ s′ : List ℕ} → Lengths t p s t′ p′ s′ → Sized t p s → Sized t′ p′ s′
+sized-as l z =
+    record {
+      whole-chunks = rw (l .chunks) (z .whole-chunks);
+      whole-pieces = rw (l .pieces) (z .whole-pieces);
+      some = rw (l .chunks) (z .some);
+      chunks = rw (l .chunks) (z .chunks);
+      pieces = rw (l .pieces) (z .pieces);
+      store = rw (l .store) (z .store);
+    }
+
+-- what `within` counts, as numbers
+pub record Keeps (k : Limits) (m : MagicString) : Type 0 where
+  pub source : length (m .source) ≤ k .source
+  pub chunks : length (m .chunks) ≤ k .chunks
+  pub pieces : piece-count m ≤ k .pieces
+  pub bytes : byte-count m ≤ k .bytes
+
+pub keeps-within : {k : Limits} {m : MagicString} → Keeps k m → within k m ≡ true
+unfolding within
+keeps-within {k} {m} h =
+    rw (
+      le-leb (length (m .source)) (k .source) (h .source),
+      le-leb (length (m .chunks)) (k .chunks) (h .chunks),
+      le-leb (piece-count m) (k .pieces) (h .pieces),
+      le-leb (byte-count m) (k .bytes) (h .bytes),
+    )
+
+pub within-keeps : (k : Limits) (m : MagicString) → within k m ≡ true → Keeps k m
+unfolding within
+within-keeps k m e =
+    let r = and-right (leb (length (m .source)) (k .source)) _ e in
+    let r2 = and-right (leb (length (m .chunks)) (k .chunks)) _ r in
+    record {
+      source = leb-true (length (m .source)) (k .source) (and-left _ _ e);
+      chunks = leb-true (length (m .chunks)) (k .chunks) (and-left _ _ r);
+      pieces = leb-true (piece-count m) (k .pieces) (and-left _ _ r2);
+      bytes = leb-true (byte-count m) (k .bytes) (and-right (leb (piece-count m) (k .pieces)) _ r2);
+    }
+
+-- no limit is above document 01's: what keeps these keeps those, and what breaks those breaks these
+module _ {t p s : List ℕ} (z : Sized t p s) (m : MagicString) where
+  pub within-full : within (limitsOf t p s) m ≡ true → within full m ≡ true
+  within-full e =
+      let k = within-keeps (limitsOf t p s) m e in
+      keeps-within
+      (record {
+        source = k .source;
+        chunks = omega (arith, k .chunks, z .chunks);
+        pieces = omega (arith, k .pieces, z .pieces);
+        bytes = omega (arith, k .bytes, z .store);
+      })
+
+  pub past-full : within full m ≡ false → within (limitsOf t p s) m ≡ false
+  past-full e = bool-elim (within (limitsOf t p s) m) (λ k. no-tf (sym (within-full k) ∙ e)) (λ k. k)
+
+pub desk-full : {source t p s : List ℕ} → WellFormed source t p s → within full (magicStringOf source t p s) ≡ true
+desk-full {source} {t} {p} {s} w = within-full (w .sized) (magicStringOf source t p s) (w .desk .limits)
+
+-- the limits of a desk in memory, as numbers
+pub keeps-desk : {source t p s : List ℕ} → WellFormed source t p s → Keeps (limitsOf t p s) (magicStringOf source t p s)
+keeps-desk {source} {t} {p} {s} w = within-keeps (limitsOf t p s) (magicStringOf source t p s) (w .desk .limits)
 
 -- ── the desk ──
 pub desk-same : (source : List ℕ) {h h' t t' : List Text} {c c' : List Chunk} → h ≡ h' → t ≡ t' → c ≡ c'

@@ -2,7 +2,7 @@
 -- characters and no empty span (but one span 0 to 0 for an empty source), one list, linked both ways, holds every chunk once, no piece stands in two lists or twice
 -- in one, every text lies inside the store, and no store byte belongs to two texts."
 -- A word that means nothing is not looked at: the first row of an empty piece list, `text_n` beside NONE, row 0's end and replacement, spare words, rows past the count.
-use Prim.Native.Nat.{ℕ, zero, suc, _+_, _*_, _≤_, _<_}
+use Prim.Native.Nat.{ℕ, zero, suc, _+_, _-_, _*_, _/_, _%_, _≤_, _<_}
 use mathlib.Core.Path.{_≡_}
 use mathlib.Core.Bool.{_&&_, cond}
 use mathlib.Core.List.{List, [], _∷_}
@@ -11,15 +11,37 @@ use lib.ListN.{length}
 use Rattle.utf8.specs.Chars.{All}
 use Rattle.table.specs.Order.{Entry, entryAt, entries, order, countOf, Linked}
 use Rattle.model.specs.Text.{sum}
-use Rattle.model.specs.Limits.{full}
+use Rattle.model.specs.Limits.{Limits}
 use Rattle.model.specs.WellFormed as model
 use Rattle.memory.specs.Layout.{NONE, Place, pieceAt, tabulate, magicStringOf}
 
--- tables of the layout's lengths: 513 chunk rows, 2,048 piece rows, 32,768 bytes
+-- the limits of a desk in tables of these lengths: a chunk for each row but the first, a piece for each two rows, a byte for each of the store
+abbrev pub limitsBy : ℕ → ℕ → ℕ → Limits
+limitsBy c p b = record { source = 16384; chunks = c; pieces = p; bytes = b }
+
+abbrev pub limitsOf : List ℕ → List ℕ → List ℕ → Limits
+limitsOf t p s = limitsBy (length t / 12 - 1) (length p / 4) (length s)
+
+-- whole rows, one chunk's at least, and nothing longer than 513 chunk rows, 2,048 piece rows and 32,768 bytes
 pub record Sized (t p s : List ℕ) : Type 0 where
+  pub whole-chunks : length t % 12 ≡ 0
+  pub whole-pieces : length p % 2 ≡ 0
+  pub some : 24 ≤ length t
+  pub chunks : length t ≤ 513 * 12
+  pub pieces : length p ≤ 2048 * 2
+  pub store : length s ≤ 32768
+
+-- the full sizes, which exported calls take: 513 chunk rows, 2,048 piece rows, 32,768 bytes
+pub record Full (t p s : List ℕ) : Type 0 where
   pub chunks : length t ≡ 513 * 12
   pub pieces : length p ≡ 2048 * 2
   pub store : length s ≡ 32768
+
+-- tables as long as others
+pub record Lengths (t p s t′ p′ s′ : List ℕ) : Type 0 where
+  pub chunks : length t′ ≡ length t
+  pub pieces : length p′ ≡ length p
+  pub store : length s′ ≡ length s
 
 -- ── "every text lies inside the store", and what names it inside the tables ──
 abbrev pub Inside : List ℕ → Place → Type 0
@@ -89,4 +111,9 @@ pub record WellFormed (source t p s : List ℕ) : Type 0 where
   pub readable : Readable t p s
   pub each : HoldsEach t
   pub disjoint : Disjoint t p
-  pub desk : model.WellFormed full (magicStringOf source t p s)
+  pub desk : model.WellFormed (limitsOf t p s) (magicStringOf source t p s)
+
+-- what an exported call takes
+pub record Taken (source t p s : List ℕ) : Type 0 where
+  pub full : Full t p s
+  pub well-formed : WellFormed source t p s

@@ -22,8 +22,7 @@ pub fn range_with(
     ensures { λ r. ⌜ RangeRan a b «text_at» (now (source .entry)) (now (chunks .entry)) (now (pieces .entry)) (now (store .entry))
         (now (chunks .exit)) (now (pieces .exit)) (now (store .exit)) r ⌝ }
 {
-    let z = table::get_row(chunks, 0);
-    if z.start <= 510 {
+    if in_place::has_rows(chunks, 2) {
         return clear_range::clear_range(chunks, a, b, text_at);
     }
     range_scratch::range_scratch(source, chunks, pieces, store, a, b, text_at)

@@ -102,8 +102,8 @@ module _ (text : List ℕ) (x : Place) (row byte : ℕ) (p s : List ℕ) (room :
       }
 
 -- ── room ──
-pub refuses : (l : Used) (n len : ℕ) → (Room l n len → ⊥) → (false ≡ true → Room l n len) × (false ≡ false → Room l n len → ⊥)
+pub refuses : {ct cp cs : ℕ} (l : Used) (n len : ℕ) → (Room ct cp cs l n len → ⊥) → (false ≡ true → Room ct cp cs l n len) × (false ≡ false → Room ct cp cs l n len → ⊥)
 refuses l n len h = (λ e. let z : _≡_ {A = ℕ} 0 1 = cc in absurd (omega arith), λ _. h)
 
-pub accepts : (l : Used) (n len : ℕ) → Room l n len → (true ≡ true → Room l n len) × (true ≡ false → Room l n len → ⊥)
+pub accepts : {ct cp cs : ℕ} (l : Used) (n len : ℕ) → Room ct cp cs l n len → (true ≡ true → Room ct cp cs l n len) × (true ≡ false → Room ct cp cs l n len → ⊥)
 accepts l n len h = (λ _. h, λ e. let z : _≡_ {A = ℕ} 0 1 = cc in absurd (omega arith))

@@ -11,15 +11,16 @@ use Rattle.utf8.specs.Chars.{All, nil, cons}
 use Rattle.table.specs.Order.{Entry, entryAt, nextOf, countOf}
 use Rattle.model.specs.Text.{sum}
 use Rattle.model.specs.Lists.{first-of, rest-of, all-snoc}
-use Rattle.model.specs.Limits.{full, within, chunk-pieces, piece-count, byte-count, replacement-bytes}
+use Rattle.model.specs.Limits.{within, chunk-pieces, piece-count, byte-count, replacement-bytes}
 use Rattle.memory.specs.Layout.{NONE, Place, bytesAt, pieceAt, runOf, replacementOf, chunkOf, magicStringOf}
-use Rattle.memory.specs.WellFormed.{RunIn, ReplacementIn, EntryIn, Readable}
+use Rattle.memory.specs.WellFormed.{limitsOf, Sized, RunIn, ReplacementIn, EntryIn, Readable}
+use Rattle.memory.specs.Laws.{within-keeps}
 use Rattle.texts.specs.Texts.{run-piece}
 use Rattle.texts.specs.Carry.{Below}
 use Rattle.rebuild.specs.Lay.{own, EntryBelow}
 use Rattle.frame.proofs.Counting.{CountAt, count-start, count-more, all-done, pieces-all, bytes-all, firstBytes, bytes-none, bytes-more, capped-more, pieces-of, text-bytes, no-bytes, two-counts, three-counts}
 use Rattle.on_top.specs.declared.Used.{Used}
-use Rattle.on_top.specs.Live.{LiveIn, TopRow, RunLive, EntryLive, LiveOf, few-uses}
+use Rattle.on_top.specs.Live.{LiveIn, TopRow, RunLive, EntryLive, LiveOf}
 
 -- ── a run ──
 -- i pieces of the run are passed
@@ -219,16 +220,20 @@ module _ {t p s : List ℕ} {n k cur pieces bytes row byte : ℕ} (l : Loop t p 
   none-left : n - k ≡ 0
   none-left = omega arith
 
-  pub live-end : Readable t p s → within full (magicStringOf [] t p s) ≡ true → LiveOf t p s (record { pieces = pieces; bytes = bytes; row = row; byte = byte })
-  live-end h w =
-      let f = few-uses [] t p s w in
+  pub live-end : Readable t p s → within (limitsOf t p s) (magicStringOf [] t p s) ≡ true → Sized t p s → LiveOf t p s (record { pieces = pieces; bytes = bytes; row = row; byte = byte })
+  live-end h w z =
+      let f = within-keeps (limitsOf t p s) (magicStringOf [] t p s) w in
+      let pe = capped-all 1024 (piece-count (magicStringOf [] t p s)) pieces (pieces-all (l .at .counts) none-left) (omega (arith, f .pieces, z .pieces)) in
+      let be = capped-all 32768 (byte-count (magicStringOf [] t p s)) bytes (bytes-all (l .at .counts) none-left) (omega (arith, f .bytes, z .store)) in
       let b = l .at .below in
       let hr = l .at .inside .row in
       let hb = l .at .inside .byte in
       let o = entry-below p s byte row hr hb (own t) (first-of b) in
       record {
-        pieces = capped-all 1024 (piece-count (magicStringOf [] t p s)) pieces (pieces-all (l .at .counts) none-left) (f .0);
-        bytes = capped-all 32768 (byte-count (magicStringOf [] t p s)) bytes (bytes-all (l .at .counts) none-left) (f .1);
+        pieces = omega (arith, pe);
+        bytes = omega (arith, be);
+        few = omega (arith, pe, f .pieces);
+        small = omega (arith, be, f .bytes);
         readable =
             record {
               linked = h .linked;

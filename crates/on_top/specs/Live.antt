@@ -2,17 +2,16 @@
 use mathlib.Core.Path.{_≡_, sym, ap₂, _∙_}
 use mathlib.Core.List.{List, [], _++_}
 use mathlib.Core.Bool.{true}
-use Prim.Native.Nat.{ℕ, _+_, _*_, _≤_, _<_, max, min}
+use Prim.Native.Nat.{ℕ, _+_, _*_, _-_, _/_, _≤_, _<_, max, min}
 use native.Mathlib.Omega.{arith}
 use lib.Dec.{leb}
 use borrow.Author.Tests.{leb-true}
 use lib.ListN.{length, take, drop, take-append-drop}
 use Rattle.table.specs.Order.{Entry}
 use Rattle.model.specs.Text.{sum}
-use Rattle.model.specs.Lists.{and-left, and-right}
-use Rattle.model.specs.Limits.{full, within, chunk-pieces, chunk-bytes, piece-count, byte-count}
+use Rattle.model.specs.Limits.{chunk-pieces, chunk-bytes, piece-count, byte-count}
 use Rattle.memory.specs.Layout.{Place, runOf, chunkOf, magicStringOf}
-use Rattle.memory.specs.WellFormed.{Readable, WellFormed}
+use Rattle.memory.specs.WellFormed.{Readable}
 use Rattle.texts.specs.Carry.{Below}
 use Rattle.rebuild.specs.Lay.{EntryBelow}
 use Rattle.frame.specs.Front.{desk-front}
@@ -46,46 +45,33 @@ pub record EntryLive (p s : List ℕ) (e : Entry) (c d : Used) : Type 0 where
   pub byte-grows : c .byte ≤ d .byte
   pub inside : LiveIn p s d
 
--- the desk's pieces and bytes; and it is read from the rows and bytes below the two places alone
+-- no fewer than the desk's pieces and bytes, and inside the limits; and the desk is read from the rows and bytes below the two places alone
 pub record LiveOf (t p s : List ℕ) (l : Used) : Type 0 where
-  pub pieces : l .pieces ≡ piece-count (magicStringOf [] t p s)
-  pub bytes : l .bytes ≡ byte-count (magicStringOf [] t p s)
+  pub pieces : piece-count (magicStringOf [] t p s) ≤ l .pieces
+  pub bytes : byte-count (magicStringOf [] t p s) ≤ l .bytes
   pub readable : Readable t (take (l .row * 2) p) (take (l .byte) s)
+  pub few : l .pieces ≤ length p / 4
+  pub small : l .bytes ≤ length s
   pub row : l .row * 2 ≤ length p
   pub byte : l .byte ≤ length s
 
--- counts inside the limits and places inside the lent tables
-pub record Small (l : Used) : Type 0 where
-  pub pieces : l .pieces ≤ 1024
-  pub bytes : l .bytes ≤ 32768
-  pub row : l .row ≤ 2048
-  pub byte : l .byte ≤ 32768
+-- counts inside the limits and places inside the lent tables, cp words of pieces and cs bytes
+pub record Small (cp cs : ℕ) (l : Used) : Type 0 where
+  pub pieces : l .pieces ≤ cp / 4
+  pub bytes : l .bytes ≤ cs
+  pub row : l .row * 2 ≤ cp
+  pub byte : l .byte ≤ cs
 
 -- n chunks, a piece more and len bytes more keep the limits; and there is room on top for any run with a piece more, and for the bytes
-pub record Room (l : Used) (n len : ℕ) : Type 0 where
-  pub chunks : n ≤ 512
-  pub pieces : l .pieces < 1024
-  pub rows : l .row + l .pieces < 2048
-  pub places : l .byte + len ≤ 32768
-  pub bytes : l .bytes + len ≤ 32768
+pub record Room (ct cp cs : ℕ) (l : Used) (n len : ℕ) : Type 0 where
+  pub chunks : n ≤ ct / 12 - 1
+  pub pieces : l .pieces < cp / 4
+  pub rows : l .row + l .pieces < cp / 2
+  pub places : l .byte + len ≤ cs
+  pub bytes : l .bytes + len ≤ cs
 
--- a desk that keeps the limits
-pub few-uses : (source t p s : List ℕ) → within full (magicStringOf source t p s) ≡ true → (piece-count (magicStringOf [] t p s) ≤ 1024) × (byte-count (magicStringOf [] t p s) ≤ 32768)
-unfolding within magicStringOf
-few-uses source t p s e =
-    let m = magicStringOf [] t p s in
-    let u = and-right (leb (length (m .chunks)) 512) _ (and-right (leb (length source) 16384) _ e) in
-    (leb-true (piece-count m) 1024 (and-left (leb (piece-count m) 1024) _ u), leb-true (byte-count m) 32768 (and-right (leb (piece-count m) 1024) _ u))
-
-pub live-small : {source t p s : List ℕ} {l : Used} → WellFormed source t p s → LiveOf t p s l → Small l
-live-small {source} {t} {p} {s} {l} w h =
-    let f = few-uses source t p s (w .desk .limits) in
-    record {
-      pieces = omega (arith, f .0, h .pieces);
-      bytes = omega (arith, f .1, h .bytes);
-      row = omega (arith, h .row, w .sized .pieces);
-      byte = omega (arith, h .byte, w .sized .store);
-    }
+pub live-small : {t p s : List ℕ} {l : Used} → LiveOf t p s l → Small (length p) (length s) l
+live-small h = record { pieces = h .few; bytes = h .small; row = h .row; byte = h .byte }
 
 -- ── the rows and bytes below the two places ──
 module _ (t p s : List ℕ) (row byte : ℕ) (h : Readable t (take (row * 2) p) (take byte s)) where

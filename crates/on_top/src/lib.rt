@@ -5,10 +5,10 @@ ghost use mathlib.Core.List.{[]};
 ghost use Prim.Native.Nat.{_+_, _*_, _≤_, _<_, max};
 ghost use lib.ListN.{length};
 ghost use Rattle.table.specs.Order.{entryOf};
-ghost use Rattle.model.specs.Limits.{full, within};
+ghost use Rattle.model.specs.Limits.{within};
 ghost use Rattle.memory.specs.Layout.{pieceAt, magicStringOf};
 ghost use Rattle.texts.specs.Over.{over};
-ghost use Rattle.memory.specs.WellFormed.{RunIn, EntryIn, Readable};
+ghost use Rattle.memory.specs.WellFormed.{limitsOf, Sized, RunIn, EntryIn, Readable};
 ghost use Rattle.on_top.specs.Live.{LiveIn, TopRow, RunLive, EntryLive, LiveOf, Small, Room};
 ghost use Rattle.on_top.specs.Run.{rowWords, TopRoom, Lengthened};
 
@@ -105,7 +105,8 @@ fn live_row(p: &[u32], s: &[u8], r: table::Row, c: Used) -> Used
 // One pass over the desk.
 pub fn live(t: &[u32], p: &[u32], s: &[u8]) -> Used
     requires { ⌜ Readable (now t) (now p) (now s) ⌝ }
-    requires { ⌜ within full (magicStringOf [] (now t) (now p) (now s)) ≡ true ⌝ }
+    requires { ⌜ within (limitsOf (now t) (now p) (now s)) (magicStringOf [] (now t) (now p) (now s)) ≡ true ⌝ }
+    requires { ⌜ Sized (now t) (now p) (now s) ⌝ }
     ensures { λ l. ⌜ LiveOf (now (t .entry)) (now (p .entry)) (now (s .entry)) l ⌝ }
 {
     let z = table::get_row(t, 0);
@@ -156,23 +157,24 @@ pub fn live(t: &[u32], p: &[u32], s: &[u8]) -> Used
 }
 
 // Whether n chunks, a piece more and len bytes more keep the limits, and the tables have room on top for any run with a piece more, and for the bytes.
-pub fn has_room(l: Used, n: u32, len: usize) -> bool
-    requires { ⌜ Small l ⌝ }
-    ensures { λ r. ⌜ (r ≡ true → Room l n len) × (r ≡ false → Room l n len → ⊥) ⌝ }
+pub fn has_room(l: Used, n: u32, len: usize, ct: usize, cp: usize, cs: usize) -> bool
+    requires { ⌜ Small cp cs l ⌝ }
+    requires { ⌜ 24 ≤ ct ⌝ }
+    ensures { λ r. ⌜ (r ≡ true → Room ct cp cs l n len) × (r ≡ false → Room ct cp cs l n len → ⊥) ⌝ }
 {
-    if n > 512 {
+    if wide(n) > ct / 12 - 1 {
         return false;
     }
-    if l.pieces >= 1024 {
+    if l.pieces >= cp / 4 {
         return false;
     }
-    if l.row + l.pieces >= 2048 {
+    if l.row + l.pieces >= cp / 2 {
         return false;
     }
-    if len > 32768 - l.byte {
+    if len > cs - l.byte {
         return false;
     }
-    if len > 32768 - l.bytes {
+    if len > cs - l.bytes {
         return false;
     }
     true

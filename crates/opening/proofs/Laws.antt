@@ -2,7 +2,7 @@
 use mathlib.Core.Path.{_≡_, refl, ap, sym, subst, _∙_}
 use mathlib.Core.Bool.{true, false}
 use mathlib.Core.List.{List, [], _∷_, map}
-use Prim.Native.Nat.{ℕ, zero, suc, _+_, _≤_, _<_}
+use Prim.Native.Nat.{ℕ, zero, suc, _+_, _/_, _≤_, _<_}
 use native.Mathlib.Omega.{arith}
 use borrow.Author.Tests.{le-leb, lt-leb}
 use lib.ListN.{length}
@@ -14,12 +14,11 @@ use Rattle.table.specs.Ring.{follow, ring-of}
 use Rattle.table.specs.Order.{Entry, entryOf, entryAt, nextOf, prevOf, countOf, order, Linked}
 use Rattle.model.specs.Chunk.{Chunk, new-chunk}
 use Rattle.model.specs.MagicString.{new}
-use Rattle.model.specs.Limits.{full}
 use Rattle.model.specs.Call.{opened}
 use Rattle.memory.specs.Layout.{NONE, runOf, replacementOf, chunkOf, magicStringOf}
-use Rattle.memory.specs.WellFormed.{Sized, pieceUses, runUses, byteUses, WellFormed}
+use Rattle.memory.specs.WellFormed.{Sized, Full, Lengths, pieceUses, runUses, byteUses, WellFormed}
 use Rattle.memory.specs.Calls.{Opened}
-use Rattle.memory.specs.Laws.{among-none, no-run, no-uses, desk-same, all-same}
+use Rattle.memory.specs.Laws.{full-sized, sized-as, among-none, no-run, no-uses, desk-same, all-same}
 use Rattle.counts.specs.Sums.{indicator-in}
 use Rattle.spans.specs.Spans.{Spans, Edged, Edges, startsOf, endsOf}
 use Rattle.marks.specs.Marks.{RowsIn, BothIn, RunsApart, pieceCount, pieceTotal, RunTexts, BothTexts, ReplacementText, EntryTexts, TextsApart}
@@ -150,7 +149,7 @@ module _ (t₀ t source p s : List ℕ) (f : Fresh t₀ t (length source)) where
         once = λ b. omega (arith, no-byte 0 1 0 desk-entry b, no-byte 1 0 (length source) chunk-entry b);
       }
 
-  fresh-count : pieceTotal t 1 ≤ 1024
+  fresh-count : pieceTotal t 1 ≤ length p / 4
   fresh-count =
       let a : pieceCount (entryAt t 0) ≡ 0 = ap pieceCount desk-entry in
       let b : pieceCount (entryAt t 1) ≡ 0 = ap pieceCount chunk-entry in
@@ -163,7 +162,7 @@ module _ (t₀ t source p s : List ℕ) (f : Fresh t₀ t (length source)) where
         shaped = record { sized = z; fits = h };
         text = u;
         chunked = record {
-          linked = fresh-linked (omega (arith, z .chunks));
+          linked = fresh-linked (z .some);
           spans = rw count-is fresh-spans;
           edges = rw count-is (fresh-edges u);
         };
@@ -172,7 +171,7 @@ module _ (t₀ t source p s : List ℕ) (f : Fresh t₀ t (length source)) where
 
 -- ── the answers ──
 module _ (source t p s : List ℕ) where
-  pub refused-2 : (Sized t p s → ⊥) → Opened source t p s t p s 2
+  pub refused-2 : (Full t p s → ⊥) → Opened source t p s t p s 2
   refused-2 h =
       record {
         not-sized = λ x. refl;
@@ -182,7 +181,7 @@ module _ (source t p s : List ℕ) where
         refused = λ e. all-same t p s;
       }
 
-  pub refused-13 : Sized t p s → 16384 < length source → Opened source t p s t p s 13
+  pub refused-13 : Full t p s → 16384 < length source → Opened source t p s t p s 13
   unfolding opened
   refused-13 z h =
       record {
@@ -193,7 +192,7 @@ module _ (source t p s : List ℕ) where
         refused = λ e. all-same t p s;
       }
 
-  pub refused-1 : Sized t p s → length source ≤ 16384 → utf8 source ≡ false → Opened source t p s t p s 1
+  pub refused-1 : Full t p s → length source ≤ 16384 → utf8 source ≡ false → Opened source t p s t p s 1
   unfolding opened
   refused-1 z h u =
       record {
@@ -204,10 +203,10 @@ module _ (source t p s : List ℕ) where
         refused = λ e. all-same t p s;
       }
 
-  pub opened-0 : (t′ : List ℕ) → Sized t p s → length source ≤ 16384 → utf8 source ≡ true → Fresh t t′ (length source) → Opened source t p s t′ p s 0
+  pub opened-0 : (t′ : List ℕ) → Full t p s → length source ≤ 16384 → utf8 source ≡ true → Fresh t t′ (length source) → Opened source t p s t′ p s 0
   unfolding opened
   opened-0 t′ z h u f =
-      let z′ : Sized t′ p s = record { chunks = f .same ∙ z .chunks; pieces = z .pieces; store = z .store } in
+      let z′ : Sized t′ p s = sized-as (record { chunks = f .same; pieces = refl; store = refl }) (full-sized z) in
       record {
         not-sized = λ x. absurd (x z);
         number-is = λ x. rw (le-leb (length source) 16384 h, u);

@@ -3,7 +3,7 @@ use mathlib.Core.Path.{_≡_, refl, sym, ap, ap₂, _∙_, subst}
 use mathlib.Core.Bool.{Bool, true, false, _&&_, cond}
 use mathlib.Core.List.{List, [], _∷_, _++_, map, map-append, append-assoc, append-nil}
 use mathlib.Core.Option.{Option, none, some}
-use Prim.Native.Nat.{ℕ, zero, suc, _+_, _*_, _-_, _≤_, _<_, min}
+use Prim.Native.Nat.{ℕ, zero, suc, _+_, _*_, _-_, _/_, _≤_, _<_, min}
 use native.Mathlib.Omega.{arith}
 use native.Mathlib.Numerals.{add-one}
 use native.Mathlib.Decide.{ℕ-discrete}
@@ -18,11 +18,11 @@ use Rattle.table.specs.Table.{rowAt, Put}
 use Rattle.table.specs.Order.{Entry, entryOf, entryAt, entries, order, nextOf, prevOf, countOf, Linked, inside-at, count-entries}
 use Rattle.model.specs.Text.{Text, sum}
 use Rattle.model.specs.Chunk.{Chunk, chunk-of}
-use Rattle.model.specs.Limits.{full, within, chunk-pieces, chunk-bytes, piece-count, byte-count}
+use Rattle.model.specs.Limits.{Limits, within, chunk-pieces, chunk-bytes, piece-count, byte-count}
 use Rattle.model.specs.Lists.{no-tf, bool-elim, sum-snoc, all-map, all-snoc, first-of, rest-of}
 use Rattle.memory.specs.Layout.{NONE, Place, runOf, replacementOf, chunkOf, magicStringOf}
-use Rattle.memory.specs.WellFormed.{Sized, PieceIn, RunIn, ReplacementIn, RunsIn, EntryIn, Readable, times, HoldsEach, pieceUses, listUses, byteUses, replacementUses, Disjoint}
-use Rattle.memory.specs.Laws.{desk-same, no-uses}
+use Rattle.memory.specs.WellFormed.{limitsOf, Sized, Lengths, PieceIn, RunIn, ReplacementIn, RunsIn, EntryIn, Readable, times, HoldsEach, pieceUses, listUses, byteUses, replacementUses, Disjoint}
+use Rattle.memory.specs.Laws.{desk-same, no-uses, within-keeps}
 use Rattle.texts.specs.Carry.{Below}
 use Rattle.rebuild.specs.Lay.{EntryBelow, Grown, LaidEntry, RoomEntry, Laying, ownOf, own, upTo, left, nextFor, LayAt, SeqRow, TopRow}
 use Rattle.rebuild.specs.Rebuilt.{Rebuilt}
@@ -134,13 +134,12 @@ one-at-most : (x y n : ℕ) → x + y ≡ min 1 n → x + y ≤ 1
 one-at-most x y n e = omega arith
 
 lay-done : {t p s t' P S : List ℕ} {n byte row : ℕ} → Laying p s (own t ∷ entries t) (own t' ∷ entries t') P S byte row
-    → order t' ≡ upTo n → countOf t' ≡ n → Linked t' → Sized t' P S → row * 2 ≤ length P → byte ≤ length S → Rebuilt t p s t' P S
+    → order t' ≡ upTo n → countOf t' ≡ n → Linked t' → row * 2 ≤ length P → byte ≤ length S → Rebuilt t p s t' P S
 unfolding magicStringOf
-lay-done {t} {p} {s} {t'} {P} {S} {n} {byte} {row} l o c k z hr hb =
+lay-done {t} {p} {s} {t'} {P} {S} {n} {byte} {row} l o c k hr hb =
     let e = head-eq (l .chunks) in
     let w = first-of (l .below) in
     record {
-      sized = z;
       readable =
           record {
             linked = k;
@@ -216,34 +215,24 @@ module _ {t p s : List ℕ} {k m cur byte row : ℕ} {C P S : List ℕ} (h : Rea
         bytes-left = omega (arith, l .bytes-left, d .byte-is, ls);
       }
 
-turn-done : {t p s : List ℕ} {k cur byte row : ℕ} {C P S : List ℕ} → LayAt t p s k 0 cur byte row C P S → Sized C P S → k ≤ 512 → Rebuilt t p s C P S
-turn-done {t} {p} {s} {k} {cur} {byte} {row} {C} {P} {S} l z h =
+turn-done : {t p s : List ℕ} {k cur byte row : ℕ} {C P S : List ℕ} → LayAt t p s k 0 cur byte row C P S → k * 12 + 12 ≤ length C → Rebuilt t p s C P S
+turn-done {t} {p} {s} {k} {cur} {byte} {row} {C} {P} {S} l h =
     let n : countOf C ≡ k = l .count ∙ omega arith in
-    let q = in-sequence C k n (omega (arith, z .chunks)) (l .fwd) (record { fwd = l .tip; bwd = l .back ∙ omega arith }) in
+    let q = in-sequence C k n h (l .fwd) (record { fwd = l .tip; bwd = l .back ∙ omega arith }) in
     let u : entries t ≡ map (entryAt t) (l .done) = ap (map (entryAt t)) (l .place ∙ append-nil (l .done)) in
     let v : entries C ≡ map (entryAt C) (upTo k) = ap (map (entryAt C)) (q .0) in
     let y : Laying p s (own t ∷ entries t) (own C ∷ entries C) P S byte row = rw (u, v) (l .laying) in
-    lay-done {n = k} {byte = byte} {row = row} y (q .0) n (q .1) z (omega (arith, l .rows-left)) (omega (arith, l .bytes-left))
+    lay-done {n = k} {byte = byte} {row = row} y (q .0) n (q .1) (omega (arith, l .rows-left)) (omega (arith, l .bytes-left))
 
 -- ── the start: the limits give the room, and the desk's own row is laid ──
-four : (x y z w : Bool) → x && (y && (z && w)) ≡ true → (y ≡ true) × (z ≡ true) × (w ≡ true)
-four true true true w e = (refl, refl, e)
-four true true false w e = (refl, e, no-tf (sym e))
-four true false z w e = (e, no-tf (sym e), no-tf (sym e))
-four false y z w e = (no-tf (sym e), no-tf (sym e), no-tf (sym e))
-
-pub within-room : (t p s : List ℕ) → within full (magicStringOf [] t p s) ≡ true
-    → (chunk-pieces (chunkOf p s (own t)) + sum chunk-pieces (map (chunkOf p s) (entries t)) ≤ 1024)
-    × (chunk-bytes (chunkOf p s (own t)) + sum chunk-bytes (map (chunkOf p s) (entries t)) ≤ 32768)
-    × (countOf t ≤ 512)
-unfolding within magicStringOf replacementOf
-within-room t p s e =
-    let m = magicStringOf [] t p s in
-    let w = four (leb 0 16384) (leb (length (m .chunks)) 512) (leb (piece-count m) 1024) (leb (byte-count m) 32768) e in
-    let a = leb-true (length (m .chunks)) 512 (w .0) in
-    let b = leb-true (piece-count m) 1024 (w .1) in
-    let c = leb-true (byte-count m) 32768 (w .2) in
-    (omega (arith, b), omega (arith, c), omega (arith, a, length-map (entries t) (chunkOf p s), count-entries t))
+pub within-room : (k : Limits) (t p s : List ℕ) → within k (magicStringOf [] t p s) ≡ true
+    → (chunk-pieces (chunkOf p s (own t)) + sum chunk-pieces (map (chunkOf p s) (entries t)) ≤ k .pieces)
+    × (chunk-bytes (chunkOf p s (own t)) + sum chunk-bytes (map (chunkOf p s) (entries t)) ≤ k .bytes)
+    × (countOf t ≤ k .chunks)
+unfolding magicStringOf replacementOf
+within-room k t p s e =
+    let w = within-keeps k (magicStringOf [] t p s) e in
+    (omega (arith, w .pieces), omega (arith, w .bytes), omega (arith, w .chunks, length-map (entries t) (chunkOf p s), count-entries t))
 
 chunk-eq : {a a' b b' : ℕ} {x x' y y' : List Text} {w w' : Option Text} → a ≡ a' → b ≡ b' → x ≡ x' → y ≡ y' → w ≡ w'
     → chunk-of a b (record { intro = x; outro = y; edited-content = w }) ≡ chunk-of a' b' (record { intro = x'; outro = y'; edited-content = w' })
@@ -271,11 +260,11 @@ own-laid z l {p} {s} {P} {S} {P'} {S'} {byte} {row} {byte'} d =
     }
 
 pub lay-start : {t p s : List ℕ} {l x : Row} {C C' P S P' S' : List ℕ} {byte row : ℕ} → LaidEntry p s (own t) (entryOf l) P S 0 0 P' S' byte row → TopRow l x (countOf t) → Put C C' 0 x
-    → within full (magicStringOf [] t p s) ≡ true → length P' ≡ 4096 → length S' ≡ 32768
+    → within (limitsOf C P S) (magicStringOf [] t p s) ≡ true → length P' ≡ length P → length S' ≡ length S
     → LayAt t p s 0 (countOf t) (nextOf t 0) byte row C' P' S'
 unfolding order
 lay-start {t} {p} {s} {l} {x} {C} {C'} {P} {S} {P'} {S'} {byte} {row} d w q e lp ls =
-    let m = within-room t p s e in
+    let m = within-room (limitsOf C P S) t p s e in
     let o : ownOf l ≡ own C' = sym (w .runs) ∙ ap ownOf (sym (q .at)) in
     record {
       done = [];
@@ -300,12 +289,12 @@ top-next zero h = absurd (h refl)
 top-next (suc n) h = refl
 
 -- ── the loop ──
-pub record Loop (t p s : List ℕ) (n k cur byte row : ℕ) (C P S : List ℕ) : Type 0 where
+pub record Loop (t p s : List ℕ) (n k cur byte row : ℕ) (C₀ P₀ S₀ C P S : List ℕ) : Type 0 where
   pub below : k ≤ n
-  pub sized : Sized C P S
+  pub lengths : Lengths C₀ P₀ S₀ C P S
   pub at : LayAt t p s k (n - k) cur byte row C P S
 
-module _ {t p s : List ℕ} {n k cur byte row : ℕ} {C P S : List ℕ} (h : Readable t p s) (l : Loop t p s n k cur byte row C P S) (g : k < n) where
+module _ {t p s : List ℕ} {n k cur byte row : ℕ} {C₀ P₀ S₀ C P S : List ℕ} (h : Readable t p s) (z : Sized C₀ P₀ S₀) (l : Loop t p s n k cur byte row C₀ P₀ S₀ C P S) (g : k < n) where
   loop-at : LayAt t p s k (suc (n - (k + 1))) cur byte row C P S
   loop-at = let e : n - k ≡ suc (n - (k + 1)) = omega arith in rw e at (l .at)
 
@@ -316,29 +305,33 @@ module _ {t p s : List ℕ} {n k cur byte row : ℕ} {C P S : List ℕ} (h : Rea
   loop-in = turn-in h loop-at
 
   pub loop-room : RoomEntry p s (entryAt t cur) P S byte row
-  loop-room = turn-room h loop-at (omega (arith, l .sized .pieces)) (omega (arith, l .sized .store))
+  loop-room = turn-room h loop-at (omega (arith, z .pieces, l .lengths .pieces)) (omega (arith, z .store, l .lengths .store))
 
   pub loop-more : {P' S' : List ℕ} {byte' row' : ℕ} {C' : List ℕ} {x y : Row} → LaidEntry p s (entryAt t cur) (entryOf y) P S byte row P' S' byte' row'
       → SeqRow y x k n → Put C C' (k + 1) x → length C' ≡ length C → length P' ≡ length P → length S' ≡ length S
-      → Loop t p s n (k + 1) (nextOf t cur) byte' row' C' P' S'
+      → Loop t p s n (k + 1) (nextOf t cur) byte' row' C₀ P₀ S₀ C' P' S'
   loop-more {P'} {S'} {byte'} {row'} {C'} {x} {y} d w q lc lp ls =
       record {
         below = omega arith;
-        sized = record { chunks = lc ∙ l .sized .chunks; pieces = lp ∙ l .sized .pieces; store = ls ∙ l .sized .store };
+        lengths = record { chunks = lc ∙ l .lengths .chunks; pieces = lp ∙ l .lengths .pieces; store = ls ∙ l .lengths .store };
         at =
             subst (λ (j : ℕ). LayAt t p s j (n - (k + 1)) (nextOf t cur) byte' row' C' P' S') (sym (add-one k))
             (turn-more h loop-at d (w .same) (w .prev) (w .next ∙ ap (nextFor (n - (k + 1))) (add-one k)) (subst (λ (j : ℕ). Put C C' j x) (add-one k) q) lp ls);
       }
 
-pub loop-done : {t p s : List ℕ} {n k cur byte row : ℕ} {C P S : List ℕ} → Loop t p s n k cur byte row C P S → n ≤ k → n ≤ 512 → Rebuilt t p s C P S
-loop-done {n = n} {k = k} l h g = let e : n - k ≡ 0 = omega arith in turn-done (rw e at (l .at)) (l .sized) (omega (arith, l .below))
+pub loop-done : {t p s : List ℕ} {n k cur byte row : ℕ} {C₀ P₀ S₀ C P S : List ℕ} → Loop t p s n k cur byte row C₀ P₀ S₀ C P S → n ≤ k → n * 12 + 12 ≤ length C₀ → Rebuilt t p s C P S
+loop-done {n = n} {k = k} l h g = let e : n - k ≡ 0 = omega arith in turn-done (rw e at (l .at)) (omega (arith, l .below, l .lengths .chunks))
 
-pub own-room : (t p s : List ℕ) {C P S : List ℕ} → within full (magicStringOf [] t p s) ≡ true → Sized C P S → RoomEntry p s (own t) P S 0 0
-own-room t p s e z =
-    let m = within-room t p s e in
+pub own-room : (t p s : List ℕ) {C P S : List ℕ} → within (limitsOf C P S) (magicStringOf [] t p s) ≡ true → Sized C P S → RoomEntry p s (own t) P S 0 0
+own-room t p s {C} {P} {S} e z =
+    let m = within-room (limitsOf C P S) t p s e in
     record {
-      rows-in = omega (arith, m .0, z .pieces);
-      bytes-in = omega (arith, m .1, z .store);
+      rows-in = omega (arith, m .0);
+      bytes-in = omega (arith, m .1);
       rows-narrow = omega (arith, z .pieces);
       narrow = omega (arith, z .store);
     }
+
+-- the chunks' rows fit
+pub rows-fit : (t p s : List ℕ) {C P S : List ℕ} → within (limitsOf C P S) (magicStringOf [] t p s) ≡ true → Sized C P S → countOf t * 12 + 12 ≤ length C
+rows-fit t p s {C} {P} {S} e z = omega (arith, within-room (limitsOf C P S) t p s e .2, z .some)

@@ -3,14 +3,13 @@ use mathlib.Core.Path.{_≡_}
 use mathlib.Core.Bool.{true, false}
 use mathlib.Core.List.{List, []}
 use Prim.Native.Nat.{ℕ}
-use Rattle.model.specs.Limits.{full, within}
+use Rattle.model.specs.Limits.{within}
 use Rattle.memory.specs.Layout.{magicStringOf}
-use Rattle.memory.specs.WellFormed.{Sized, Readable, HoldsEach, Disjoint}
+use Rattle.memory.specs.WellFormed.{limitsOf, Lengths, Readable, HoldsEach, Disjoint}
 use Rattle.memory.specs.Calls.{Same}
 
--- t' p' s' hold the desk that t p s hold, as a well-formed desk is held
+-- t' p' s' hold the desk that t p s hold, as a well-formed desk is held but for its limits
 pub record Rebuilt (t p s t' p' s' : List ℕ) : Type 0 where
-  pub sized : Sized t' p' s'
   pub readable : Readable t' p' s'
   pub each : HoldsEach t'
   pub disjoint : Disjoint t' p'
@@ -18,5 +17,6 @@ pub record Rebuilt (t p s t' p' s' : List ℕ) : Type 0 where
 
 -- t p s the scratch tables; t₀ p₀ s₀ the lent tables before, t' p' s' after; r the answer of the steps, r' the call's
 pub record Finished (t p s t₀ p₀ s₀ t' p' s' : List ℕ) (r r' : ℕ) : Type 0 where
-  pub fits : within full (magicStringOf [] t p s) ≡ true → (r' ≡ r) × Rebuilt t p s t' p' s'
-  pub breaks : within full (magicStringOf [] t p s) ≡ false → (r' ≡ 13) × Same t₀ p₀ s₀ t' p' s'
+  pub lengths : Lengths t₀ p₀ s₀ t' p' s'
+  pub fits : within (limitsOf t₀ p₀ s₀) (magicStringOf [] t p s) ≡ true → (r' ≡ r) × Rebuilt t p s t' p' s'
+  pub breaks : within (limitsOf t₀ p₀ s₀) (magicStringOf [] t p s) ≡ false → (r' ≡ 13) × Same t₀ p₀ s₀ t' p' s'

@@ -2,12 +2,12 @@
 ghost use mathlib.Core.Path.{_≡_};
 ghost use mathlib.Core.List.{[]};
 ghost use mathlib.Core.Bool.{true};
-ghost use Prim.Native.Nat.{_+_, _≤_, _<_};
+ghost use Prim.Native.Nat.{_+_, _*_, _≤_, _<_};
 ghost use lib.ListN.{length};
 ghost use Rattle.table.specs.Order.{entryOf};
-ghost use Rattle.model.specs.Limits.{full, within, replacement-bytes};
+ghost use Rattle.model.specs.Limits.{within, replacement-bytes};
 ghost use Rattle.memory.specs.Layout.{replacementOf, magicStringOf};
-ghost use Rattle.memory.specs.WellFormed.{ReplacementIn, EntryIn, Readable, Sized};
+ghost use Rattle.memory.specs.WellFormed.{ReplacementIn, EntryIn, Readable, limitsOf, Sized};
 ghost use Rattle.rebuild.specs.Lay.{LaidText, LaidEntry, RoomEntry, ownOf, TopRow, SeqRow, LayAt};
 ghost use Rattle.rebuild.specs.Rebuilt.{Rebuilt};
 
@@ -129,7 +129,7 @@ fn lay_rest(
     requires { ⌜ Readable (now t) (now p) (now s) ⌝ }
     requires { ⌜ LayAt (now t) (now p) (now s) 0 n first byte0 row0 (now chunks) (now pieces) (now store) ⌝ }
     requires { ⌜ Sized (now chunks) (now pieces) (now store) ⌝ }
-    requires { ⌜ n ≤ 512 ⌝ }
+    requires { ⌜ n * 12 + 12 ≤ length (now chunks) ⌝ }
     ensures { λ _. ⌜ Rebuilt (now (t .entry)) (now (p .entry)) (now (s .entry)) (now (chunks .exit)) (now (pieces .exit)) (now (store .exit)) ⌝ }
 {
     let mut k = 0;
@@ -157,7 +157,7 @@ pub fn rebuild(
     store: &mut [u8],
 )
     requires { ⌜ Readable (now t) (now p) (now s) ⌝ }
-    requires { ⌜ within full (magicStringOf [] (now t) (now p) (now s)) ≡ true ⌝ }
+    requires { ⌜ within (limitsOf (now chunks) (now pieces) (now store)) (magicStringOf [] (now t) (now p) (now s)) ≡ true ⌝ }
     requires { ⌜ Sized (now chunks) (now pieces) (now store) ⌝ }
     ensures { λ _. ⌜ Rebuilt (now (t .entry)) (now (p .entry)) (now (s .entry)) (now (chunks .exit)) (now (pieces .exit)) (now (store .exit)) ⌝ }
 {

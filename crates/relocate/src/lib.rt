@@ -25,8 +25,7 @@ fn relocate_with(
     ensures { λ r. ⌜ Ran (relocate a b to) (now (source .entry)) (now (chunks .entry)) (now (pieces .entry)) (now (store .entry))
         (now (chunks .exit)) (now (pieces .exit)) (now (store .exit)) r ⌝ }
 {
-    let z = table::get_row(chunks, 0);
-    if z.start <= 509 {
+    if in_place::has_rows(chunks, 3) {
         return relocate_rows::relocate_rows(chunks, a, b, to);
     }
     relocate_scratch::relocate_scratch(source, chunks, pieces, store, a, b, to)

@@ -72,12 +72,12 @@ module _ {a b to : ℕ} {source t p s : List ℕ} (w : WellFormed source t p s) 
         filled = omega (arith, k .movable .ascends, k .inside);
       }
 
-  pub relocated-in-place : {t' : List ℕ} {r : ℕ} → countOf t + 3 ≤ 512 → RelocateDone a b to t t' r → length t' ≡ length t → Ran (relocate a b to) source t p s t' p s r
-  relocated-in-place {r = r} few x len =
+  pub relocated-in-place : {t' : List ℕ} {r : ℕ} → RelocateDone a b to t t' r → length t' ≡ length t → Ran (relocate a b to) source t p s t' p s r
+  relocated-in-place {r = r} x len =
       let m = magicStringOf source t p s in
       let q = steps-move a b to m (k .movable .outside) (k .movable .ascends) (omega (arith, k .inside, ap length (source-of source t p s))) in
       let g = x .leave source p s (w .readable) (formed-spans w) in
-      ran-rows w (k .placed) (record { readable = g .readable; result = q ∙ g .result }) (writes a b to r (k .movable .ascends) (x .number)) len (x .kept) (omega (arith, x .count))
+      ran-rows w (k .placed) (record { readable = g .readable; result = q ∙ g .result }) (writes a b to r (k .movable .ascends) (x .number)) len (x .kept)
 
 -- ── past the tests, on scratch rows ──
 module _ {a b to : ℕ} {source t p s t₀ p₀ s₀ t1 p1 s1 : List ℕ} (w : WellFormed source t p s) (f : Scratch t₀ p₀ s₀) (d : Loaded t p s t₀ p₀ s₀ t1 p1 s1)

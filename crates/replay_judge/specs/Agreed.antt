@@ -3,7 +3,7 @@ use mathlib.Core.Path.{_≡_}
 use mathlib.Core.List.{List}
 use Prim.Native.Nat.{ℕ, zero, suc}
 use Rattle.memory.specs.Layout.{magicStringOf}
-use Rattle.memory.specs.WellFormed.{WellFormed}
+use Rattle.memory.specs.WellFormed.{Taken}
 use Rattle.replay_compare.specs.Compare.{Written, Kept}
 use Rattle.replay_digest.specs.Digest.{digest-of}
 
@@ -14,7 +14,7 @@ pub record Answered (number value number′ value′ : ℕ) : Type 0 where
 
 -- the tables hold a well-formed desk with this digest
 pub record HasDigest (d : ℕ) (source t p s : List ℕ) : Type 0 where
-  pub well-formed : WellFormed source t p s
+  pub well-formed : Taken source t p s
   pub digest-is : digest-of (magicStringOf source t p s) ≡ d
 
 -- what the last column says of the tables: they were t₀, p₀, s₀ and are t, p, s

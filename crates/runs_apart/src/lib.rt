@@ -65,13 +65,14 @@ fn runs_by(t: &[u32], n: u32, marks: &mut [u8]) -> bool
     false
 }
 
-// The same with marks of its own, for a table of 2,048 pieces.
-pub fn runs_apart(t: &[u32], n: u32) -> bool
+// The same with marks of its own, for a table of `rows` pieces.
+pub fn runs_apart(t: &[u32], n: u32, rows: usize) -> bool
     requires { ⌜ n * 12 + 12 ≤ length (now t) ⌝ }
-    ensures { λ r. ⌜ Decides r (RunsApart (now (t .entry)) n (2048 * 2)) ⌝ }
+    requires { ⌜ rows ≤ 2048 ⌝ }
+    ensures { λ r. ⌜ Decides r (RunsApart (now (t .entry)) n (rows * 2)) ⌝ }
 {
     let mut marks = [0u8; 2048];
-    runs_by(t, n, &mut marks[..2048])
+    runs_by(t, n, &mut marks[..rows])
 }
 
 // How many pieces the two runs of row i have.
@@ -82,21 +83,22 @@ fn piece_count(t: &[u32], i: u32) -> usize
     marks::word(t, i, marks::INTRO + 1) + marks::word(t, i, marks::OUTRO + 1)
 }
 
-// Whether rows 0 to n have at most 1,024 pieces together.
-pub fn pieces_within(t: &[u32], n: u32) -> bool
+// Whether rows 0 to n have at most `limit` pieces together.
+pub fn pieces_within(t: &[u32], n: u32, limit: usize) -> bool
     requires { ⌜ n * 12 + 12 ≤ length (now t) ⌝ }
-    ensures { λ r. ⌜ Decides r (pieceTotal (now (t .entry)) n ≤ 1024) ⌝ }
+    requires { ⌜ limit ≤ 1024 ⌝ }
+    ensures { λ r. ⌜ Decides r (pieceTotal (now (t .entry)) n ≤ limit) ⌝ }
 {
     let mut total = piece_count(t, 0);
     let mut k = 0;
     while k < n {
-        if total > 1024 {
+        if total > limit {
             return false;
         }
         k += 1;
         total += piece_count(t, k);
     }
-    if total > 1024 {
+    if total > limit {
         return false;
     }
     true

@@ -19,7 +19,7 @@ use Rattle.model.specs.Slice.{Sliced, text, refused, contains-end, ends-inside,
 use Rattle.model.specs.Lists.{sum-append}
 use Rattle.memory.specs.Layout.{chunkOf, magicStringOf}
 use Rattle.memory.specs.WellFormed.{WellFormed, EntryIn}
-use Rattle.memory.specs.Laws.{edited-is}
+use Rattle.memory.specs.Laws.{edited-is, desk-full}
 use Rattle.texts.specs.Texts.{SpanIn}
 use Rattle.fragments.specs.Sections.{section, rowNo, row-edge, row-in, section-chunk, entries-drop, entries-end, fragmentsAll, fragmentsOf}
 use Rattle.fragments.specs.Output.{ready, sum-length, all-append, output-short}
@@ -61,7 +61,7 @@ unfolding magicStringOf
 chunks-short source t p s w =
     let m = magicStringOf source t p s in
     let cs = chunk-fragments (m .source) (m .chunks) in
-    omega (arith, output-short m (w .desk .limits), sum-append length (m .intro) (cs ++ m .outro), sum-append length cs (m .outro))
+    omega (arith, output-short m (desk-full w), sum-append length (m .intro) (cs ++ m .outro), sum-append length cs (m .outro))
 
 pub rest-short : (source t p s : List ℕ) (k : ℕ) → WellFormed source t p s → sum length (fragmentsAll source p s (drop k (entries t))) ≤ 8421376
 rest-short source t p s k w =

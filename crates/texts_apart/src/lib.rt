@@ -92,11 +92,11 @@ fn texts_by(t: &[u32], n: u32, pieces: &[u32], store: &[u8], marks: &mut [u8]) -
     false
 }
 
-// The same with marks of its own, for a store of 32,768 bytes.
+// The same with marks of its own, for a store of at most 32,768 bytes.
 pub fn texts_apart(t: &[u32], n: u32, pieces: &[u32], store: &[u8]) -> bool
     requires { ⌜ n * 12 + 12 ≤ length (now t) ⌝ }
     requires { ⌜ RunsApart (now t) n (length (now pieces)) ⌝ }
-    requires { ⌜ length (now store) ≡ 32768 ⌝ }
+    requires { ⌜ length (now store) ≤ 32768 ⌝ }
     ensures { λ r. ⌜ Decides r (TextsApart (now (t .entry)) (now (pieces .entry)) (now (store .entry)) n) ⌝ }
 {
     let size = store.len();

@@ -17,7 +17,7 @@ pub fn trim_with(
         (now (chunks .exit)) (now (pieces .exit)) (now (store .exit)) r ⌝ }
 {
     let l = on_top::live(chunks, pieces, store);
-    if trim_on_top::has_room(l, source.len()) {
+    if trim_on_top::has_room(l, source.len(), pieces.len(), store.len()) {
         return trim_on_top::trim_on_top(source, chunks, pieces, store, l, both, front, pattern);
     }
     trim_scratch::trim_scratch(source, chunks, pieces, store, both, front, pattern)

@@ -3,22 +3,20 @@
 use mathlib.Core.Path.{_≡_, refl, sym, ap, _∙_, subst}
 use mathlib.Core.Bool.{Bool, true}
 use mathlib.Core.List.{List, []}
-use Prim.Native.Nat.{ℕ, _+_, _*_, _≤_}
+use Prim.Native.Nat.{ℕ, _+_, _-_, _*_, _/_, _≤_}
 use native.Mathlib.Omega.{arith}
-use lib.Dec.{leb}
 use lib.ListN.{length, take, drop, take-append-drop}
 use lib.Seq.{length-take-le}
-use borrow.Author.Tests.{le-leb}
 use Rattle.model.specs.MagicString.{MagicString, ok}
-use Rattle.model.specs.Limits.{full, within, piece-count, byte-count}
+use Rattle.model.specs.Limits.{within, piece-count, byte-count}
 use Rattle.memory.specs.Layout.{magicStringOf}
-use Rattle.memory.specs.WellFormed.{WellFormed}
-use Rattle.memory.specs.Laws.{chunk-count}
+use Rattle.memory.specs.WellFormed.{limitsOf, Lengths, WellFormed}
+use Rattle.memory.specs.Laws.{chunk-count, source-of, keeps-within, keeps-desk}
 use Rattle.uses.specs.Kept.{kept-same, kept-within}
-use Rattle.frame.specs.Frame.{few-chunks, may-write-0}
+use Rattle.frame.specs.Frame.{may-write-0}
 use Rattle.in_place.specs.InPlace.{ran-in-place}
 use Rattle.on_top.specs.declared.Used.{Used}
-use Rattle.on_top.specs.Live.{LiveOf, few-uses}
+use Rattle.on_top.specs.Live.{LiveOf}
 use Rattle.trim_run.specs.Low.{DeskLow}
 use Rattle.trim_sides.specs.Side.{SideReady}
 use Rattle.trim_sides.specs.Both.{SidesTrimmed}
@@ -26,29 +24,19 @@ use Rattle.trim_scratch.specs.Weight.{trim-sides-pieces, trim-sides-chunks, tri
 use Rattle.trim_scratch.specs.Call.{desk-low, plain-of, pieces-any, TrimRan}
 
 -- above a desk whose source has n bytes: rows for any two of its runs, and n bytes; and n bytes more keep the limit
-pub record TrimRoom (l : Used) (n : ℕ) : Type 0 where
-  pub rows : l .row + l .pieces + l .pieces ≤ 2048
-  pub places : l .byte + n ≤ 32768
-  pub bytes : l .bytes + n ≤ 32768
+pub record TrimRoom (cp cs : ℕ) (l : Used) (n : ℕ) : Type 0 where
+  pub rows : l .row + l .pieces + l .pieces ≤ cp / 2
+  pub places : l .byte + n ≤ cs
+  pub bytes : l .bytes + n ≤ cs
 
 bytes-any : (source t p s : List ℕ) → byte-count (magicStringOf source t p s) ≡ byte-count (magicStringOf [] t p s)
 unfolding magicStringOf
 bytes-any source t p s = refl
 
-no-source : (t p s : List ℕ) → leb (length (magicStringOf [] t p s .source)) 16384 ≡ true
-unfolding magicStringOf
-no-source t p s = refl
+pub bare-within : {source t p s : List ℕ} → WellFormed source t p s → within (limitsOf t p s) (magicStringOf [] t p s) ≡ true
+bare-within {source} {t} {p} {s} w = kept-within (kept-same t) (limitsOf t p s) source p s (w .desk .limits) (omega (arith, w .readable .linked .room))
 
-few-within : (t p s : List ℕ) → length (magicStringOf [] t p s .chunks) ≤ 512 → piece-count (magicStringOf [] t p s) ≤ 1024 → byte-count (magicStringOf [] t p s) ≤ 32768 → within full (magicStringOf [] t p s) ≡ true
-unfolding within
-few-within t p s c a b =
-    let m = magicStringOf [] t p s in
-    rw (no-source t p s, le-leb (length (m .chunks)) 512 c, le-leb (piece-count m) 1024 a, le-leb (byte-count m) 32768 b)
-
-pub bare-within : {source t p s : List ℕ} → WellFormed source t p s → within full (magicStringOf [] t p s) ≡ true
-bare-within {source} {t} {p} {s} w = kept-within (kept-same t) source p s (w .desk .limits) (few-chunks source t p s (w .desk .limits))
-
-module _ {source t p s : List ℕ} {l : Used} (w : WellFormed source t p s) (lv : LiveOf t p s l) (rm : TrimRoom l (length source)) where
+module _ {source t p s : List ℕ} {l : Used} (w : WellFormed source t p s) (lv : LiveOf t p s l) (rm : TrimRoom (length p) (length s) l (length source)) where
   -- new rows from `top` on and new bytes from `byte` on stand above all that is in use
   module _ {top wide : ℕ} (row-is : top ≡ l .row) (wide-is : wide ≡ l .pieces) where
     pub top-ready : {byte : ℕ} → byte ≡ l .byte → SideReady source t p s top wide byte
@@ -70,17 +58,20 @@ module _ {source t p s : List ℕ} {l : Used} (w : WellFormed source t p s) (lv 
 
   module _ {both front : Bool} {pattern : ℕ} {t' p' s' : List ℕ} (x : SidesTrimmed both front pattern source t p s t' p' s') where
     -- 13 cannot arise
-    left-within : within full (magicStringOf [] t' p' s') ≡ true
+    left-within : within (limitsOf t p s) (magicStringOf [] t' p' s') ≡ true
     left-within =
         let m = magicStringOf source t p s in
-        let few = few-uses source t p s (w .desk .limits) in
-        few-within t' p' s'
-        (omega (arith, chunk-count source t' p' s', chunk-count [] t' p' s', ap (λ (d : MagicString). length (d .chunks)) (x .desk), trim-sides-chunks both front pattern m, chunk-count source t p s, few-chunks source t p s (w .desk .limits)))
-        (omega (arith, pieces-any source t' p' s', ap piece-count (x .desk), trim-sides-pieces both front pattern m, pieces-any source t p s, few .0))
-        (omega (arith, bytes-any source t' p' s', ap byte-count (x .desk), trim-sides-bytes both front pattern m, bytes-any source t p s, lv .bytes, plain-of w, rm .bytes))
+        let k = keeps-desk w in
+        keeps-within
+        (record {
+          source = rw (source-of [] t' p' s') (omega arith);
+          chunks = omega (arith, chunk-count source t' p' s', chunk-count [] t' p' s', ap (λ (d : MagicString). length (d .chunks)) (x .desk), trim-sides-chunks both front pattern m, k .chunks);
+          pieces = omega (arith, pieces-any source t' p' s', ap piece-count (x .desk), trim-sides-pieces both front pattern m, k .pieces);
+          bytes = omega (arith, bytes-any source t' p' s', ap byte-count (x .desk), trim-sides-bytes both front pattern m, bytes-any source t p s, lv .bytes, plain-of w, rm .bytes);
+        })
 
     pub top-ran : TrimRan both front pattern source t p s t' p' s' 0
     top-ran e h q i =
         ran-in-place w h (record { readable = x .readable; result = q ∙ ap ok (sym (x .desk)) }) (may-write-0 e i)
-        (record { chunks = x .rows-len ∙ w .sized .chunks; pieces = x .pieces-len ∙ w .sized .pieces; store = x .store-len ∙ w .sized .store })
+        (record { chunks = x .rows-len; pieces = x .pieces-len; store = x .store-len })
         (x .each (w .each)) (x .apart (w .disjoint)) left-within

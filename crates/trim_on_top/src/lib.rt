@@ -8,17 +8,17 @@ ghost use Rattle.trim_on_top.specs.OnTop.{TrimRoom};
 use on_top::Used;
 
 // Whether the lent tables have room above all that is in use for any two runs and for n bytes of a source, and n bytes more keep the limit.
-pub fn has_room(l: Used, n: usize) -> bool
-    requires { ⌜ Small l ⌝ }
-    ensures { λ r. ⌜ Decides r (TrimRoom l n) ⌝ }
+pub fn has_room(l: Used, n: usize, cp: usize, cs: usize) -> bool
+    requires { ⌜ Small cp cs l ⌝ }
+    ensures { λ r. ⌜ Decides r (TrimRoom cp cs l n) ⌝ }
 {
-    if l.row + l.pieces + l.pieces > 2048 {
+    if l.row + l.pieces + l.pieces > cp / 2 {
         return false;
     }
-    if n > 32768 - l.byte {
+    if n > cs - l.byte {
         return false;
     }
-    if n > 32768 - l.bytes {
+    if n > cs - l.bytes {
         return false;
     }
     true
@@ -37,7 +37,7 @@ pub fn trim_on_top(
 ) -> u32
     requires { ⌜ WellFormed (now source) (now chunks) (now pieces) (now store) ⌝ }
     requires { ⌜ LiveOf (now chunks) (now pieces) (now store) l ⌝ }
-    requires { ⌜ TrimRoom l (length (now source)) ⌝ }
+    requires { ⌜ TrimRoom (length (now pieces)) (length (now store)) l (length (now source)) ⌝ }
     ensures { λ r. ⌜ TrimRan both front pattern (now (source .entry)) (now (chunks .entry)) (now (pieces .entry)) (now (store .entry))
         (now (chunks .exit)) (now (pieces .exit)) (now (store .exit)) r ⌝ }
 {

@@ -9,18 +9,17 @@ use lib.ListN.{length, drop, length-append, length-drop}
 use Rattle.utf8.specs.Chars.{All, nil, cons}
 use Rattle.table.specs.Order.{Entry}
 use Rattle.model.specs.MagicString.{MagicString, ok}
-use Rattle.model.specs.Limits.{piece-count}
+use Rattle.model.specs.Limits.{full, piece-count}
 use Rattle.model.specs.Call.{Edit, steps, refused-before}
 use Rattle.model.specs.WellFormed as model
 use Rattle.memory.specs.Layout.{Place, magicStringOf}
 use Rattle.memory.specs.WellFormed.{RunIn, ReplacementIn, EntryIn, Readable, WellFormed}
 use Rattle.memory.specs.Calls.{idle, Ran}
-use Rattle.memory.specs.Laws.{piece-front}
+use Rattle.memory.specs.Laws.{piece-front, within-keeps, desk-full, short-source}
 use Rattle.texts.specs.Carry.{Below}
 use Rattle.rebuild.specs.Rebuilt.{Finished}
 use Rattle.frame.specs.Loaded.{Loaded}
-use Rattle.frame.specs.Frame.{Scratch, loaded-readable, loaded-desk, with-scratch-desk, small-source, ran-finished, may-write-0}
-use Rattle.on_top.specs.Live.{few-uses}
+use Rattle.frame.specs.Frame.{Scratch, loaded-readable, loaded-desk, with-scratch-desk, ran-finished, may-write-0}
 use Rattle.trim_run.specs.Low.{EntryLow, DeskLow}
 use Rattle.trim_row.specs.Plain.{plain-bytes}
 use Rattle.trim_sides.specs.Model.{trim-sides}
@@ -34,7 +33,7 @@ pub record Wide (p s : List ℕ) : Type 0 where
   pub store : length s ≡ 49152
 
 -- ---- what is read from the front of the tables lies below its end
-module _ (p s y : List ℕ) (row byte : ℕ) (lp : length p ≡ row * 2) (ls : length s ≡ byte) where
+module _ (p s y : List ℕ) (row byte : ℕ) (lp : length p ≤ row * 2) (ls : length s ≤ byte) where
   run-low : (r : Place) → RunIn p s r → Below (p ++ y) byte row r
   unfolding RunIn
   run-low r h k g =
@@ -80,10 +79,10 @@ module _ {source t p s t₀ p₀ s₀ t1 p1 s1 : List ℕ} (w : WellFormed sourc
       record {
         low = subst (λ (x : List ℕ). DeskLow t1 x 2048 32768) (sym (d .pieces)) (desk-low p s (drop (length p) p₀) 2048 32768 (w .sized .pieces) (w .sized .store) t1 (loaded-readable w f d));
         formed = subst model.Formed (sym loaded-is) (w .desk .formed);
-        few = subst (λ (x : MagicString). piece-count x ≤ 1024) (sym loaded-is) (omega (arith, pieces-any source t p s, few-uses source t p s (w .desk .limits) .0));
+        few = subst (λ (x : MagicString). piece-count x ≤ 1024) (sym loaded-is) (omega (arith, pieces-any source t p s, within-keeps full (magicStringOf source t p s) (desk-full w) .pieces));
         rows = omega (arith, wide .pieces);
         narrow = omega (arith, wide .pieces);
-        bytes = omega (arith, ap plain-bytes loaded-is, plain-of w, small-source source t p s (w .desk .limits), wide .store);
+        bytes = omega (arith, ap plain-bytes loaded-is, plain-of w, short-source w, wide .store);
         small = omega (arith, wide .store);
       }
 

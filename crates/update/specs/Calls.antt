@@ -168,12 +168,12 @@ pub record UpdateScratch (t p s : List ℕ) : Type 0 where
   pub store : length s ≡ 65536
 
 module _ {a b : ℕ} {text : List ℕ} {o : Bool} {n : ℕ} {source t p s t₀ p₀ s₀ t1 p1 s1 t2 s2 : List ℕ} {r : ℕ} (ab : a < b) (w : WellFormed source t p s)
-    (h : refused-before (magicStringOf source t p s) (update-with a b text o) ≡ 0) (f : UpdateScratch t₀ p₀ s₀) (d : Loaded t p s t₀ p₀ s₀ t1 p1 s1) (x : UpdateSteps a b text o n 32768 t1 s1 t2 s2 r)
+    (h : refused-before (magicStringOf source t p s) (update-with a b text o) ≡ 0) (f : UpdateScratch t₀ p₀ s₀) (d : Loaded t p s t₀ p₀ s₀ t1 p1 s1) (x : UpdateSteps a b text o n (length s) t1 s1 t2 s2 r)
     (ln : length source ≡ n) where
   did : (r ≡ 13 → ⊥) → Did (update-past a b text o) source t1 p s t2 p1 s2 r
   did k =
       subst (λ (l : List ℕ). Did (update-past a b text o) source t1 p s t2 l s2 r) (sym (d .pieces))
-      (x .leave k source p s (drop (length p) p₀) (drop (length s) s₀) ln (loaded-readable w (f .scratch) d) (loaded-spans w (f .scratch) d) (d .store) (w .sized .store))
+      (x .leave k source p s (drop (length p) p₀) (drop (length s) s₀) ln (loaded-readable w (f .scratch) d) (loaded-spans w (f .scratch) d) (d .store) refl)
 
   pub update-readable : (r ≡ 13 → ⊥) → Readable t2 p1 s2
   update-readable k = did k .readable

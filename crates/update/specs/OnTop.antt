@@ -1,21 +1,20 @@
 -- `update_with` on the lent tables themselves: the cuts and clears of their rows, and the replacement above all texts in use.
-use mathlib.Core.Path.{_≡_, sym, ap, ap₂, _∙_, subst}
+use mathlib.Core.Path.{_≡_, refl, sym, ap, ap₂, _∙_, subst}
 use mathlib.Core.Bool.{Bool, true}
 use mathlib.Core.List.{List, [], _++_}
-use Prim.Native.Nat.{ℕ, _+_, _*_, _≤_, _<_}
+use Prim.Native.Nat.{ℕ, _+_, _-_, _*_, _/_, _≤_, _<_}
 use native.Mathlib.Omega.{arith}
 use lib.Dec.{eqb}
 use lib.ListN.{length, take, drop, length-take, take-append-drop}
 use lib.Seq.{length-take-le}
-use borrow.Author.Tests.{le-leb}
 use Rattle.table.specs.Order.{entries, countOf}
 use Rattle.model.specs.MagicString.{MagicString}
-use Rattle.model.specs.Limits.{full, within, piece-count, byte-count, replacement-bytes}
+use Rattle.model.specs.Limits.{within, piece-count, byte-count, replacement-bytes}
 use Rattle.model.specs.Call.{update-with, refused-before}
 use Rattle.memory.specs.Layout.{NONE, Place, replacementOf, magicStringOf}
-use Rattle.memory.specs.WellFormed.{Readable, WellFormed, Disjoint, among, runUses, replacementUses}
+use Rattle.memory.specs.WellFormed.{limitsOf, Lengths, Readable, WellFormed, Disjoint, among, runUses, replacementUses}
 use Rattle.memory.specs.Calls.{Ran}
-use Rattle.memory.specs.Laws.{chunk-count}
+use Rattle.memory.specs.Laws.{chunk-count, source-of, keeps-within}
 use Rattle.uses.specs.Counted.{nothing, counts-rows, counts-store, sum-lists}
 use Rattle.uses.specs.Kept.{own-lists}
 use Rattle.closed_forms.specs.Spans.{Cover}
@@ -28,7 +27,6 @@ use Rattle.on_top.specs.Live.{LiveOf, Room, read-below}
 use Rattle.on_top.specs.Apart.{rowUses, storeUses, apart-after, store-uses-front}
 use Rattle.update_rows.specs.Steps.{update-past, update-is}
 use Rattle.update_rows.specs.Replaced.{Replaced, replaced-pieces, replaced-bytes}
-use Rattle.insert_on_top.specs.TopCalls.{no-source}
 use Rattle.update.specs.Calls.{UpdateSteps}
 
 -- ── rows and bytes stay apart ──
@@ -74,13 +72,7 @@ text-few : (s : List ℕ) (x : Place) → replacement-bytes (replacementOf s x) 
 unfolding replacementOf
 text-few s x = bool-elim (eqb (x .0) NONE) (λ e. rw e (omega arith)) (λ e. rw e (simp length-take (omega arith)))
 
-within-few : (t p s : List ℕ) → countOf t ≤ 512 → piece-count (magicStringOf [] t p s) ≤ 1024 → byte-count (magicStringOf [] t p s) ≤ 32768 → within full (magicStringOf [] t p s) ≡ true
-unfolding within
-within-few t p s c a b =
-    let m = magicStringOf [] t p s in
-    rw (no-source t p s, le-leb (length (m .chunks)) 512 (omega (arith, chunk-count [] t p s)), le-leb (piece-count m) 1024 a, le-leb (byte-count m) 32768 b)
-
-module _ (t t' P S S' : List ℕ) (l : Used) (n m : ℕ) (lv : LiveOf t P S l) (rm : Room l m n) (k : Replaced t t' (l .byte, n)) (same : take (l .byte) S' ≡ take (l .byte) S) where
+module _ (t t' P S S' : List ℕ) (l : Used) (n m : ℕ) (lv : LiveOf t P S l) (rm : Room (length t) (length P) (length S) l m n) (k : Replaced t t' (l .byte, n)) (same : take (l .byte) S' ≡ take (l .byte) S) where
   -- the desk before, with the store after
   before : magicStringOf [] t P S' ≡ magicStringOf [] t P S
   before =
@@ -91,21 +83,26 @@ module _ (t t' P S S' : List ℕ) (l : Used) (n m : ℕ) (lv : LiveOf t P S l) (
       ∙ desk-front p s (drop (l .row * 2) P) (drop (l .byte) S') t (lv .readable) .1 []
       ∙ sym (read-below t P S (l .row) (l .byte) (lv .readable) [])
 
-  replaced-within : countOf t' ≤ 512 → within full (magicStringOf [] t' P S') ≡ true
+  replaced-within : countOf t' ≤ length t / 12 - 1 → within (limitsOf t P S) (magicStringOf [] t' P S') ≡ true
   replaced-within few =
-      within-few t' P S' few (omega (arith, replaced-pieces k P S', ap piece-count before, lv .pieces, rm .pieces))
-      (omega (arith, replaced-bytes k P S', text-few S' (l .byte, n), ap byte-count before, lv .bytes, rm .bytes))
+      keeps-within
+      (record {
+        source = rw (source-of [] t' P S') (omega arith);
+        chunks = rw (chunk-count [] t' P S') few;
+        pieces = omega (arith, replaced-pieces k P S', ap piece-count before, lv .pieces, rm .pieces);
+        bytes = omega (arith, replaced-bytes k P S', text-few S' (l .byte, n), ap byte-count before, lv .bytes, rm .bytes);
+      })
 
 -- ── the call ──
 pub update-top-ran : {a b : ℕ} {text : List ℕ} {o : Bool} {n : ℕ} {source t P S t' S' : List ℕ} {l : Used} {r : ℕ} → a < b → WellFormed source t P S
-    → refused-before (magicStringOf source t P S) (update-with a b text o) ≡ 0 → LiveOf t P S l → Room l (countOf t + 2) (length text) → UpdateSteps a b text o n (l .byte) t S t' S' r
+    → refused-before (magicStringOf source t P S) (update-with a b text o) ≡ 0 → LiveOf t P S l → Room (length t) (length P) (length S) l (countOf t + 2) (length text) → UpdateSteps a b text o n (l .byte) t S t' S' r
     → length source ≡ n → length t' ≡ length t → length S' ≡ length S → Ran (update-with a b text o) source t P S t' P S' r
 update-top-ran {a} {b} {text} {o} {n} {source} {t} {P} {S} {t'} {S'} {l} {r} ab w h lv rm x ln lt ls =
     let p = take (l .row * 2) P in
     let s = take (l .byte) S in
     let y = drop (l .row * 2) P in
     let z = drop (l .byte) S in
-    let no = x .short (omega (arith, rm .places)) in
+    let no = x .short (omega (arith, rm .places, w .sized .store)) in
     let same = read-below t P S (l .row) (l .byte) (lv .readable) source in
     let sp : Spans source t p s = subst (λ (m : MagicString). Cover source (m .chunks)) same (formed-spans w) in
     let g : Did (update-past a b text o) source t p s t' P S' r =
@@ -114,7 +111,7 @@ update-top-ran {a} {b} {text} {o} {n} {source} {t} {P} {S} {t'} {S'} {l} {r} ab 
     ran-in-place w h
     (record { readable = g .readable; result = update-is a b text o (magicStringOf source t P S) ab ∙ ap (update-past a b text o) same ∙ g .result })
     (x .writes no)
-    (record { chunks = lt ∙ w .sized .chunks; pieces = w .sized .pieces; store = ls ∙ w .sized .store })
+    (record { chunks = lt; pieces = refl; store = ls })
     (x .replaced .each (w .each))
     (replaced-apart t t' P S (l .row) (l .byte) (length text) (lv .readable) (lv .row) (lv .byte) (x .replaced) (w .disjoint))
     (replaced-within t t' P S S' l (length text) (countOf t + 2) lv rm (x .replaced) (x .below (lv .byte)) (omega (arith, x .count, rm .chunks)))

@@ -65,7 +65,7 @@ fn update_by(
         (now (chunks .exit)) (now (pieces .exit)) (now (store .exit)) r ⌝ }
 {
     frame::load(chunks, pieces, store, t, p, s);
-    let r = update_steps(text, t, s, source.len(), start, end, overwrite, 32768);
+    let r = update_steps(text, t, s, source.len(), start, end, overwrite, store.len());
     if r == 13 {
         return r;
     }
@@ -129,7 +129,14 @@ fn update_past(
 {
     let l = on_top::live(chunks, pieces, store);
     let z = table::get_row(chunks, 0);
-    if on_top::has_room(l, z.start + 2, text.len()) {
+    if on_top::has_room(
+        l,
+        z.start + 2,
+        text.len(),
+        chunks.len(),
+        pieces.len(),
+        store.len(),
+    ) {
         return update_steps(
             text,
             chunks,

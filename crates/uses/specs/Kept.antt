@@ -10,10 +10,10 @@ use borrow.Author.Tests.{leb-true, le-leb}
 use Rattle.table.specs.Table.{rowAt}
 use Rattle.table.specs.Order.{entryAt, entries, countOf, count-entries}
 use Rattle.model.specs.Text.{sum}
-use Rattle.model.specs.Limits.{full, within, piece-count, byte-count, replacement-bytes}
-use Rattle.model.specs.Lists.{and-left, and-right}
+use Rattle.model.specs.Limits.{Limits, within, piece-count, byte-count, replacement-bytes}
 use Rattle.memory.specs.Layout.{Place, runOf, replacementOf, chunkOf, magicStringOf}
 use Rattle.memory.specs.WellFormed.{HoldsEach, Disjoint, among, runUses, replacementUses}
+use Rattle.memory.specs.Laws.{source-of, chunk-count, within-keeps, keeps-within}
 use Rattle.rows.specs.Insert.{runsOf}
 use Rattle.uses.specs.Counted.{countIn, Counts, nothing, counts-rows, counts-store, counts-pieces, counts-bytes, sum-lists, sum-pieces, sum-bytes}
 
@@ -21,6 +21,15 @@ pub record Kept (t t' : List ℕ) : Type 0 where
   pub each : HoldsEach t → HoldsEach t'
   pub desk : runsOf (rowAt t' 0) ≡ runsOf (rowAt t 0)
   pub less : (f g : Place → ℕ) → Counts f g → sum (countIn f g) (entries t') ≤ sum (countIn f g) (entries t)
+
+-- the source is no part of these counts
+pub pieces-any : (source t p s : List ℕ) → piece-count (magicStringOf source t p s) ≡ piece-count (magicStringOf [] t p s)
+unfolding magicStringOf
+pieces-any source t p s = refl
+
+pub bytes-any : (source t p s : List ℕ) → byte-count (magicStringOf source t p s) ≡ byte-count (magicStringOf [] t p s)
+unfolding magicStringOf
+bytes-any source t p s = refl
 
 pub kept-same : (t : List ℕ) → Kept t t
 kept-same t = record { each = λ h. h; desk = refl; less = λ f g c. omega arith }
@@ -66,16 +75,13 @@ module _ {t t' : List ℕ} (k : Kept t t') where
       omega (arith, own-lists t t' (k .desk) f, sum-bytes p s (entries t), sum-bytes p s (entries t'), k .less f g (counts-bytes p s))
 
   -- so the limits are kept where the chunks are few enough
-  pub kept-within : (source p s : List ℕ) → within full (magicStringOf source t p s) ≡ true → countOf t' ≤ 512 → within full (magicStringOf [] t' p s) ≡ true
-  unfolding within magicStringOf
-  kept-within source p s h c =
-      let m = magicStringOf source t p s in
-      let n = magicStringOf [] t' p s in
-      let u = and-right (leb (length (m .chunks)) 512) _ (and-right (leb (length source) 16384) _ h) in
-      let a = leb-true (piece-count m) 1024 (and-left (leb (piece-count m) 1024) _ u) in
-      let b = leb-true (byte-count m) 32768 (and-right (leb (piece-count m) 1024) _ u) in
-      rw (
-        le-leb (length (n .chunks)) 512 (omega (arith, length-map (entries t') (chunkOf p s), count-entries t')),
-        le-leb (piece-count n) 1024 (omega (arith, a, fewer-pieces p s)),
-        le-leb (byte-count n) 32768 (omega (arith, b, fewer-bytes p s)),
-      )
+  pub kept-within : (l : Limits) (source p s : List ℕ) → within l (magicStringOf source t p s) ≡ true → countOf t' ≤ l .chunks → within l (magicStringOf [] t' p s) ≡ true
+  kept-within l source p s h c =
+      let q = within-keeps l (magicStringOf source t p s) h in
+      keeps-within
+      (record {
+        source = rw (source-of [] t' p s) (omega arith);
+        chunks = rw (chunk-count [] t' p s) c;
+        pieces = omega (arith, q .pieces, fewer-pieces p s, pieces-any source t p s);
+        bytes = omega (arith, q .bytes, fewer-bytes p s, bytes-any source t p s);
+      })

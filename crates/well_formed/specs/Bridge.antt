@@ -16,12 +16,11 @@ use Rattle.table.specs.Ring.{Each}
 use Rattle.table.specs.Order.{Entry, entryAt, order, countOf, Linked, order-length}
 use Rattle.model.specs.Text.{sum}
 use Rattle.model.specs.Chunk.{Chunk, Span}
-use Rattle.model.specs.Limits.{full, within, chunk-pieces, piece-count, byte-count}
+use Rattle.model.specs.Limits.{chunk-pieces, piece-count, byte-count}
 use Rattle.model.specs.WellFormed.{Valid, ValidReplacement, ValidTexts, covers, Tiled, Covered, Formed}
-use Rattle.model.specs.Lists.{both, and-left, and-right}
 use Rattle.memory.specs.Layout.{NONE, Place, bytesAt, pieceAt, runOf, replacementOf, textsOf, chunkOf, magicStringOf}
 use Rattle.memory.specs.WellFormed.{RunIn, ReplacementIn, RunsIn, EntryIn, Readable, pieceUses, byteUses, Disjoint, WellFormed}
-use Rattle.memory.specs.Laws.{all-tabulate, tabulate-all, length-tabulate}
+use Rattle.memory.specs.Laws.{all-tabulate, tabulate-all, length-tabulate, chunk-count, source-of, keeps-within, keeps-desk}
 use Rattle.counts.specs.Counts.{sum-to, indicator}
 use Rattle.counts.specs.Sums.{sum-same}
 use Rattle.counts.specs.Once.{In, linked-once}
@@ -177,37 +176,6 @@ module _ (t p s : List ℕ) (l : Linked t) where
       let q = chunks-all t l p s (c .spans) k h in
       record { start = q .start-between; end = q .end-between }
 
--- ── the limits ──
--- what the limits count
-pub record Kept (source t p s : List ℕ) : Type 0 where
-  pub fits : length source ≤ 16384
-  pub chunks : countOf t ≤ 512
-  pub pieces : piece-count (magicStringOf source t p s) ≤ 1024
-  pub bytes : byte-count (magicStringOf source t p s) ≤ 32768
-
-module _ (source t p s : List ℕ) where
-  kept-within : Kept source t p s → within full (magicStringOf source t p s) ≡ true
-  unfolding within magicStringOf
-  kept-within k =
-      let m = magicStringOf source t p s in
-      let c : leb (length (m .chunks)) 512 ≡ true = le-leb (length (m .chunks)) 512 (rw (length-chunks t p s) (k .chunks)) in
-      both (le-leb (length source) 16384 (k .fits))
-      (both c
-      (both (le-leb (piece-count m) 1024 (k .pieces)) (le-leb (byte-count m) 32768 (k .bytes))))
-
-  within-kept : within full (magicStringOf source t p s) ≡ true → Kept source t p s
-  unfolding within magicStringOf
-  within-kept w =
-      let m = magicStringOf source t p s in
-      let r = and-right (leb (length source) 16384) _ w in
-      let r2 = and-right (leb (length (m .chunks)) 512) _ r in
-      record {
-        fits = leb-true (length source) 16384 (and-left _ _ w);
-        chunks = rw (length-chunks t p s) at (leb-true (length (m .chunks)) 512 (and-left _ _ r));
-        pieces = leb-true (piece-count m) 1024 (and-left _ _ r2);
-        bytes = leb-true (byte-count m) 32768 (and-right (leb (piece-count m) 1024) _ r2);
-      }
-
 -- ── the whole sentence ──
 module _ (source t p s : List ℕ) where
   rows-readable : Linked t → RunsApart t (countOf t) (length p) → TextsApart t p s (countOf t) → Readable t p s
@@ -251,12 +219,12 @@ module _ (source t p s : List ℕ) where
         disjoint = d;
         desk = record {
           formed = rows-desk h;
-          limits = kept-within source t p s
+          limits = keeps-within
               (record {
-                fits = h .shaped .fits;
-                chunks = omega (arith, l .room, z .chunks);
+                source = rw (source-of source t p s) (h .shaped .fits);
+                chunks = rw (chunk-count source t p s) (omega (arith, l .room));
                 pieces = rw (count-is source t p s l) (h .pieced .count);
-                bytes = omega (arith, bytes-fit source t p s r d, z .store);
+                bytes = bytes-fit source t p s r d;
               });
         };
       }
@@ -290,9 +258,9 @@ module _ (source t p s : List ℕ) where
       let l = r .linked in
       let d = w .disjoint in
       let f = w .desk .formed in
-      let k = within-kept source t p s (w .desk .limits) in
+      let k = keeps-desk w in
       record {
-        shaped = record { sized = w .sized; fits = k .fits };
+        shaped = record { sized = w .sized; fits = rw (source-of source t p s) at (k .source) };
         text = formed-text f;
         chunked = formed-chunked l f;
         pieced = record {

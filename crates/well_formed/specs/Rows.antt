@@ -2,7 +2,7 @@
 use mathlib.Core.Path.{_≡_}
 use mathlib.Core.Bool.{true}
 use mathlib.Core.List.{List}
-use Prim.Native.Nat.{ℕ, _≤_}
+use Prim.Native.Nat.{ℕ, _/_, _≤_}
 use lib.ListN.{length}
 use Rattle.utf8.specs.Rfc3629.{utf8}
 use Rattle.table.specs.Order.{countOf, Linked}
@@ -10,7 +10,7 @@ use Rattle.memory.specs.WellFormed.{Sized}
 use Rattle.spans.specs.Spans.{Spans, Edges}
 use Rattle.marks.specs.Marks.{RunsApart, pieceTotal, TextsApart}
 
--- tables of the layout's lengths, and a source that is short enough
+-- tables of a desk's lengths, and a source that is short enough
 pub record Shaped (source t p s : List ℕ) : Type 0 where
   pub sized : Sized t p s
   pub fits : length source ≤ 16384
@@ -23,7 +23,7 @@ pub record Chunked (source t : List ℕ) : Type 0 where
 
 -- runs and texts
 pub record Pieced (t p s : List ℕ) : Type 0 where
-  pub count : pieceTotal t (countOf t) ≤ 1024
+  pub count : pieceTotal t (countOf t) ≤ length p / 4
   pub runs : RunsApart t (countOf t) (length p)
   pub texts : TextsApart t p s (countOf t)
 

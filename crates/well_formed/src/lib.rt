@@ -5,13 +5,38 @@ ghost use Prim.Native.Nat.{_+_, _*_, _≤_};
 ghost use lib.ListN.{length};
 ghost use Rattle.utf8.specs.Rfc3629.{utf8 as isText};
 ghost use Rattle.table.specs.Order.{countOf};
-ghost use Rattle.memory.specs.WellFormed.{WellFormed};
+ghost use Rattle.memory.specs.WellFormed.{Sized, Full, WellFormed, Taken};
 ghost use Rattle.counts.specs.Counts.{Decides};
 ghost use Rattle.well_formed.specs.Rows.{Shaped, Chunked, Pieced};
 
-// Whether the tables have the layout's lengths and the source is short enough.
-fn shaped(source: &[u8], chunks: &[u32], pieces: &[u32], store: &[u8]) -> bool
-    ensures { λ r. ⌜ Decides r (Shaped (now (source .entry)) (now (chunks .entry)) (now (pieces .entry)) (now (store .entry))) ⌝ }
+// Whether the tables have whole rows, a chunk's at least, and are not longer than the full sizes.
+fn sized(chunks: &[u32], pieces: &[u32], store: &[u8]) -> bool
+    ensures { λ r. ⌜ Decides r (Sized (now (chunks .entry)) (now (pieces .entry)) (now (store .entry))) ⌝ }
+{
+    if chunks.len() % 12 != 0 {
+        return false;
+    }
+    if pieces.len() % 2 != 0 {
+        return false;
+    }
+    if chunks.len() < 24 {
+        return false;
+    }
+    if chunks.len() > 6156 {
+        return false;
+    }
+    if pieces.len() > 4096 {
+        return false;
+    }
+    if store.len() > 32768 {
+        return false;
+    }
+    true
+}
+
+// Whether the tables have the full sizes.
+fn full_size(chunks: &[u32], pieces: &[u32], store: &[u8]) -> bool
+    ensures { λ r. ⌜ Decides r (Full (now (chunks .entry)) (now (pieces .entry)) (now (store .entry))) ⌝ }
 {
     if chunks.len() != 6156 {
         return false;
@@ -22,10 +47,17 @@ fn shaped(source: &[u8], chunks: &[u32], pieces: &[u32], store: &[u8]) -> bool
     if store.len() != 32768 {
         return false;
     }
+    true
+}
+
+// Whether the tables have sizes of a desk and the source is short enough.
+fn shaped(source: &[u8], chunks: &[u32], pieces: &[u32], store: &[u8]) -> bool
+    ensures { λ r. ⌜ Decides r (Shaped (now (source .entry)) (now (chunks .entry)) (now (pieces .entry)) (now (store .entry))) ⌝ }
+{
     if source.len() > 16384 {
         return false;
     }
-    true
+    sized(chunks, pieces, store)
 }
 
 // The count of chunks, the first word of row 0.
@@ -54,19 +86,20 @@ fn chunked(source: &[u8], chunks: &[u32]) -> bool
 // Whether the pieces are not too many, and runs and texts lie inside, apart, and are UTF-8.
 fn pieced(chunks: &[u32], pieces: &[u32], store: &[u8]) -> bool
     requires { ⌜ countOf (now chunks) * 12 + 12 ≤ length (now chunks) ⌝ }
-    requires { ⌜ (length (now pieces) ≡ 2048 * 2) × (length (now store) ≡ 32768) ⌝ }
+    requires { ⌜ Sized (now chunks) (now pieces) (now store) ⌝ }
     ensures { λ r. ⌜ Decides r (Pieced (now (chunks .entry)) (now (pieces .entry)) (now (store .entry))) ⌝ }
 {
     let n = count(chunks);
-    if runs_apart::pieces_within(chunks, n) {
-        if runs_apart::runs_apart(chunks, n) {
+    if runs_apart::pieces_within(chunks, n, pieces.len() / 4) {
+        if runs_apart::runs_apart(chunks, n, pieces.len() / 2) {
             return texts_apart::texts_apart(chunks, n, pieces, store);
         }
     }
     false
 }
 
-pub fn well_formed(source: &[u8], chunks: &[u32], pieces: &[u32], store: &[u8]) -> bool
+// Whether memory of any size up to the full one holds a well-formed desk.
+pub fn holds_desk(source: &[u8], chunks: &[u32], pieces: &[u32], store: &[u8]) -> bool
     ensures { λ r. ⌜ Decides r (WellFormed (now (source .entry)) (now (chunks .entry)) (now (pieces .entry)) (now (store .entry))) ⌝ }
 {
     if shaped(source, chunks, pieces, store) {
@@ -75,6 +108,16 @@ pub fn well_formed(source: &[u8], chunks: &[u32], pieces: &[u32], store: &[u8]) 
                 return pieced(chunks, pieces, store);
             }
         }
+    }
+    false
+}
+
+// The check of exported calls: a well-formed desk in tables of the full sizes.
+pub fn well_formed(source: &[u8], chunks: &[u32], pieces: &[u32], store: &[u8]) -> bool
+    ensures { λ r. ⌜ Decides r (Taken (now (source .entry)) (now (chunks .entry)) (now (pieces .entry)) (now (store .entry))) ⌝ }
+{
+    if full_size(chunks, pieces, store) {
+        return holds_desk(source, chunks, pieces, store);
     }
     false
 }

@@ -1,15 +1,25 @@
 use mathlib.Core.Path.{_≡_, sym, _∙_}
+use native.Mathlib.Omega.{arith}
 use Rattle.frame.proofs.Counting.{finish-fits, finish-breaks}
 use borrow.Author.Needs.{needs}
 use Rattle.frame.proofs.finish.Statement.{statement}
 use Rattle.frame.proofs.finish.Tie as tie
-use Rattle.frame.proofs.finish.Reads as reads
-use Rattle.frame.proofs.finish.Lts as lts
-use Rattle.frame.proofs.keeps.Reads as keeps-reads
-use Rattle.rebuild.proofs.rebuild.Reads as rebuild-reads
+
+sub-most : tie.Need-sub-most
+sub-most c =
+    let start = c .before .before .before .before .before .before in
+    omega (arith, start .pre .1 .some)
+
+cast-most : tie.Need-cast-most
+cast-most c =
+    let start = c .before .before .before .before .before .before in
+    omega (arith, start .pre .1 .chunks)
 
 keeps-requires : tie.Need-keeps-requires
-keeps-requires c κs = search needs
+keeps-requires c κs =
+    let start = c .before .before .before .before .before .before in
+    let z = start .pre .1 in
+    (start .pre .0, (omega (arith, z .chunks), omega (arith, z .pieces), z .store))
 
 rebuild-requires : tie.Need-rebuild-requires
 rebuild-requires c κs =
@@ -32,7 +42,7 @@ returns c =
     let keeps = c .before .before .before .before .before .before .before .before .before .before .before .keeps in
     let if1 = c .before .before .before .before .before .before .before .before .before .before .if1 in
     let rebuild = c .before .before .before .before .before .before .rebuild in
-    finish-fits (sym (keeps .ensures) ∙ if1 .taken) (rebuild .ensures)
+    finish-fits (sym (keeps .ensures) ∙ if1 .taken) (record { chunks = rebuild .kept .1 .1 .1 .0; pieces = rebuild .kept .1 .1 .1 .1 .0; store = rebuild .kept .1 .1 .1 .1 .1 .0 }) (rebuild .ensures)
 
 returns-2 : tie.Need-returns-2
 returns-2 c =
@@ -44,6 +54,8 @@ pub finish-spec : {M : Type 1} → statement M
 finish-spec =
     tie.close
     (tie.spec
+    sub-most
+    cast-most
     keeps-requires
     rebuild-requires
     same-length

@@ -17,10 +17,10 @@ use Rattle.rebuild.proofs.own_row.Reads as own-row-reads
 use Rattle.table.proofs.get_row.Reads as get-row-reads
 
 abbrev Inv-loop : tie.InvT-loop
-Inv-loop t p s n pieces₀ bytes₀ cur₀ k₀ pieces bytes cur k = (n ≡ countOf t) × Loop t p s n k cur pieces bytes
+Inv-loop t p s cmax pmax bmax n pieces₀ bytes₀ cur₀ k₀ pieces bytes cur k = (n ≡ countOf t) × Loop t p s n k cur pieces bytes
 
 abbrev μ-loop : tie.MeasureT-loop
-μ-loop t p s n pieces₀ bytes₀ cur₀ k₀ pieces bytes cur k = n - k
+μ-loop t p s cmax pmax bmax n pieces₀ bytes₀ cur₀ k₀ pieces bytes cur k = n - k
 
 get-row-requires : tie.Need-get-row-requires Inv-loop μ-loop
 get-row-requires c κs =
@@ -32,7 +32,7 @@ returns c =
     let get-row = c .before .get-row in
     let if1 = c .if1 in
     let a = start .args in
-    too-many (a .t .now) (a .p .now) (a .s .now) (omega (arith, ap (λ (r : Row). r .start) (get-row .ensures), if1 .taken))
+    too-many (a .t .now) (a .p .now) (a .s .now) (a .cmax) _ _ (omega (arith, ap (λ (r : Row). r .start) (get-row .ensures), if1 .taken))
 
 own-row-requires : tie.Need-own-row-requires Inv-loop μ-loop
 own-row-requires c κs = search needs
@@ -42,7 +42,7 @@ count-row-requires c κs =
     let own-row = c .own-row in
     let get-row = c .before .before .get-row in
     let start = c .before .before .before .before .before .before in
-    (rw (own-row .ensures, get-row .ensures) (own-in (start .pre)), omega arith)
+    (rw (own-row .ensures, get-row .ensures) (own-in (start .pre .0)), omega arith)
 
 loop-holds : tie.Need-loop-holds Inv-loop μ-loop
 loop-holds c =
@@ -59,7 +59,7 @@ get-row-requires-2 c κs =
     let start = c .before .before .before .before .before .before .before .before .before in
     let loop = c .before .loop in
     let loop-test = c .loop-test in
-    count-row (start .pre) (loop-next (loop .inv .1) (loop-test .taken))
+    count-row (start .pre .0) (loop-next (loop .inv .1) (loop-test .taken))
 
 count-row-requires-2 : tie.Need-count-row-requires-2 Inv-loop μ-loop
 count-row-requires-2 c κs =
@@ -67,13 +67,14 @@ count-row-requires-2 c κs =
     let start = c .before .before .before .before .before .before .before .before .before .before in
     let loop = c .before .before .loop in
     let loop-test = c .before .loop-test in
-    (rw (get-row2 .ensures) (count-in (start .pre) (loop-next (loop .inv .1) (loop-test .taken))), (omega (arith, loop .inv .1 .at .pieces-are), omega (arith, loop .inv .1 .at .bytes-are)))
+    (rw (get-row2 .ensures) (count-in (start .pre .0) (loop-next (loop .inv .1) (loop-test .taken))), (omega (arith, loop .inv .1 .at .pieces-are), omega (arith, loop .inv .1 .at .bytes-are)))
 
 add-k : tie.Need-add-k Inv-loop μ-loop
 add-k c =
     let loop-test = c .before .before .loop-test in
     let if1 = c .before .before .before .before .before .before .if1 in
-    omega (arith, loop-test .taken, if1 .left)
+    let start = c .before .before .before .before .before .before .before .before .before .before .before in
+    omega (arith, loop-test .taken, if1 .left, start .pre .1 .0)
 
 loop-less : tie.Need-loop-less Inv-loop μ-loop
 loop-less c =
@@ -89,7 +90,7 @@ loop-again c =
     let start = c .before .before .before .before .before .before .before .before .before .before .before in
     let e = get-row2 .ensures in
     let d = rw e at (count-row2 .ensures) in
-    (loop .inv .0, record { below = omega (arith, loop-test .taken); done = loop .inv .1 .done ++ (loop .cur ∷ []); at = rw (ap (λ (r : Row). r .next) e) (count-more (start .pre) (loop-next (loop .inv .1) (loop-test .taken)) _ _ (d .0) (d .1)) })
+    (loop .inv .0, record { below = omega (arith, loop-test .taken); done = loop .inv .1 .done ++ (loop .cur ∷ []); at = rw (ap (λ (r : Row). r .next) e) (count-more (start .pre .0) (loop-next (loop .inv .1) (loop-test .taken)) _ _ (d .0) (d .1)) })
 
 returns-2 : tie.Need-returns-2 Inv-loop μ-loop
 returns-2 c =
@@ -97,7 +98,8 @@ returns-2 c =
     let loop-test = c .before .loop-test in
     let if1 = c .before .before .before .before .before .if1 in
     let if2 = c .if2 in
-    too-many-pieces (loop .inv .1) (loop-test .left) (omega (arith, if1 .left, loop .inv .0)) (if2 .taken)
+    let start = c .before .before .before .before .before .before .before .before .before .before in
+    too-many-pieces (loop .inv .1) (loop-test .left) (omega (arith, if1 .left, loop .inv .0)) (start .pre .1 .1) (start .pre .1 .2) (if2 .taken)
 
 returns-3 : tie.Need-returns-3 Inv-loop μ-loop
 returns-3 c =
@@ -105,7 +107,8 @@ returns-3 c =
     let loop-test = c .before .loop-test in
     let if1 = c .before .before .before .before .before .if1 in
     let if2 = c .if2 in
-    rest-is (loop .inv .1) (loop-test .left) (omega (arith, if1 .left, loop .inv .0)) (if2 .left)
+    let start = c .before .before .before .before .before .before .before .before .before .before in
+    rest-is (loop .inv .1) (loop-test .left) (omega (arith, if1 .left, loop .inv .0)) (start .pre .1 .1) (start .pre .1 .2) (if2 .left)
 
 pub keeps-spec : {M : Type 1} → statement M
 keeps-spec =

@@ -3,7 +3,6 @@ use Prim.Native.Nat.{ℕ, _+_, _*_, _≤_}
 use native.Mathlib.Omega.{arith}
 use lib.ListN.{length, take}
 use Rattle.table.specs.declared.Row.{Row}
-use Rattle.frame.specs.Frame.{few-chunks}
 use Rattle.on_top.specs.Live.{Room, live-small}
 use Rattle.insert_on_top.specs.TopCalls.{bare-within}
 use borrow.Author.Needs.{needs}
@@ -20,7 +19,7 @@ use Rattle.table.proofs.get_row.Reads as get-row-reads
 live-requires : tie.Need-live-requires
 live-requires c κs =
     let start = c .before .before .before .before .before .before .before .before in
-    (start .pre .readable, bare-within (start .pre))
+    (start .pre .readable, (bare-within (start .pre), start .pre .sized))
 
 get-row-requires : tie.Need-get-row-requires
 get-row-requires c κs = search needs
@@ -30,13 +29,13 @@ add-has-room c =
     let start = c .before .before .before .before .before .before .before .before .before .before .before .before in
     let get-row = c .before .get-row in
     let a = start .args in
-    omega (arith, ap (λ (r : Row). r .start) (get-row .ensures), few-chunks (a .source .now) (a .chunks .now) (a .pieces .now) (a .store .now) (start .pre .desk .limits))
+    omega (arith, ap (λ (r : Row). r .start) (get-row .ensures), start .pre .readable .linked .room, start .pre .sized .chunks)
 
 has-room-requires : tie.Need-has-room-requires
 has-room-requires c κs =
     let start = c .before .before .before .before .before .before .before .before .before .before .before .before in
     let live = c .before .before .before .live in
-    live-small (start .pre) (live .ensures)
+    (live-small (live .ensures), start .pre .sized .some)
 
 insert-on-top-requires : tie.Need-insert-on-top-requires
 insert-on-top-requires c κs =
@@ -46,7 +45,7 @@ insert-on-top-requires c κs =
     let has-room = c .before .before .before .before .has-room in
     let if1 = c .before .before .before .if1 in
     let a = start .args in
-    (start .pre, (live .ensures, subst (λ (r : Row). Room (live .result) (r .start + 1) (length (a .text .now))) (get-row .ensures) (has-room .ensures .0 (if1 .taken))))
+    (start .pre, (live .ensures, subst (λ (r : Row). Room (length (a .chunks .now)) (length (a .pieces .now)) (length (a .store .now)) (live .result) (r .start + 1) (length (a .text .now))) (get-row .ensures) (has-room .ensures .0 (if1 .taken))))
 
 same-length : tie.Need-same-length
 same-length c = search needs
@@ -61,7 +60,7 @@ returns : tie.Need-returns
 returns c = search needs
 
 insert-scratch-requires : tie.Need-insert-scratch-requires
-insert-scratch-requires c κs = search needs
+insert-scratch-requires c κs = c .before .before .before .before .before .before .before .before .before .before .before .before .before .before .before .before .before .pre
 
 same-length-4 : tie.Need-same-length-4
 same-length-4 c = search needs

@@ -18,12 +18,12 @@ use Rattle.on_top.proofs.live.Reads as live-reads
 live-requires : tie.Need-live-requires
 live-requires c κs =
     let start = c .before .before .before .before .before .before .before .before in
-    (start .pre .readable, bare-within (start .pre))
+    (start .pre .readable, (bare-within (start .pre), start .pre .sized))
 
 has-room-requires : tie.Need-has-room-requires
 has-room-requires c κs =
     let start = c .before .before .before .before .before .before .before .before .before in
-    live-small (start .pre) (c .live .ensures)
+    (live-small (c .live .ensures), start .pre .sized .some)
 
 add-on-top-requires : tie.Need-add-on-top-requires
 add-on-top-requires c κs =

@@ -1,6 +1,5 @@
 use mathlib.Core.Path.{ap}
 use native.Mathlib.Omega.{arith}
-use Rattle.rows.specs.Insert.{startF}
 use Rattle.in_place.specs.InPlace.{lent-roomy}
 use Rattle.clear_range.specs.Range.{range-in-place}
 use borrow.Author.Needs.{needs}
@@ -10,28 +9,29 @@ use Rattle.movement.proofs.range_with.Reads as reads
 use Rattle.movement.proofs.range_with.Lts as lts
 use Rattle.clear_range.proofs.clear_range.Reads as clear-range-reads
 use Rattle.range_scratch.proofs.range_scratch.Reads as range-scratch-reads
-use Rattle.table.proofs.get_row.Reads as get-row-reads
 
-get-row-requires : tie.Need-get-row-requires
-get-row-requires c κs = search needs
+has-rows-requires : tie.Need-has-rows-requires
+has-rows-requires c κs =
+    let start = c .before .before .before .before .before in
+    (start .pre .0 .sized .some, omega arith)
 
 clear-range-requires : tie.Need-clear-range-requires
 clear-range-requires c κs =
-    let start = c .before .before .before .before .before .before .before .before .before in
-    let get-row = c .before .before .before .get-row in
+    let start = c .before .before .before .before .before .before .before .before in
+    let has-rows = c .before .before .has-rows in
     let if1 = c .before .if1 in
-    (lent-roomy 2 (start .pre .0) (omega (arith, if1 .taken, ap startF (get-row .ensures))), start .pre .1)
+    (lent-roomy 2 (start .pre .0) (has-rows .ensures (if1 .taken)), start .pre .1)
 
 same-length : tie.Need-same-length
 same-length c = search needs
 
 returns : tie.Need-returns
 returns c =
-    let start = c .before .before .before .before .before .before .before .before .before .before .before .before in
-    let get-row = c .before .before .before .before .before .before .get-row in
+    let start = c .before .before .before .before .before .before .before .before .before .before .before in
+    let has-rows = c .before .before .before .before .before .has-rows in
     let if1 = c .before .before .before .before .if1 in
     let clear-range = c .before .before .clear-range in
-    range-in-place (start .pre .0) (omega (arith, if1 .taken, ap startF (get-row .ensures))) (clear-range .ensures) (clear-range .kept .0)
+    range-in-place (start .pre .0) (clear-range .ensures) (clear-range .kept .0)
 
 range-scratch-requires : tie.Need-range-scratch-requires
 range-scratch-requires c κs = search needs
@@ -52,7 +52,7 @@ pub range-with-spec : {M : Type 1} → statement M
 range-with-spec =
     tie.close
     (tie.spec
-    get-row-requires
+    has-rows-requires
     clear-range-requires
     same-length
     returns

@@ -70,7 +70,7 @@ add-k c =
     let loop = c .before .before .before .loop in
     let start = c .before .before .before .before .before .before .before .before .before .before in
     let a = start .args in
-    omega (arith, loop-test .taken, loop .inv .0, few-chunks [] (a .t .now) (a .p .now) (a .s .now) (start .pre .1))
+    omega (arith, loop-test .taken, loop .inv .0, start .pre .0 .linked .room, start .pre .1 .1 .chunks)
 
 loop-less : tie.Need-loop-less Inv-loop μ-loop
 loop-less c =
@@ -93,7 +93,7 @@ returns c =
     let start = c .before .before .before .before .before .before .before .before in
     let loop = c .before .loop in
     let loop-test = c .loop-test in
-    live-end (loop .inv .1) (loop-test .left) (start .pre .0) (start .pre .1)
+    live-end (loop .inv .1) (loop-test .left) (start .pre .0) (start .pre .1 .0) (start .pre .1 .1)
 
 pub live-spec : {M : Type 1} → statement M
 live-spec =

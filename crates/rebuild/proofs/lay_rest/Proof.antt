@@ -3,6 +3,7 @@ use Prim.Native.Nat.{_-_}
 use native.Mathlib.Nat.{sub-zero}
 use native.Mathlib.Omega.{arith}
 use Rattle.table.specs.declared.Row.{Row}
+use Rattle.memory.specs.Laws.{same-lengths}
 use Rattle.rebuild.proofs.LayAll.{Loop, loop-row, loop-in, loop-room, loop-more, loop-done}
 use borrow.Author.Needs.{needs}
 use Rattle.rebuild.proofs.lay_rest.Statement.{statement}
@@ -16,7 +17,7 @@ use Rattle.table.proofs.put_row.Reads as put-row-reads
 
 abbrev Inv-loop : tie.InvT-loop
 Inv-loop t p s chunks₀ pieces₀ store₀ n first byte0 row0 k₀ cur₀ byte₀ row₀ chunks pieces store k cur byte row =
-    Loop t p s n k cur byte row chunks pieces store
+    Loop t p s n k cur byte row chunks₀ pieces₀ store₀ chunks pieces store
 
 abbrev μ-loop : tie.MeasureT-loop
 μ-loop t p s chunks₀ pieces₀ store₀ n first byte0 row0 k₀ cur₀ byte₀ row₀ chunks pieces store k cur byte row =
@@ -25,14 +26,14 @@ abbrev μ-loop : tie.MeasureT-loop
 loop-holds : tie.Need-loop-holds Inv-loop μ-loop
 loop-holds c =
     let start = c .before .before .before .before .before .before in
-    record { below = omega arith; sized = start .pre .1 .1 .0; at = rw sub-zero (start .pre .1 .0) }
+    record { below = omega arith; lengths = same-lengths _ _ _; at = rw sub-zero (start .pre .1 .0) }
 
 get-row-requires : tie.Need-get-row-requires Inv-loop μ-loop
 get-row-requires c κs =
     let start = c .before .before .before .before .before .before .before .before in
     let loop = c .before .loop in
     let loop-test = c .loop-test in
-    loop-row (start .pre .0) (loop .inv) (loop-test .taken)
+    loop-row (start .pre .0) (start .pre .1 .1 .0) (loop .inv) (loop-test .taken)
 
 lay-row-requires : tie.Need-lay-row-requires Inv-loop μ-loop
 lay-row-requires c κs =
@@ -41,32 +42,32 @@ lay-row-requires c κs =
     let loop = c .before .before .before .before .loop in
     let loop-test = c .before .before .before .loop-test in
     let e = get-row .ensures in
-    (rw e (loop-in (start .pre .0) (loop .inv) (loop-test .taken)), rw e (loop-room (start .pre .0) (loop .inv) (loop-test .taken)))
+    (rw e (loop-in (start .pre .0) (start .pre .1 .1 .0) (loop .inv) (loop-test .taken)), rw e (loop-room (start .pre .0) (start .pre .1 .1 .0) (loop .inv) (loop-test .taken)))
 
 add-put-row : tie.Need-add-put-row Inv-loop μ-loop
 add-put-row c =
     let loop-test = c .before .before .before .before .before .before .before .before .before .loop-test in
     let start = c .before .before .before .before .before .before .before .before .before .before .before .before .before .before .before .before .before in
-    omega (arith, loop-test .taken, start .pre .1 .1 .1)
+    omega (arith, loop-test .taken, start .pre .1 .1 .1, start .pre .1 .1 .0 .chunks)
 
 seq-row-requires : tie.Need-seq-row-requires Inv-loop μ-loop
 seq-row-requires c κs =
     let loop-test = c .before .before .before .before .before .before .before .before .before .loop-test in
     let start = c .before .before .before .before .before .before .before .before .before .before .before .before .before .before .before .before .before in
-    (loop-test .taken, start .pre .1 .1 .1)
+    (loop-test .taken, omega (arith, start .pre .1 .1 .1, start .pre .1 .1 .0 .chunks))
 
 put-row-requires : tie.Need-put-row-requires Inv-loop μ-loop
 put-row-requires c κs =
     let loop = c .before .before .before .before .before .before .before .before .before .before .before .loop in
     let loop-test = c .before .before .before .before .before .before .before .before .before .before .loop-test in
     let start = c .before .before .before .before .before .before .before .before .before .before .before .before .before .before .before .before .before .before in
-    omega (arith, loop .inv .sized .chunks, loop-test .taken, start .pre .1 .1 .1)
+    omega (arith, loop .inv .lengths .chunks, loop-test .taken, start .pre .1 .1 .1)
 
 add-k : tie.Need-add-k Inv-loop μ-loop
 add-k c =
     let loop-test = c .before .before .before .before .before .before .before .before .before .before .before .before .before .loop-test in
     let start = c .before .before .before .before .before .before .before .before .before .before .before .before .before .before .before .before .before .before .before .before .before in
-    omega (arith, loop-test .taken, start .pre .1 .1 .1)
+    omega (arith, loop-test .taken, start .pre .1 .1 .1, start .pre .1 .1 .0 .chunks)
 
 loop-less : tie.Need-loop-less Inv-loop μ-loop
 loop-less c =
@@ -84,26 +85,26 @@ loop-again c =
     let put-row = c .before .before .put-row in
     let e = get-row .ensures in
     rw (ap (λ (r : Row). r .next) e)
-    (loop-more (start .pre .0) (loop .inv) (loop-test .taken) (rw e at (lay-row .ensures)) (seq-row .ensures) (put-row .ensures) (put-row .kept .0)
+    (loop-more (start .pre .0) (start .pre .1 .1 .0) (loop .inv) (loop-test .taken) (rw e at (lay-row .ensures)) (seq-row .ensures) (put-row .ensures) (put-row .kept .0)
     (lay-row .kept .1 .1 .0) (lay-row .kept .1 .1 .1 .0))
 
 same-length : tie.Need-same-length Inv-loop μ-loop
 same-length c =
     let loop = c .before .loop in
     let start = c .before .before .before .before .before .before .before .before in
-    omega (arith, loop .inv .sized .chunks, start .pre .1 .1 .0 .chunks)
+    loop .inv .lengths .chunks
 
 same-length-2 : tie.Need-same-length-2 Inv-loop μ-loop
 same-length-2 c =
     let loop = c .before .loop in
     let start = c .before .before .before .before .before .before .before .before in
-    omega (arith, loop .inv .sized .pieces, start .pre .1 .1 .0 .pieces)
+    loop .inv .lengths .pieces
 
 same-length-3 : tie.Need-same-length-3 Inv-loop μ-loop
 same-length-3 c =
     let loop = c .before .loop in
     let start = c .before .before .before .before .before .before .before .before in
-    omega (arith, loop .inv .sized .store, start .pre .1 .1 .0 .store)
+    loop .inv .lengths .store
 
 returns : tie.Need-returns Inv-loop μ-loop
 returns c =

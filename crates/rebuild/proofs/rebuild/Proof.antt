@@ -1,7 +1,8 @@
 use mathlib.Core.Path.{_≡_, refl, sym, ap, _∙_, subst}
 use native.Mathlib.Omega.{arith}
+use Rattle.memory.specs.Laws.{sized-as}
 use Rattle.rebuild.specs.Lay.{own-in}
-use Rattle.rebuild.proofs.LayAll.{own-room, lay-start, within-room}
+use Rattle.rebuild.proofs.LayAll.{own-room, lay-start, rows-fit}
 use borrow.Author.Needs.{needs}
 use Rattle.rebuild.proofs.rebuild.Statement.{statement}
 use Rattle.rebuild.proofs.rebuild.Tie as tie
@@ -35,7 +36,7 @@ top-row-requires c κs = search needs
 put-row-requires : tie.Need-put-row-requires
 put-row-requires c κs =
     let start = c .before .before .before .before .before .before .before .before .before .before .before .before .before .before .before .before .before in
-    omega (arith, start .pre .1 .1 .chunks)
+    omega (arith, start .pre .1 .1 .some)
 
 lay-rest-requires : tie.Need-lay-rest-requires
 lay-rest-requires c κs =
@@ -48,12 +49,12 @@ lay-rest-requires c κs =
     let e = own-row .ensures in
     let f = get-row .ensures in
     let z = start .pre .1 .1 in
-    let lp = lay-row .kept .1 .1 .0 ∙ z .pieces in
-    let ls = lay-row .kept .1 .1 .1 .0 ∙ z .store in (
+    let lp = lay-row .kept .1 .1 .0 in
+    let ls = lay-row .kept .1 .1 .1 .0 in (
       start .pre .0,
       (
         rw f (lay-start (rw (e, f) at (lay-row .ensures)) (rw f at (top-row .ensures)) (put-row .ensures) (start .pre .1 .0) lp ls),
-        (record { chunks = put-row .kept .0 ∙ z .chunks; pieces = lp; store = ls }, rw f (within-room _ _ _ (start .pre .1 .0) .2)),
+        (sized-as (record { chunks = put-row .kept .0; pieces = lp; store = ls }) z, rw (f, put-row .kept .0) (rows-fit _ _ _ (start .pre .1 .0) z)),
       ),
     )
 

@@ -1,6 +1,5 @@
 use mathlib.Core.Path.{ap}
 use native.Mathlib.Omega.{arith}
-use Rattle.rows.specs.Insert.{startF}
 use Rattle.in_place.specs.InPlace.{lent-roomy}
 use Rattle.relocate_scratch.specs.Call.{lent-spanned, relocated-in-place}
 use borrow.Author.Needs.{needs}
@@ -10,28 +9,29 @@ use Rattle.relocate.proofs.relocate_with.Reads as reads
 use Rattle.relocate.proofs.relocate_with.Lts as lts
 use Rattle.relocate_scratch.proofs.relocate_scratch.Reads as relocate-scratch-reads
 use Rattle.relocate_rows.proofs.relocate_rows.Reads as relocate-rows-reads
-use Rattle.table.proofs.get_row.Reads as get-row-reads
 
-get-row-requires : tie.Need-get-row-requires
-get-row-requires c κs = search needs
+has-rows-requires : tie.Need-has-rows-requires
+has-rows-requires c κs =
+    let start = c .before .before .before .before .before in
+    (start .pre .0 .sized .some, omega arith)
 
 relocate-rows-requires : tie.Need-relocate-rows-requires
 relocate-rows-requires c κs =
-    let start = c .before .before .before .before .before .before .before .before .before in
-    let get-row = c .before .before .before .get-row in
+    let start = c .before .before .before .before .before .before .before .before in
+    let has-rows = c .before .before .has-rows in
     let if1 = c .before .if1 in
-    (lent-roomy 3 (start .pre .0) (omega (arith, if1 .taken, ap startF (get-row .ensures))), (lent-spanned (start .pre .0) (start .pre .1), start .pre .1 .movable))
+    (lent-roomy 3 (start .pre .0) (has-rows .ensures (if1 .taken)), (lent-spanned (start .pre .0) (start .pre .1), start .pre .1 .movable))
 
 same-length : tie.Need-same-length
 same-length c = search needs
 
 returns : tie.Need-returns
 returns c =
-    let start = c .before .before .before .before .before .before .before .before .before .before .before .before in
-    let get-row = c .before .before .before .before .before .before .get-row in
+    let start = c .before .before .before .before .before .before .before .before .before .before .before in
+    let has-rows = c .before .before .before .before .before .has-rows in
     let if1 = c .before .before .before .before .if1 in
     let relocate-rows = c .before .before .relocate-rows in
-    relocated-in-place (start .pre .0) (start .pre .1) (omega (arith, if1 .taken, ap startF (get-row .ensures))) (relocate-rows .ensures) (relocate-rows .kept .0)
+    relocated-in-place (start .pre .0) (start .pre .1) (relocate-rows .ensures) (relocate-rows .kept .0)
 
 relocate-scratch-requires : tie.Need-relocate-scratch-requires
 relocate-scratch-requires c κs = search needs
@@ -52,7 +52,7 @@ pub relocate-with-spec : {M : Type 1} → statement M
 relocate-with-spec =
     tie.close
     (tie.spec
-    get-row-requires
+    has-rows-requires
     relocate-rows-requires
     same-length
     returns

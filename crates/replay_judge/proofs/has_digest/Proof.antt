@@ -9,7 +9,7 @@ well-formed-requires : tie.Need-well-formed-requires
 well-formed-requires c κs = search needs
 
 digest-requires : tie.Need-digest-requires
-digest-requires c κs = c .before .well-formed .ensures .yes (c .if1 .taken)
+digest-requires c κs = c .before .well-formed .ensures .yes (c .if1 .taken) .well-formed
 
 returns : tie.Need-returns
 returns c = record { yes = λ e. record { well-formed = c .before .before .well-formed .ensures .yes (c .before .if1 .taken); digest-is = sym (c .digest .ensures) ∙ eqb-true _ _ e }; no = λ e k. eqb-false _ _ e (c .digest .ensures ∙ k .digest-is) }

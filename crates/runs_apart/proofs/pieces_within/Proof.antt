@@ -10,10 +10,10 @@ use Rattle.runs_apart.proofs.pieces_within.Statement.{statement}
 use Rattle.runs_apart.proofs.pieces_within.Tie as tie
 
 abbrev Inv-loop : tie.InvT-loop
-Inv-loop t n total₀ k₀ total k = (k ≤ n) × (total ≡ pieceTotal t k) × (total < 17179869184)
+Inv-loop t n limit total₀ k₀ total k = (k ≤ n) × (total ≡ pieceTotal t k) × (total < 17179869184)
 
 abbrev μ-loop : tie.MeasureT-loop
-μ-loop t n total₀ k₀ total k = n - k
+μ-loop t n limit total₀ k₀ total k = n - k
 
 piece-count-requires : tie.Need-piece-count-requires Inv-loop μ-loop
 piece-count-requires c κs = search needs

@@ -7,10 +7,10 @@ use Rattle.trim_call.proofs.trim_with.Tie as tie
 live-requires : tie.Need-live-requires
 live-requires c κs =
     let w = c .before .before .before .before .before .before .before .pre in
-    (w .readable, bare-within w)
+    (w .readable, (bare-within w, w .sized))
 
 has-room-requires : tie.Need-has-room-requires
-has-room-requires c κs = live-small (c .before .before .before .before .before .before .before .before .pre) (c .live .ensures)
+has-room-requires c κs = live-small (c .live .ensures)
 
 trim-on-top-requires : tie.Need-trim-on-top-requires
 trim-on-top-requires c κs = (c .before .before .before .before .before .before .before .before .before .before .before .before .before .pre, (c .before .before .before .before .before .live .ensures, c .before .before .before .before .has-room .ensures .yes (c .before .before .before .if1 .taken)))

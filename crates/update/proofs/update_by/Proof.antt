@@ -21,7 +21,7 @@ update-steps-requires c κs =
     let start = c .before .before .before .before .before .before .before .before .before .before .before .before .before .before .before .before .before .before .before .before .before .before .before in
     let load = c .before .before .before .before .before .before .before .before .load in
     let y = loaded-roomy (start .pre .0) (start .pre .1 .0 .scratch) (load .ensures) in
-    (record { linked = y .linked; room = omega (arith, y .room); narrow = y .narrow }, (omega arith, λ k. omega (arith, start .pre .1 .0 .store, load .kept .1 .1 .1 .1 .1 .0)))
+    (record { linked = y .linked; room = omega (arith, y .room); narrow = y .narrow }, (start .pre .0 .sized .store, λ k. omega (arith, start .pre .1 .0 .store, load .kept .1 .1 .1 .1 .1 .0, start .pre .0 .sized .store)))
 
 same-length : tie.Need-same-length
 same-length c = search needs

@@ -3,7 +3,6 @@ use Prim.Native.Nat.{ℕ, _+_, _≤_}
 use native.Mathlib.Omega.{arith}
 use lib.ListN.{length}
 use Rattle.table.specs.declared.Row.{Row}
-use Rattle.frame.specs.Frame.{few-chunks}
 use Rattle.in_place.specs.InPlace.{lent-roomy}
 use Rattle.on_top.specs.Live.{Room, live-small}
 use Rattle.insert_on_top.specs.TopCalls.{bare-within}
@@ -22,7 +21,7 @@ use Rattle.update.proofs.update_steps.Reads as update-steps-reads
 live-requires : tie.Need-live-requires
 live-requires c κs =
     let start = c .before .before .before .before .before .before .before .before in
-    (start .pre .0 .readable, bare-within (start .pre .0))
+    (start .pre .0 .readable, (bare-within (start .pre .0), start .pre .0 .sized))
 
 get-row-requires : tie.Need-get-row-requires
 get-row-requires c κs = search needs
@@ -32,13 +31,13 @@ add-has-room c =
     let start = c .before .before .before .before .before .before .before .before .before .before .before .before in
     let get-row = c .before .get-row in
     let a = start .args in
-    omega (arith, ap (λ (r : Row). r .start) (get-row .ensures), few-chunks (a .source .now) (a .chunks .now) (a .pieces .now) (a .store .now) (start .pre .0 .desk .limits))
+    omega (arith, ap (λ (r : Row). r .start) (get-row .ensures), start .pre .0 .readable .linked .room, start .pre .0 .sized .chunks)
 
 has-room-requires : tie.Need-has-room-requires
 has-room-requires c κs =
     let start = c .before .before .before .before .before .before .before .before .before .before .before .before in
     let live = c .before .before .before .live in
-    live-small (start .pre .0) (live .ensures)
+    (live-small (live .ensures), start .pre .0 .sized .some)
 
 update-steps-requires : tie.Need-update-steps-requires
 update-steps-requires c κs =
@@ -49,7 +48,7 @@ update-steps-requires c κs =
     let if1 = c .before .before .if1 in
     let w = start .pre .0 in
     let rm = has-room .ensures .0 (if1 .taken) in
-    (lent-roomy 2 w (omega (arith, rm .chunks, ap (λ (r : Row). r .start) (get-row .ensures))), (live-small w (live .ensures) .byte, λ _. omega (arith, rm .places, w .sized .store)))
+    (lent-roomy 2 w (omega (arith, rm .chunks, ap (λ (r : Row). r .start) (get-row .ensures), w .sized .some)), (omega (arith, live .ensures .byte, w .sized .store), λ _. rm .places))
 
 same-length : tie.Need-same-length
 same-length c = search needs
@@ -69,11 +68,11 @@ returns c =
     let if1 = c .before .before .before .before .before .before .before .if1 in
     let update-steps = c .before .before .before .before .update-steps in
     let a = start .args in
-    let rm = subst (λ (r : Row). Room (live .result) (r .start + 2) (length (a .text .now))) (get-row .ensures) (has-room .ensures .0 (if1 .taken)) in
+    let rm = subst (λ (r : Row). Room (length (a .chunks .now)) (length (a .pieces .now)) (length (a .store .now)) (live .result) (r .start + 2) (length (a .text .now))) (get-row .ensures) (has-room .ensures .0 (if1 .taken)) in
     update-top-ran (start .pre .1 .0) (start .pre .0) (start .pre .1 .1) (live .ensures) rm (update-steps .ensures) refl (update-steps .kept .1 .0) (update-steps .kept .1 .1 .0)
 
 update-scratch-requires : tie.Need-update-scratch-requires
-update-scratch-requires c κs = search needs
+update-scratch-requires c κs = c .before .before .before .before .before .before .before .before .before .before .before .before .before .before .before .before .before .pre
 
 same-length-4 : tie.Need-same-length-4
 same-length-4 c = search needs

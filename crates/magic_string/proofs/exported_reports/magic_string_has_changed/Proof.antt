@@ -7,7 +7,7 @@ well-formed-requires : tie.Need-well-formed-requires
 well-formed-requires c κs = search needs
 
 has-changed-requires : tie.Need-has-changed-requires
-has-changed-requires c κs = c .before .well-formed .ensures .yes (c .if1 .taken)
+has-changed-requires c κs = c .before .well-formed .ensures .yes (c .if1 .taken) .well-formed
 
 returns : tie.Need-returns
 returns c = reported-yes (c .before .before .well-formed .ensures .yes (c .before .if1 .taken)) (c .has-changed .ensures)

@@ -7,7 +7,7 @@ well-formed-requires : tie.Need-well-formed-requires
 well-formed-requires c κs = search needs
 
 line-count-requires : tie.Need-line-count-requires
-line-count-requires c κs = c .before .well-formed .ensures .yes (c .if1 .taken)
+line-count-requires c κs = c .before .well-formed .ensures .yes (c .if1 .taken) .well-formed
 
 returns : tie.Need-returns
 returns c = reported-yes (c .before .before .well-formed .ensures .yes (c .before .if1 .taken)) (c .line-count .ensures)
