@@ -51,7 +51,7 @@ few-chunks source t p s e =
     omega (arith, leb-true (length (magicStringOf source t p s .chunks)) 512 k, chunk-count source t p s)
 
 -- the source's length is the only limit that the source decides
-within-any : (k : Limits) (source t p s : List ℕ) → length source ≤ k .source → within k (magicStringOf [] t p s) ≡ within k (magicStringOf source t p s)
+pub within-any : (k : Limits) (source t p s : List ℕ) → length source ≤ k .source → within k (magicStringOf [] t p s) ≡ within k (magicStringOf source t p s)
 unfolding within magicStringOf
 within-any k source t p s h = rw (le-leb (length source) (k .source) h, le-leb 0 (k .source) (omega arith))
 

@@ -11,7 +11,7 @@ use Rattle.table.specs.Words.{sets-step}
 use Rattle.memory.specs.Layout.{Place}
 use Rattle.texts.specs.Over.{over, over-over, take-over, part-kept}
 use Rattle.texts.specs.Carry.{Pushed, RoomFor}
-use Rattle.on_top.specs.declared.Used.{Used}
+use Rattle.memory_used.specs.declared.Used.{Used}
 use Rattle.on_top.specs.Live.{Room}
 use Rattle.on_top.specs.Run.{rowWords, TopRoom, Lengthened, words-length}
 

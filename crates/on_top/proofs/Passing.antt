@@ -1,5 +1,5 @@
 -- The pass of `live`: a run, a row, and all rows so far.
-use mathlib.Core.Path.{_≡_, sym, ap, ap₂, _∙_, subst}
+use mathlib.Core.Path.{_≡_, refl, sym, subst}
 use mathlib.Core.Bool.{true}
 use mathlib.Core.List.{List, [], _∷_, _++_, map, map-append}
 use Prim.Native.Nat.{ℕ, suc, _+_, _*_, _-_, _≤_, _<_, min, max}
@@ -11,46 +11,36 @@ use Rattle.utf8.specs.Chars.{All, nil, cons}
 use Rattle.table.specs.Order.{Entry, entryAt, nextOf, countOf}
 use Rattle.model.specs.Text.{sum}
 use Rattle.model.specs.Lists.{first-of, rest-of, all-snoc}
-use Rattle.model.specs.Limits.{within, chunk-pieces, piece-count, byte-count, replacement-bytes}
+use Rattle.model.specs.Limits.{within, chunk-pieces, chunk-bytes, piece-count}
 use Rattle.memory.specs.Layout.{NONE, Place, bytesAt, pieceAt, runOf, replacementOf, chunkOf, magicStringOf}
 use Rattle.memory.specs.WellFormed.{limitsOf, Sized, RunIn, ReplacementIn, EntryIn, Readable}
 use Rattle.memory.specs.Laws.{within-keeps}
 use Rattle.texts.specs.Texts.{run-piece}
-use Rattle.texts.specs.Carry.{Below}
-use Rattle.rebuild.specs.Lay.{own, EntryBelow}
-use Rattle.frame.proofs.Counting.{CountAt, count-start, count-more, all-done, pieces-all, bytes-all, firstBytes, bytes-none, bytes-more, capped-more, pieces-of, text-bytes, no-bytes, two-counts, three-counts}
-use Rattle.on_top.specs.declared.Used.{Used}
-use Rattle.on_top.specs.Live.{LiveIn, TopRow, RunLive, EntryLive, LiveOf}
+use Rattle.memory_used.specs.Below.{Below, EntryBelow}
+use Rattle.rebuild.specs.Lay.{own}
+use Rattle.frame.proofs.Counting.{CountAt, count-start, count-more, all-done, pieces-all, pieces-of, two-counts}
+use Rattle.memory_used.specs.declared.Used.{Used}
+use Rattle.memory_used.specs.Above.{Above}
+use Rattle.memory_used.proofs.Below.{entry-below, entries-below}
+use Rattle.on_top.specs.Live.{LiveIn, TopRow, RunLive, EntryLive}
 
 -- ── a run ──
 -- i pieces of the run are passed
-pub record RunAt (p s : List ℕ) (at n : ℕ) (c : Used) (i bytes byte : ℕ) : Type 0 where
+pub record RunAt (p s : List ℕ) (at n : ℕ) (c : Used) (i byte : ℕ) : Type 0 where
   pub upto : i ≤ n
-  pub bytes-are : bytes ≡ min (c .bytes + firstBytes p s at i) 32769
   pub below : (k : ℕ) → k < i → pieceAt p (at + k) .0 + pieceAt p (at + k) .1 ≤ byte
   pub grows : c .byte ≤ byte
   pub inside : byte ≤ length s
 
-pub run-start : (p s : List ℕ) (at n : ℕ) (c : Used) → LiveIn p s c → RunAt p s at n c 0 (c .bytes) (c .byte)
-run-start p s at n c h =
-    record {
-      upto = omega arith;
-      bytes-are = omega (arith, bytes-none p s at, h .bytes);
-      below = λ k g. absurd (omega arith);
-      grows = omega arith;
-      inside = h .byte;
-    }
+pub run-start : (p s : List ℕ) (at n : ℕ) (c : Used) → LiveIn p s c → RunAt p s at n c 0 (c .byte)
+run-start p s at n c h = record { upto = omega arith; below = λ k g. absurd (omega arith); grows = omega arith; inside = h .byte }
 
-pub run-more : {p s : List ℕ} {at n : ℕ} {c : Used} {i bytes byte : ℕ} (text : List ℕ) (bytes' e byte' : ℕ) → RunIn p s (at, n) → RunAt p s at n c i bytes byte → i < n
-    → text ≡ bytesAt s (pieceAt p (at + i)) → bytes' ≡ min (bytes + length text) 32769 → e ≡ pieceAt p (at + i) .0 + pieceAt p (at + i) .1 → byte' ≡ max byte e
-    → RunAt p s at n c (i + 1) bytes' byte'
-run-more {p} {s} {at} {n} {c} {i} {bytes} {byte} text bytes' e byte' h r g et eb ee em =
-    let x = length (bytesAt s (pieceAt p (at + i))) in
-    let y : bytes' ≡ min (bytes + x) 32769 = eb ∙ ap (λ (l : List ℕ). min (bytes + length l) 32769) et in
+pub run-more : {p s : List ℕ} {at n : ℕ} {c : Used} {i byte : ℕ} (e byte' : ℕ) → RunIn p s (at, n) → RunAt p s at n c i byte → i < n
+    → e ≡ pieceAt p (at + i) .0 + pieceAt p (at + i) .1 → byte' ≡ max byte e → RunAt p s at n c (i + 1) byte'
+run-more {p} {s} {at} {n} {c} {i} {byte} e byte' h r g ee em =
     let q = run-piece p s at n i h g in
     record {
       upto = omega arith;
-      bytes-are = capped-more 32769 (c .bytes + firstBytes p s at i) x bytes bytes' (r .bytes-are) y ∙ ap (λ (z : ℕ). min z 32769) (omega (arith, bytes-more p s at i));
       below = λ k l.
           elim (decLt k i) [
             | yes u ↦ omega (arith, r .below k u)
@@ -63,7 +53,7 @@ run-more {p} {s} {at} {n} {c} {i} {bytes} {byte} text bytes' e byte' h r g et eb
     same : (i k : ℕ) → k < i + 1 → (k < i → ⊥) → i ≡ k
     same i k l u = omega arith
 
-pub below-of : {p s : List ℕ} {at n : ℕ} {c : Used} {i bytes byte row row' : ℕ} → RunAt p s at n c i bytes byte → n ≤ i → TopRow at n row row' → Below p byte row' (at, n)
+pub below-of : {p s : List ℕ} {at n : ℕ} {c : Used} {i byte row row' : ℕ} → RunAt p s at n c i byte → n ≤ i → TopRow at n row row' → Below p byte row' (at, n)
 below-of r g t k h = (omega (arith, t .some (λ e. omega arith)), r .below k (omega arith))
 
 row-up : (p s : List ℕ) (at n row row' : ℕ) → RunIn p s (at, n) → row * 2 ≤ length p → TopRow at n row row' → (row ≤ row') × (row' * 2 ≤ length p)
@@ -76,18 +66,16 @@ row-up p s at n row row' h l t =
           (omega arith, omega arith)
     ]
 
-pub run-end : {p s : List ℕ} {at n : ℕ} {c : Used} {i bytes byte pieces row : ℕ} → RunIn p s (at, n) → LiveIn p s c → RunAt p s at n c i bytes byte → n ≤ i → pieces ≡ min (c .pieces + n) 1025
-    → TopRow at n (c .row) row → RunLive p s (at, n) c (record { pieces = pieces; bytes = bytes; row = row; byte = byte })
-run-end {p} {s} {at} {n} {c} {i} {bytes} {byte} {pieces} {row} h l r g ep t =
-    let e : i ≡ n = omega (arith, r .upto) in
+pub run-end : {p s : List ℕ} {at n : ℕ} {c : Used} {i byte pieces row : ℕ} → RunIn p s (at, n) → LiveIn p s c → RunAt p s at n c i byte → n ≤ i → pieces ≡ min (c .pieces + n) 1025
+    → TopRow at n (c .row) row → RunLive p s (at, n) c (record { pieces = pieces; row = row; byte = byte })
+run-end {p} {s} {at} {n} {c} {i} {byte} {pieces} {row} h l r g ep t =
     let u = row-up p s at n (c .row) row h (l .row) t in
     record {
       pieces = ep;
-      bytes = r .bytes-are ∙ ap (λ (y : ℕ). min (c .bytes + firstBytes p s at y) 32769) e;
       below = below-of r g t;
       row-grows = u .0;
       byte-grows = r .grows;
-      inside = record { pieces = omega arith; bytes = omega (arith, r .bytes-are); row = u .1; byte = r .inside };
+      inside = record { pieces = omega arith; row = u .1; byte = r .inside };
     }
 
 -- ── a row ──
@@ -106,22 +94,18 @@ module _ {p s : List ℕ} (e : Entry) {c a b : Used} (x : RunLive p s (e .intro)
   entry-none h =
       record {
         pieces = two-runs;
-        bytes = three-counts 32769 (c .bytes) (sum length (runOf p s (e .intro))) (sum length (runOf p s (e .outro))) 0 (a .bytes) (b .bytes) (b .bytes) (replacement-bytes (replacementOf s (e .text)))
-            (x .bytes) (y .bytes) (omega (arith, y .inside .bytes)) (no-bytes s (e .text) h);
         below = record { intro = below-up p (a .byte) (a .row) (b .byte) (b .row) (e .intro) (x .below) (y .row-grows) (y .byte-grows); outro = y .below; text = λ n. absurd (n h) };
         row-grows = omega (arith, x .row-grows, y .row-grows);
         byte-grows = omega (arith, x .byte-grows, y .byte-grows);
         inside = y .inside;
       }
 
-  pub entry-some : (bytes byte : ℕ) → (e .text .0 ≡ NONE → ⊥) → ReplacementIn s (e .text) → bytes ≡ min (b .bytes + e .text .1) 32769 → byte ≡ max (b .byte) (e .text .0 + e .text .1)
-      → EntryLive p s e c (record { pieces = b .pieces; bytes = bytes; row = b .row; byte = byte })
-  entry-some bytes byte h r eb em =
+  pub entry-some : (byte : ℕ) → (e .text .0 ≡ NONE → ⊥) → ReplacementIn s (e .text) → byte ≡ max (b .byte) (e .text .0 + e .text .1)
+      → EntryLive p s e c (record { pieces = b .pieces; row = b .row; byte = byte })
+  entry-some byte h r em =
       let q = text-in s (e .text) r h in
       record {
         pieces = two-runs;
-        bytes = three-counts 32769 (c .bytes) (sum length (runOf p s (e .intro))) (sum length (runOf p s (e .outro))) (e .text .1) (a .bytes) (b .bytes) bytes (replacement-bytes (replacementOf s (e .text)))
-            (x .bytes) (y .bytes) eb (text-bytes s (e .text) r h);
         below =
             record {
               intro = below-up p (a .byte) (a .row) byte (b .row) (e .intro) (x .below) (y .row-grows) (omega (arith, y .byte-grows));
@@ -130,27 +114,30 @@ module _ {p s : List ℕ} (e : Entry) {c a b : Used} (x : RunLive p s (e .intro)
             };
         row-grows = omega (arith, x .row-grows, y .row-grows);
         byte-grows = omega (arith, x .byte-grows, y .byte-grows);
-        inside = record { pieces = y .inside .pieces; bytes = omega arith; row = y .inside .row; byte = omega (arith, y .inside .byte) };
+        inside = record { pieces = y .inside .pieces; row = y .inside .row; byte = omega (arith, y .inside .byte) };
       }
 
 -- ── the walk ──
-pub record LiveAt (t p s : List ℕ) (m cur pieces bytes row byte : ℕ) : Type 0 where
+-- the counts of `keeps`, whose bytes no one needs here
+pub record LiveAt (t p s : List ℕ) (m cur pieces row byte : ℕ) : Type 0 where
   pub done : List ℕ
+  pub bytes : ℕ
   pub counts : CountAt t p s done m cur pieces bytes
   pub below : All (EntryBelow p byte row) (own t ∷ map (entryAt t) done)
-  pub inside : LiveIn p s (record { pieces = pieces; bytes = bytes; row = row; byte = byte })
+  pub inside : LiveIn p s (record { pieces = pieces; row = row; byte = byte })
 
 abbrev pub noUse : Used
-noUse = record { pieces = 0; bytes = 0; row = 0; byte = 0 }
+noUse = record { pieces = 0; row = 0; byte = 0 }
 
 pub none-in : (p s : List ℕ) → LiveIn p s noUse
-none-in p s = record { pieces = omega arith; bytes = omega arith; row = omega arith; byte = omega arith }
+none-in p s = record { pieces = omega arith; row = omega arith; byte = omega arith }
 
-pub live-start : (t p s : List ℕ) (e : Entry) (c : Used) → e ≡ own t → EntryLive p s e noUse c → LiveAt t p s (countOf t) (nextOf t 0) (c .pieces) (c .bytes) (c .row) (c .byte)
+pub live-start : (t p s : List ℕ) (e : Entry) (c : Used) → e ≡ own t → EntryLive p s e noUse c → LiveAt t p s (countOf t) (nextOf t 0) (c .pieces) (c .row) (c .byte)
 live-start t p s e c q l =
     record {
       done = [];
-      counts = count-start t p s e (c .pieces) (c .bytes) q (l .pieces) (l .bytes);
+      bytes = min (0 + chunk-bytes (chunkOf p s e)) 32769;
+      counts = count-start t p s e (c .pieces) (min (0 + chunk-bytes (chunkOf p s e)) 32769) q (l .pieces) refl;
       below = cons (subst (EntryBelow p (c .byte) (c .row)) q (l .below)) nil;
       inside = l .inside;
     }
@@ -163,77 +150,46 @@ entries-up : {p : List ℕ} {byte row byte' row' : ℕ} {es : List Entry} → Al
 entries-up nil a b = nil
 entries-up (cons {x = e} h k) a b = cons (entry-up e h a b) (entries-up k a b)
 
-module _ {t p s : List ℕ} {m cur pieces bytes row byte : ℕ} (h : Readable t p s) (c : LiveAt t p s (suc m) cur pieces bytes row byte) where
-  pub live-more : (d : Used) → EntryLive p s (entryAt t cur) (record { pieces = pieces; bytes = bytes; row = row; byte = byte }) d
-      → LiveAt t p s m (nextOf t cur) (d .pieces) (d .bytes) (d .row) (d .byte)
+module _ {t p s : List ℕ} {m cur pieces row byte : ℕ} (h : Readable t p s) (c : LiveAt t p s (suc m) cur pieces row byte) where
+  pub live-more : (d : Used) → EntryLive p s (entryAt t cur) (record { pieces = pieces; row = row; byte = byte }) d → LiveAt t p s m (nextOf t cur) (d .pieces) (d .row) (d .byte)
   live-more d l =
+      let bytes = min (c .bytes + chunk-bytes (chunkOf p s (entryAt t cur))) 32769 in
       record {
         done = c .done ++ (cur ∷ []);
-        counts = count-more h (c .counts) (d .pieces) (d .bytes) (l .pieces) (l .bytes);
+        bytes = bytes;
+        counts = count-more h (c .counts) (d .pieces) bytes (l .pieces) refl;
         below =
             cons (first-of (entries-up (c .below) (l .row-grows) (l .byte-grows)))
             (subst (All (EntryBelow p (d .byte) (d .row))) (sym (map-append (entryAt t) (c .done) (cur ∷ []))) (all-snoc (rest-of (entries-up (c .below) (l .row-grows) (l .byte-grows))) (l .below)));
         inside = l .inside;
       }
 
-pub record Loop (t p s : List ℕ) (n k cur pieces bytes row byte : ℕ) : Type 0 where
+pub record Loop (t p s : List ℕ) (n k cur pieces row byte : ℕ) : Type 0 where
   pub upto : k ≤ n
-  pub at : LiveAt t p s (n - k) cur pieces bytes row byte
+  pub at : LiveAt t p s (n - k) cur pieces row byte
 
-pub loop-next : {t p s : List ℕ} {n k cur pieces bytes row byte : ℕ} → Loop t p s n k cur pieces bytes row byte → k < n → LiveAt t p s (suc (n - (k + 1))) cur pieces bytes row byte
+pub loop-next : {t p s : List ℕ} {n k cur pieces row byte : ℕ} → Loop t p s n k cur pieces row byte → k < n → LiveAt t p s (suc (n - (k + 1))) cur pieces row byte
 loop-next {n = n} {k = k} l g = let e : n - k ≡ suc (n - (k + 1)) = omega arith in rw e at (l .at)
-
--- ── the rows and bytes below the places ──
-word-below : (p : List ℕ) (m i : ℕ) → i < m → getD (take m p) i 0 ≡ getD p i 0
-word-below p m i h = getD-take m p i 0 h
-
-module _ (p s : List ℕ) (byte row : ℕ) (hr : row * 2 ≤ length p) (hb : byte ≤ length s) where
-  piece-below : (j : ℕ) → j < row → pieceAt (take (row * 2) p) j ≡ pieceAt p j
-  piece-below j h =
-      ap₂ (λ (u v : ℕ). (u, v)) (word-below p (row * 2) (j * 2) (omega arith)) (word-below p (row * 2) (j * 2 + 1) (omega arith))
-
-  run-below : (x : Place) → Below p byte row x → RunIn (take (row * 2) p) (take byte s) x
-  unfolding RunIn
-  run-below x h k g =
-      let a = h k g in
-      let e = ap (λ (r : Place). r .0 + r .1) (piece-below (x .0 + k) (a .0)) in
-      let lp = length-take-le (row * 2) p hr in
-      let ls = length-take-le byte s hb in
-      record { row = omega arith; text = omega arith }
-
-  text-below : (x : Place) → ((x .0 ≡ NONE → ⊥) → x .0 + x .1 ≤ byte) → ReplacementIn (take byte s) x
-  unfolding ReplacementIn
-  text-below x h n = omega (arith, h n, length-take-le byte s hb)
-
-  entry-below : (e : Entry) → EntryBelow p byte row e → EntryIn (take (row * 2) p) (take byte s) e
-  entry-below e h = record { runs = record { intro = run-below (e .intro) (h .intro); outro = run-below (e .outro) (h .outro) }; replacement = text-below (e .text) (h .text) }
-
-  entries-below : {es : List Entry} → All (EntryBelow p byte row) es → All (EntryIn (take (row * 2) p) (take byte s)) es
-  entries-below nil = nil
-  entries-below (cons {x = e} h k) = cons (entry-below e h) (entries-below k)
 
 -- ── the end ──
 capped-all : (c a s : ℕ) → s ≡ min a (suc c) → a ≤ c → s ≡ a
 capped-all c a s e h = omega arith
 
-module _ {t p s : List ℕ} {n k cur pieces bytes row byte : ℕ} (l : Loop t p s n k cur pieces bytes row byte) (g : n ≤ k) where
+module _ {t p s : List ℕ} {n k cur pieces row byte : ℕ} (l : Loop t p s n k cur pieces row byte) (g : n ≤ k) where
   none-left : n - k ≡ 0
   none-left = omega arith
 
-  pub live-end : Readable t p s → within (limitsOf t p s) (magicStringOf [] t p s) ≡ true → Sized t p s → LiveOf t p s (record { pieces = pieces; bytes = bytes; row = row; byte = byte })
+  pub live-end : Readable t p s → within (limitsOf t p s) (magicStringOf [] t p s) ≡ true → Sized t p s → Above t p s (record { pieces = pieces; row = row; byte = byte })
   live-end h w z =
       let f = within-keeps (limitsOf t p s) (magicStringOf [] t p s) w in
       let pe = capped-all 1024 (piece-count (magicStringOf [] t p s)) pieces (pieces-all (l .at .counts) none-left) (omega (arith, f .pieces, z .pieces)) in
-      let be = capped-all 32768 (byte-count (magicStringOf [] t p s)) bytes (bytes-all (l .at .counts) none-left) (omega (arith, f .bytes, z .store)) in
       let b = l .at .below in
       let hr = l .at .inside .row in
       let hb = l .at .inside .byte in
       let o = entry-below p s byte row hr hb (own t) (first-of b) in
       record {
         pieces = omega (arith, pe);
-        bytes = omega (arith, be);
         few = omega (arith, pe, f .pieces);
-        small = omega (arith, be, f .bytes);
         readable =
             record {
               linked = h .linked;

@@ -1,4 +1,4 @@
--- What one pass over a desk finds: its pieces and bytes, and a row and a byte above all that it uses.
+-- What one pass over a desk finds: its pieces, and a row and a byte above all that it uses.
 use mathlib.Core.Path.{_≡_, sym, ap₂, _∙_}
 use mathlib.Core.List.{List, [], _++_}
 use mathlib.Core.Bool.{true}
@@ -9,18 +9,18 @@ use borrow.Author.Tests.{leb-true}
 use lib.ListN.{length, take, drop, take-append-drop}
 use Rattle.table.specs.Order.{Entry}
 use Rattle.model.specs.Text.{sum}
-use Rattle.model.specs.Limits.{chunk-pieces, chunk-bytes, piece-count, byte-count}
+use Rattle.model.specs.Limits.{within, chunk-pieces}
 use Rattle.memory.specs.Layout.{Place, runOf, chunkOf, magicStringOf}
-use Rattle.memory.specs.WellFormed.{Readable}
+use Rattle.memory.specs.WellFormed.{limitsOf, Sized, Readable}
 use Rattle.texts.specs.Carry.{Below}
 use Rattle.rebuild.specs.Lay.{EntryBelow}
 use Rattle.frame.specs.Front.{desk-front}
-use Rattle.on_top.specs.declared.Used.{Used}
+use Rattle.memory_used.specs.declared.Used.{Used}
+use Rattle.memory_used.specs.Above.{Above}
 
--- counts up to one past the limits, and places inside the tables
+-- a count up to one past the limit, and places inside the tables
 pub record LiveIn (p s : List ℕ) (c : Used) : Type 0 where
   pub pieces : c .pieces ≤ 1025
-  pub bytes : c .bytes ≤ 32769
   pub row : c .row * 2 ≤ length p
   pub byte : c .byte ≤ length s
 
@@ -31,7 +31,6 @@ pub record TopRow (at n row row' : ℕ) : Type 0 where
 
 pub record RunLive (p s : List ℕ) (x : Place) (c d : Used) : Type 0 where
   pub pieces : d .pieces ≡ min (c .pieces + x .1) 1025
-  pub bytes : d .bytes ≡ min (c .bytes + sum length (runOf p s x)) 32769
   pub below : Below p (d .byte) (d .row) x
   pub row-grows : c .row ≤ d .row
   pub byte-grows : c .byte ≤ d .byte
@@ -39,39 +38,32 @@ pub record RunLive (p s : List ℕ) (x : Place) (c d : Used) : Type 0 where
 
 pub record EntryLive (p s : List ℕ) (e : Entry) (c d : Used) : Type 0 where
   pub pieces : d .pieces ≡ min (c .pieces + chunk-pieces (chunkOf p s e)) 1025
-  pub bytes : d .bytes ≡ min (c .bytes + chunk-bytes (chunkOf p s e)) 32769
   pub below : EntryBelow p (d .byte) (d .row) e
   pub row-grows : c .row ≤ d .row
   pub byte-grows : c .byte ≤ d .byte
   pub inside : LiveIn p s d
 
--- no fewer than the desk's pieces and bytes, and inside the limits; and the desk is read from the rows and bytes below the two places alone
-pub record LiveOf (t p s : List ℕ) (l : Used) : Type 0 where
-  pub pieces : piece-count (magicStringOf [] t p s) ≤ l .pieces
-  pub bytes : byte-count (magicStringOf [] t p s) ≤ l .bytes
-  pub readable : Readable t (take (l .row * 2) p) (take (l .byte) s)
-  pub few : l .pieces ≤ length p / 4
-  pub small : l .bytes ≤ length s
-  pub row : l .row * 2 ≤ length p
-  pub byte : l .byte ≤ length s
+-- tables that one pass can count: a desk that can be read, inside the limits of its tables
+pub record Usable (t p s : List ℕ) : Type 0 where
+  pub readable : Readable t p s
+  pub within-is : within (limitsOf t p s) (magicStringOf [] t p s) ≡ true
+  pub sized : Sized t p s
 
--- counts inside the limits and places inside the lent tables, cp words of pieces and cs bytes
+-- a count inside the limit and places inside the lent tables, cp words of pieces and cs bytes
 pub record Small (cp cs : ℕ) (l : Used) : Type 0 where
   pub pieces : l .pieces ≤ cp / 4
-  pub bytes : l .bytes ≤ cs
   pub row : l .row * 2 ≤ cp
   pub byte : l .byte ≤ cs
 
--- n chunks, a piece more and len bytes more keep the limits; and there is room on top for any run with a piece more, and for the bytes
+-- n chunks and a piece more keep the limits; and there is room on top for any run with a piece more, and for len bytes (so that these keep the limit too: `bytes-below`)
 pub record Room (ct cp cs : ℕ) (l : Used) (n len : ℕ) : Type 0 where
   pub chunks : n ≤ ct / 12 - 1
   pub pieces : l .pieces < cp / 4
   pub rows : l .row + l .pieces < cp / 2
   pub places : l .byte + len ≤ cs
-  pub bytes : l .bytes + len ≤ cs
 
-pub live-small : {t p s : List ℕ} {l : Used} → LiveOf t p s l → Small (length p) (length s) l
-live-small h = record { pieces = h .few; bytes = h .small; row = h .row; byte = h .byte }
+pub above-small : {t p s : List ℕ} {l : Used} → Above t p s l → Small (length p) (length s) l
+above-small h = record { pieces = h .few; row = h .row; byte = h .byte }
 
 -- ── the rows and bytes below the two places ──
 module _ (t p s : List ℕ) (row byte : ℕ) (h : Readable t (take (row * 2) p) (take byte s)) where

@@ -9,16 +9,12 @@ ghost use Rattle.model.specs.Limits.{within};
 ghost use Rattle.memory.specs.Layout.{pieceAt, magicStringOf};
 ghost use Rattle.texts.specs.Over.{over};
 ghost use Rattle.memory.specs.WellFormed.{limitsOf, Sized, RunIn, EntryIn, Readable};
-ghost use Rattle.on_top.specs.Live.{LiveIn, TopRow, RunLive, EntryLive, LiveOf, Small, Room};
+ghost use Rattle.memory_used.specs.Above.{Above};
+ghost use Rattle.rebuild.specs.Rebuilt.{Finished};
+ghost use Rattle.on_top.specs.Live.{LiveIn, TopRow, RunLive, EntryLive, Usable, Small, Room};
 ghost use Rattle.on_top.specs.Run.{rowWords, TopRoom, Lengthened};
-
-// How many pieces and bytes a desk has (counted up to one past the limits), and a row and a byte above every piece list and every text of it.
-pub struct Used {
-    pub pieces: usize,
-    pub bytes: usize,
-    pub row: usize,
-    pub byte: usize,
-}
+use memory_used::Outcome;
+use memory_used::Used;
 
 fn wide(x: u32) -> usize
     ensures { λ r. ⌜ (r ≡ x) × (r ≤ 4294967295) ⌝ }
@@ -55,7 +51,7 @@ fn top_row(at: u32, n: u32, row: usize) -> usize
     larger(row, wide(at) + wide(n))
 }
 
-// A run's pieces and bytes added to the counts, and places above it too.
+// A run's pieces added to the count, and places above it too.
 fn live_run(p: &[u32], s: &[u8], at: u32, n: u32, c: Used) -> Used
     requires { ⌜ RunIn (now p) (now s) (at, n) ⌝ }
     requires { ⌜ LiveIn (now p) (now s) c ⌝ }
@@ -63,23 +59,15 @@ fn live_run(p: &[u32], s: &[u8], at: u32, n: u32, c: Used) -> Used
 {
     let first = at as usize;
     let count = n as usize;
-    let mut bytes = c.bytes;
     let mut byte = c.byte;
     let mut i = 0;
     while i < count {
-        let text = texts::text_of(p, s, first + i);
-        bytes = frame::add_capped(bytes, text.len(), 32769);
         byte = larger(byte, piece_end(p, first + i));
         i += 1;
     }
     let pieces = frame::add_capped(c.pieces, count, 1025);
     let row = top_row(at, n, c.row);
-    Used {
-        pieces,
-        bytes,
-        row,
-        byte,
-    }
+    Used { pieces, row, byte }
 }
 
 // The same for a row's two runs and its replacement.
@@ -93,12 +81,10 @@ fn live_row(p: &[u32], s: &[u8], r: table::Row, c: Used) -> Used
     if r.text_at == texts::NONE {
         return b;
     }
-    let n = wide(r.text_n);
     Used {
         pieces: b.pieces,
-        bytes: frame::add_capped(b.bytes, n, 32769),
         row: b.row,
-        byte: larger(b.byte, wide(r.text_at) + n),
+        byte: larger(b.byte, wide(r.text_at) + wide(r.text_n)),
     }
 }
 
@@ -107,7 +93,7 @@ pub fn live(t: &[u32], p: &[u32], s: &[u8]) -> Used
     requires { ⌜ Readable (now t) (now p) (now s) ⌝ }
     requires { ⌜ within (limitsOf (now t) (now p) (now s)) (magicStringOf [] (now t) (now p) (now s)) ≡ true ⌝ }
     requires { ⌜ Sized (now t) (now p) (now s) ⌝ }
-    ensures { λ l. ⌜ LiveOf (now (t .entry)) (now (p .entry)) (now (s .entry)) l ⌝ }
+    ensures { λ l. ⌜ Above (now (t .entry)) (now (p .entry)) (now (s .entry)) l ⌝ }
 {
     let z = table::get_row(t, 0);
     let n = z.start;
@@ -117,46 +103,57 @@ pub fn live(t: &[u32], p: &[u32], s: &[u8]) -> Used
         rebuild::own_row(z),
         Used {
             pieces: 0,
-            bytes: 0,
             row: 0,
             byte: 0,
         },
     );
     let mut pieces = c.pieces;
-    let mut bytes = c.bytes;
     let mut row = c.row;
     let mut byte = c.byte;
     let mut cur = z.next;
     let mut k = 0;
     while k < n {
         let r = table::get_row(t, cur);
-        let d = live_row(
-            p,
-            s,
-            r,
-            Used {
-                pieces,
-                bytes,
-                row,
-                byte,
-            },
-        );
+        let d = live_row(p, s, r, Used { pieces, row, byte });
         pieces = d.pieces;
-        bytes = d.bytes;
         row = d.row;
         byte = d.byte;
         cur = r.next;
         k += 1;
     }
-    Used {
-        pieces,
-        bytes,
-        row,
-        byte,
-    }
+    Used { pieces, row, byte }
 }
 
-// Whether n chunks, a piece more and len bytes more keep the limits, and the tables have room on top for any run with a piece more, and for the bytes.
+// An outcome with what the desk uses counted anew.
+pub fn counted(t: &[u32], p: &[u32], s: &[u8], number: u32) -> Outcome
+    requires { ⌜ Usable (now t) (now p) (now s) ⌝ }
+    ensures { λ o. ⌜ (o .number ≡ number) × Above (now (t .entry)) (now (p .entry)) (now (s .entry)) (o .used) ⌝ }
+{
+    let used = live(t, p, s);
+    Outcome { number, used }
+}
+
+// The end of a call on scratch tables, with what the desk then uses.
+pub fn finish(
+    t: &[u32],
+    p: &[u32],
+    s: &[u8],
+    chunks: &mut [u32],
+    pieces: &mut [u32],
+    store: &mut [u8],
+    r: u32,
+) -> Outcome
+    requires { ⌜ Readable (now t) (now p) (now s) ⌝ }
+    requires { ⌜ Usable (now chunks) (now pieces) (now store) ⌝ }
+    ensures { λ o. ⌜ Finished (now (t .entry)) (now (p .entry)) (now (s .entry)) (now (chunks .entry)) (now (pieces .entry)) (now (store .entry))
+        (now (chunks .exit)) (now (pieces .exit)) (now (store .exit)) r (o .number)
+        × Above (now (chunks .exit)) (now (pieces .exit)) (now (store .exit)) (o .used) ⌝ }
+{
+    let number = frame::finish(t, p, s, chunks, pieces, store, r);
+    counted(chunks, pieces, store, number)
+}
+
+// Whether n chunks and a piece more keep the limits, and the tables have room on top for any run with a piece more, and for len bytes.
 pub fn has_room(l: Used, n: u32, len: usize, ct: usize, cp: usize, cs: usize) -> bool
     requires { ⌜ Small cp cs l ⌝ }
     requires { ⌜ 24 ≤ ct ⌝ }
@@ -172,9 +169,6 @@ pub fn has_room(l: Used, n: u32, len: usize, ct: usize, cp: usize, cs: usize) ->
         return false;
     }
     if len > cs - l.byte {
-        return false;
-    }
-    if len > cs - l.bytes {
         return false;
     }
     true

@@ -12,13 +12,7 @@ use Rattle.model.specs.Chunk.{Chunk}
 use Rattle.model.specs.Limits.{chunk-pieces, chunk-bytes, replacement-bytes}
 use Rattle.memory.specs.Layout.{NONE, Place, bytesAt, pieceAt, replacementOf, chunkOf}
 use Rattle.memory.specs.WellFormed.{ReplacementIn, EntryIn, Readable, pieceUses, byteUses, replacementUses}
-use Rattle.texts.specs.Carry.{Below}
-
--- an entry whose piece rows lie below a row and whose texts end at or before a byte
-pub record EntryBelow (p : List ℕ) (byte row : ℕ) (e : Entry) : Type 0 where
-  pub intro : Below p byte row (e .intro)
-  pub outro : Below p byte row (e .outro)
-  pub text : (e .text .0 ≡ NONE → ⊥) → e .text .0 + e .text .1 ≤ byte
+pub use Rattle.memory_used.specs.Below.{EntryBelow}
 
 -- what lies below a row and a byte reads as before
 pub record Grown (P S : List ℕ) (byte row : ℕ) (P' S' : List ℕ) (byte' row' : ℕ) : Type 0 where

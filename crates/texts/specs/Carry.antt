@@ -14,6 +14,7 @@ use Rattle.utf8.specs.CharLaws.{concat-append}
 use Rattle.model.specs.Text.{Text}
 use Rattle.memory.specs.Layout.{Place, bytesAt, pieceAt, tabulate, runOf}
 use Rattle.memory.specs.WellFormed.{PieceIn, RunIn}
+pub use Rattle.memory_used.specs.Below.{Below}
 use Rattle.texts.specs.Over.{over, over-nil, over-over, length-over, take-over, over-part, part-kept}
 use Rattle.texts.specs.Texts.{concat-cons, concat-nil, concat-one, tabulate-ext, tabulate-list, run-tabulate}
 
@@ -167,10 +168,7 @@ module _ (ts us vs : List Text) {p s : List ℕ} {byte row : ℕ} {p' s' : List 
       let ls = carried-bytes c (room .bytes-in) in
       record { row = omega (arith, b .0, c .row-is, room .rows-in); text = omega (arith, b .1, c .byte-is, room .bytes-in) }
 
--- a run of rows below a row, whose texts end at or before a byte: it reads as before
-abbrev pub Below : List ℕ → ℕ → ℕ → Place → Type 0
-Below p byte row r = (k : ℕ) → k < r .1 → (r .0 + k < row) × (pieceAt p (r .0 + k) .0 + pieceAt p (r .0 + k) .1 ≤ byte)
-
+-- a run below a row and a byte reads as before
 module _ {ts : List Text} {p s : List ℕ} {byte row : ℕ} {p' s' : List ℕ} {byte' row' : ℕ} (c : Carried ts p s byte row p' s' byte' row') (room : RoomOf ts p s byte row) where
   kept-word : (i : ℕ) → i < row * 2 → getD p' i 0 ≡ getD p i 0
   kept-word i h =

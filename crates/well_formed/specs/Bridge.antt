@@ -29,7 +29,7 @@ use Rattle.spans.specs.Spans as spans
 use Rattle.marks.specs.Marks.{RowsIn, BothIn, RunsApart, pieceCount, pieceTotal, RunTexts, BothTexts, ReplacementText, EntryTexts, TextsApart}
 use Rattle.well_formed.specs.Rows.{Chunked, ByRows}
 use Rattle.well_formed.specs.Chunks.{chunksOf, sum-entries, all-entries, entries-all, sum-chunks, all-chunks, chunks-all, length-chunks}
-use Rattle.well_formed.specs.Bytes.{bytes-fit}
+use Rattle.counts.proofs.Bytes.{bytes-fit}
 
 -- ── runs and texts ──
 module _ (p s : List ℕ) where

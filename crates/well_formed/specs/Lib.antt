@@ -1,4 +1,3 @@
 pub mod Rows
 pub mod Chunks
-pub mod Bytes
 pub mod Bridge

@@ -13,12 +13,12 @@ sub-if1 c = search needs
 returns : tie.Need-returns
 returns c =
     let a = c .before .before .args in
-    refuses (a .l) (a .n) (a .len) (λ r. omega (arith, c .if1 .taken, r .chunks, r .pieces, r .rows, r .places, r .bytes, c .before .wide .ensures .0))
+    refuses (a .l) (a .n) (a .len) (λ r. omega (arith, c .if1 .taken, r .chunks, r .pieces, r .rows, r .places, c .before .wide .ensures .0))
 
 returns-2 : tie.Need-returns-2
 returns-2 c =
     let a = c .before .before .before .before .args in
-    refuses (a .l) (a .n) (a .len) (λ r. omega (arith, c .if2 .taken, r .chunks, r .pieces, r .rows, r .places, r .bytes))
+    refuses (a .l) (a .n) (a .len) (λ r. omega (arith, c .if2 .taken, r .chunks, r .pieces, r .rows, r .places))
 
 add-if3 : tie.Need-add-if3
 add-if3 c = search needs
@@ -26,7 +26,7 @@ add-if3 c = search needs
 returns-3 : tie.Need-returns-3
 returns-3 c =
     let a = c .before .before .before .before .before .before .args in
-    refuses (a .l) (a .n) (a .len) (λ r. omega (arith, c .if3 .taken, r .chunks, r .pieces, r .rows, r .places, r .bytes))
+    refuses (a .l) (a .n) (a .len) (λ r. omega (arith, c .if3 .taken, r .chunks, r .pieces, r .rows, r .places))
 
 sub-if4 : tie.Need-sub-if4
 sub-if4 c = search needs
@@ -34,28 +34,19 @@ sub-if4 c = search needs
 returns-4 : tie.Need-returns-4
 returns-4 c =
     let a = c .before .before .before .before .before .before .before .before .args in
-    refuses (a .l) (a .n) (a .len) (λ r. omega (arith, c .if4 .taken, r .chunks, r .pieces, r .rows, r .places, r .bytes))
-
-sub-if5 : tie.Need-sub-if5
-sub-if5 c = search needs
+    refuses (a .l) (a .n) (a .len) (λ r. omega (arith, c .if4 .taken, r .chunks, r .pieces, r .rows, r .places))
 
 returns-5 : tie.Need-returns-5
 returns-5 c =
-    let a = c .before .before .before .before .before .before .before .before .before .before .args in
-    refuses (a .l) (a .n) (a .len) (λ r. omega (arith, c .if5 .taken, r .chunks, r .pieces, r .rows, r .places, r .bytes))
-
-returns-6 : tie.Need-returns-6
-returns-6 c =
-    let start = c .before .before .before .before .before .before .before .before .before .before in
+    let start = c .before .before .before .before .before .before .before .before in
     let a = start .args in
     let h = start .pre .0 in
     accepts (a .l) (a .n) (a .len)
     (record {
-      chunks = omega (arith, c .before .before .before .before .before .before .before .before .if1 .left, c .before .before .before .before .before .before .before .before .before .wide .ensures .0);
-      pieces = omega (arith, c .before .before .before .before .before .before .if2 .left);
-      rows = omega (arith, c .before .before .before .before .if3 .left);
-      places = omega (arith, c .before .before .if4 .left, h .byte);
-      bytes = omega (arith, c .if5 .left, h .bytes);
+      chunks = omega (arith, c .before .before .before .before .before .before .if1 .left, c .before .before .before .before .before .before .before .wide .ensures .0);
+      pieces = omega (arith, c .before .before .before .before .if2 .left);
+      rows = omega (arith, c .before .before .if3 .left);
+      places = omega (arith, c .if4 .left, h .byte);
     })
 
 pub has-room-spec : {M : Type 1} → statement M
@@ -70,6 +61,4 @@ has-room-spec =
     returns-3
     sub-if4
     returns-4
-    sub-if5
-    returns-5
-    returns-6)
+    returns-5)

@@ -19,10 +19,10 @@ use Rattle.rebuild.proofs.own_row.Reads as own-row-reads
 use Rattle.table.proofs.get_row.Reads as get-row-reads
 
 abbrev Inv-loop : tie.InvT-loop
-Inv-loop t p s n pieces₀ bytes₀ row₀ byte₀ cur₀ k₀ pieces bytes row byte cur k = (n ≡ countOf t) × Loop t p s n k cur pieces bytes row byte
+Inv-loop t p s n pieces₀ row₀ byte₀ cur₀ k₀ pieces row byte cur k = (n ≡ countOf t) × Loop t p s n k cur pieces row byte
 
 abbrev μ-loop : tie.MeasureT-loop
-μ-loop t p s n pieces₀ bytes₀ row₀ byte₀ cur₀ k₀ pieces bytes row byte cur k = n - k
+μ-loop t p s n pieces₀ row₀ byte₀ cur₀ k₀ pieces row byte cur k = n - k
 
 get-row-requires : tie.Need-get-row-requires Inv-loop μ-loop
 get-row-requires c κs =

@@ -35,48 +35,30 @@ returns c =
 wide-requires : tie.Need-wide-requires
 wide-requires c κs = search needs
 
-add-capped-requires : tie.Need-add-capped-requires
-add-capped-requires c κs =
-    let live-run2 = c .before .before .before .live-run2 in
-    omega (arith, live-run2 .ensures .inside .bytes)
-
 wide-requires-2 : tie.Need-wide-requires-2
 wide-requires-2 c κs = search needs
 
 add-larger : tie.Need-add-larger
 add-larger c =
-    let wide2 = c .wide2 in
-    let wide = c .before .before .wide in
-    omega (arith, wide .ensures .1, wide2 .ensures .1)
+    omega (arith, c .before .wide .ensures .1, c .wide2 .ensures .1)
 
 larger-requires : tie.Need-larger-requires
 larger-requires c κs = search needs
 
 returns-2 : tie.Need-returns-2
 returns-2 c =
-    let start = c .before .before .before .before .before .before .before .before .before .before in
-    let live-run = c .before .before .before .before .before .before .before .live-run in
-    let live-run2 = c .before .before .before .before .before .before .live-run2 in
-    let if1 = c .before .before .before .before .if1 in
-    let wide = c .before .before .before .wide in
-    let wide2 = c .before .wide2 in
-    let add-capped = c .before .before .add-capped in
     let larger = c .larger in
+    let wide2 = c .before .wide2 in
+    let wide = c .before .before .wide in
+    let if1 = c .before .before .before .if1 in
+    let live-run2 = c .before .before .before .before .before .live-run2 in
+    let live-run = c .before .before .before .before .before .before .live-run in
+    let start = c .before .before .before .before .before .before .before .before .before in
     let e = entryOf (start .args .r) in
-    entry-some e (live-run .ensures) (live-run2 .ensures) (add-capped .result) (larger .result) (if1 .left) (start .pre .0 .replacement)
-    (add-capped .ensures ∙ ap (λ (x : ℕ). min (live-run2 .result .bytes + x) 32769) (wide .ensures .0))
-    (larger .ensures ∙ ap₂ (λ (x y : ℕ). max (live-run2 .result .byte) (x + y)) (wide2 .ensures .0) (wide .ensures .0))
+    entry-some e (live-run .ensures) (live-run2 .ensures) (larger .result) (if1 .left) (start .pre .0 .replacement)
+    (larger .ensures ∙ ap₂ (λ (x y : ℕ). max (live-run2 .result .byte) (x + y)) (wide .ensures .0) (wide2 .ensures .0))
 
 pub live-row-spec : {M : Type 1} → statement M
 live-row-spec =
     tie.close
-    (tie.spec
-    live-run-requires
-    live-run-requires-2
-    returns
-    wide-requires
-    add-capped-requires
-    wide-requires-2
-    add-larger
-    larger-requires
-    returns-2)
+    (tie.spec live-run-requires live-run-requires-2 returns wide-requires wide-requires-2 add-larger larger-requires returns-2)

@@ -15,10 +15,10 @@ use Rattle.on_top.proofs.top_row.Reads as top-row-reads
 use Rattle.texts.proofs.text_of.Reads as text-of-reads
 
 abbrev Inv-loop : tie.InvT-loop
-Inv-loop p s at n c first count bytes₀ byte₀ i₀ bytes byte i = (first ≡ at) × (count ≡ n) × RunAt p s at n c i bytes byte
+Inv-loop p s at n c first count byte₀ i₀ byte i = (first ≡ at) × (count ≡ n) × RunAt p s at n c i byte
 
 abbrev μ-loop : tie.MeasureT-loop
-μ-loop p s at n c first count bytes₀ byte₀ i₀ bytes byte i = n - i
+μ-loop p s at n c first count byte₀ i₀ byte i = n - i
 
 loop-holds : tie.Need-loop-holds Inv-loop μ-loop
 loop-holds c =
@@ -26,61 +26,42 @@ loop-holds c =
     let a = start .args in
     (refl, refl, run-start (a .p .now) (a .s .now) (a .at) (a .n) (a .c) (start .pre .1))
 
-add-text-of : tie.Need-add-text-of Inv-loop μ-loop
-add-text-of c =
-    omega arith
-
-text-of-requires : tie.Need-text-of-requires Inv-loop μ-loop
-text-of-requires c κs =
-    let start = c .before .before .before .before in
-    let loop = c .before .loop in
-    let a = start .args in
-    run-piece (a .p .now) (a .s .now) (a .at) (a .n) (loop .i) (start .pre .0) (omega (arith, c .loop-test .taken, loop .inv .1))
-
-add-capped-requires : tie.Need-add-capped-requires Inv-loop μ-loop
-add-capped-requires c κs =
-    let loop = c .before .before .loop in
-    omega (arith, loop .inv .2 .bytes-are)
-
 add-piece-end : tie.Need-add-piece-end Inv-loop μ-loop
 add-piece-end c =
     omega arith
 
 piece-end-requires : tie.Need-piece-end-requires Inv-loop μ-loop
 piece-end-requires c κs =
-    let start = c .before .before .before .before .before .before in
-    let loop = c .before .before .before .loop in
+    let start = c .before .before .before .before in
+    let loop = c .before .loop in
     let a = start .args in
-    let loop-test = c .before .before .loop-test in
-    run-piece (a .p .now) (a .s .now) (a .at) (a .n) (loop .i) (start .pre .0) (omega (arith, loop-test .taken, loop .inv .1)) .row
+    run-piece (a .p .now) (a .s .now) (a .at) (a .n) (loop .i) (start .pre .0) (omega (arith, c .loop-test .taken, loop .inv .1)) .row
 
 larger-requires : tie.Need-larger-requires Inv-loop μ-loop
 larger-requires c κs = search needs
 
 add-i : tie.Need-add-i Inv-loop μ-loop
 add-i c =
-    let loop-test = c .before .before .before .before .loop-test in
+    let loop-test = c .before .before .loop-test in
     omega (arith, loop-test .taken)
 
 loop-less : tie.Need-loop-less Inv-loop μ-loop
 loop-less c =
-    let loop-test = c .before .before .before .before .loop-test in
-    let loop = c .before .before .before .before .before .loop in
+    let loop-test = c .before .before .loop-test in
+    let loop = c .before .before .before .loop in
     omega (arith, loop-test .taken, loop .inv .1)
 
 loop-again : tie.Need-loop-again Inv-loop μ-loop
 loop-again c =
-    let start = c .before .before .before .before .before .before .before .before in
-    let loop = c .before .before .before .before .before .loop in
-    let loop-test = c .before .before .before .before .loop-test in
-    let text-of = c .before .before .before .text-of in
-    let add-capped = c .before .before .add-capped in
+    let start = c .before .before .before .before .before .before in
+    let loop = c .before .before .before .loop in
+    let loop-test = c .before .before .loop-test in
     let piece-end = c .before .piece-end in
     let larger = c .larger in
-    (refl, refl, run-more (text-of .result .now) (add-capped .result) (piece-end .result) (larger .result) (start .pre .0) (loop .inv .2) (omega (arith, loop-test .taken, loop .inv .1)) (text-of .ensures) (add-capped .ensures) (piece-end .ensures) (larger .ensures))
+    (refl, refl, run-more (piece-end .result) (larger .result) (start .pre .0) (loop .inv .2) (omega (arith, loop-test .taken, loop .inv .1)) (piece-end .ensures) (larger .ensures))
 
-add-capped-requires-2 : tie.Need-add-capped-requires-2 Inv-loop μ-loop
-add-capped-requires-2 c κs =
+add-capped-requires : tie.Need-add-capped-requires Inv-loop μ-loop
+add-capped-requires c κs =
     let start = c .before .before .before .before in
     omega (arith, start .pre .1 .pieces)
 
@@ -92,9 +73,9 @@ returns c =
     let start = c .before .before .before .before .before .before in
     let loop = c .before .before .before .loop in
     let loop-test = c .before .before .loop-test in
-    let add-capped2 = c .before .add-capped2 in
+    let add-capped = c .before .add-capped in
     let top-row = c .top-row in
-    run-end (start .pre .0) (start .pre .1) (loop .inv .2) (omega (arith, loop-test .left, loop .inv .1)) (add-capped2 .ensures) (top-row .ensures)
+    run-end (start .pre .0) (start .pre .1) (loop .inv .2) (omega (arith, loop-test .left, loop .inv .1)) (add-capped .ensures) (top-row .ensures)
 
 pub live-run-spec : {M : Type 1} → statement M
 live-run-spec =
@@ -103,15 +84,12 @@ live-run-spec =
     Inv-loop
     μ-loop
     loop-holds
-    add-text-of
-    text-of-requires
-    add-capped-requires
     add-piece-end
     piece-end-requires
     larger-requires
     add-i
     loop-less
     loop-again
-    add-capped-requires-2
+    add-capped-requires
     top-row-requires
     returns)
