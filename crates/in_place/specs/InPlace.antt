@@ -4,7 +4,7 @@ use mathlib.Core.Bool.{true}
 use mathlib.Core.List.{List, []}
 use Prim.Native.Nat.{ℕ, _+_, _*_, _≤_}
 use native.Mathlib.Omega.{arith}
-use lib.ListN.{length}
+use lib.ListN.{length, take}
 use Rattle.table.specs.Order.{countOf}
 use Rattle.model.specs.Limits.{within}
 use Rattle.model.specs.Call.{Edit, steps, refused-before}
@@ -14,7 +14,9 @@ use Rattle.memory.specs.WellFormed.{limitsOf, Lengths, Readable, HoldsEach, Dis
 use Rattle.memory.specs.Calls.{may-write, Ran}
 use Rattle.rebuild.specs.Rebuilt.{Finished}
 use Rattle.frame.specs.Frame.{Roomy, Did, ran-finished}
-use Rattle.uses.specs.Kept.{Kept, kept-apart, kept-within}
+use Rattle.uses.specs.Kept.{Kept, kept-apart, kept-within, fewer-pieces}
+use Rattle.memory_used.specs.declared.Used.{Used}
+use Rattle.memory_used.specs.Above.{Above}
 
 -- lent rows with room for n chunks more
 pub lent-roomy : {source t p s : List ℕ} (n : ℕ) → WellFormed source t p s → (countOf t + n) * 12 + 12 ≤ length t → Roomy n t
@@ -39,3 +41,7 @@ pub ran-rows : {e : Edit} {source t p s t' : List ℕ} {r : ℕ} → WellFormed 
 ran-rows {source = source} {t} {p} {s} {t'} w h d may len k =
     ran-in-place w h d may (record { chunks = len; pieces = refl; store = refl }) (k .each (w .each)) (kept-apart k p (w .disjoint))
     (kept-within k (limitsOf t p s) source p s (w .desk .limits) (omega (arith, d .readable .linked .room)))
+
+-- what the chunk rows use is not more than before, so a bound of it stays one
+pub above-kept : {t p s t' : List ℕ} {l : Used} → Kept t t' → Readable t' (take (l .row * 2) p) (take (l .byte) s) → Above t p s l → Above t' p s l
+above-kept {t} {p} {s} {t'} {l} k h a = record { pieces = omega (arith, fewer-pieces k p s, a .pieces); few = a .few; readable = h; row = a .row; byte = a .byte }
