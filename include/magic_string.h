@@ -4,8 +4,14 @@
  * whose words docs/LAYOUT.md describes. Every function takes them first, each
  * as a pointer and a length in elements. It works on any content and any
  * length, always returns, and keeps nothing. Pointers are not null and are
- * valid for their lengths; a slice that is written lies apart from the others,
- * and nothing else writes any of them during the call.
+ * valid for their lengths, a slice of length 0 too: pass the address of any
+ * object of the element's type. A slice that is written lies apart from the
+ * others, and nothing else writes any of them during the call.
+ *
+ * The tables do not hold the source, and nothing in them tells which it was. A
+ * caller lends the same source to every call on a desk: another one of the same
+ * length with the same boundaries between characters is no less a desk, so it
+ * gives no 2, and the output shows that other source.
  *
  * Options are numbers; any value but 0 is yes. Texts are UTF-8. Positions are
  * byte offsets into the source, "from start up to end" is without end.
@@ -34,7 +40,8 @@
  *    is said to do nothing, and after every report, each byte of the tables is
  *    as it was.
  *  - After a refusal each byte of the tables is as it was, but where "After"
- *    says that something stays; the tables then hold that desk, well formed.
+ *    says that something stays (after 6, 7, 9 and update_with's 10): the tables
+ *    then hold that desk, well formed, in rows and bytes of the library's choice.
  *  - A report that fills a buffer writes its text to the front of it and leaves
  *    the bytes behind. No refusal writes a buffer.
  */
@@ -223,10 +230,16 @@ magic_string_indent_with(MAGIC_STRING_DESK, uint32_t has_indentor,
 magic_string_answer magic_string_to_string(MAGIC_STRING_READ, uint8_t *out,
                                            size_t out_len);
 
-/* Writes the output of the bytes from start up to end, along the list; the
- * first chunk's intro only if it starts at start, the last one's outro only if
- * it ends at end. Without has_end it goes to the source's end, and end is not
- * looked at.
+/* Walks the list and writes the output of the chunks from the one that holds
+ * the byte at start to the first from there on that holds end: whose span
+ * begins before end and reaches it. Of the first chunk it writes what lies from
+ * start on, with the intro only if the chunk begins at start; of the last what
+ * lies up to end, with the outro only if the chunk ends there. Where no chunk
+ * from start on holds end the walk goes to the end of the list, so a slice from
+ * 2 to 0 of a fresh "abcdef" is "cdef", and one from 0 to 0 is all of it. The
+ * slice is empty where a chunk that holds end is met before the one that holds
+ * start, and where none holds start. Without has_end the end is the source's,
+ * and end is not looked at.
  * Numbers: 2, 3, 11, 12, 14. */
 magic_string_answer magic_string_slice(MAGIC_STRING_READ, uint32_t start,
                                        uint32_t has_end, uint32_t end,
@@ -237,8 +250,9 @@ magic_string_answer magic_string_slice(MAGIC_STRING_READ, uint32_t start,
 magic_string_answer magic_string_last_line(MAGIC_STRING_READ, uint8_t *out,
                                            size_t out_len);
 
-/* Writes the indent that the source's lines suggest: a tab, or as many spaces
- * as the least indented of the lines that begin with two.
+/* Writes the indent that the source's lines suggest: a tab, unless more of them
+ * begin with two spaces than with a tab; then as many spaces as the one of those
+ * lines that begins with the fewest.
  * Numbers: 2, 14. */
 magic_string_answer
 magic_string_get_indent_string(MAGIC_STRING_READ, uint8_t *out, size_t out_len);

@@ -2,8 +2,9 @@ use super::reported;
 use crate::{MagicString, Refusal, memory::Memory};
 
 impl MagicString {
-  /// The indent that the source's lines suggest: a tab, or as many spaces as the
-  /// least indented line has that begins with two.
+  /// The indent that the source's lines suggest: a tab, unless more of them begin with
+  /// two spaces than with a tab; then as many spaces as the one of those lines that
+  /// begins with the fewest.
   ///
   /// # Example
   /// ```
