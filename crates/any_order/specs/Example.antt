@@ -16,8 +16,8 @@ use Rattle.model.specs.Update as update-rs
 use Rattle.model.specs.Movement.{change-range}
 use Rattle.model.specs.Movement as movement-rs
 use Rattle.model.specs.Reset as reset-rs
-use Rattle.model.specs.Limits.{full, within, judged}
-use Rattle.model.specs.Call.{Edit, remove, update-with, reset, append-left, append-right, prepend-left, prepend-right, append, prepend, relocate, refused-before, run}
+use Rattle.model.specs.Limits.{full, within}
+use Rattle.model.specs.Call.{Edit, remove, update-with, reset, append-left, append-right, prepend-left, prepend-right, append, prepend, relocate, refused-before, judged, run}
 use Rattle.model.specs.WellFormed.{covers, WellFormed}
 use Rattle.model.specs.Spans.{covers-in, covers-out}
 use Rattle.any_order.specs.Claim.{Order, Premises, after, Conclusion}

@@ -13,8 +13,8 @@ use Rattle.model.specs.Reset.{reset}
 use Rattle.model.specs.Slice.{contains-end, chunk-slice, ends-inside, slice}
 use Rattle.model.specs.Trim.{trim-chunk-start, trim-chunk-end, trim-start, trim-end}
 use Rattle.model.specs.Indent.{get-indent-string, indent-chunk, indent-by, indent-with}
-use Rattle.model.specs.Limits.{within, judged}
-use Rattle.model.specs.Call.{refused-before, run, show, opened, perform}
+use Rattle.model.specs.Limits.{within}
+use Rattle.model.specs.Call.{refused-before, judged, run, show, opened, perform}
 use Rattle.cases.specs.Case.{Holds}
 use Rattle.cases.specs.Marked.{marked}
 use Rattle.cases.specs.Numbers.{numbers}

@@ -2,10 +2,10 @@
 use Prim.Native.Nat.{ℕ, zero, suc}
 use native.Mathlib.Omega.{arith}
 use mathlib.Core.Path.{_≡_, refl, ap, sym, _∙_}
-use mathlib.Core.Bool.{Bool, true, false, cond}
+use mathlib.Core.Bool.{Bool, true, false, not, cond}
 use Rattle.model.specs.MagicString.{MagicString, Result, ok, err}
-use Rattle.model.specs.Limits.{Limits, within, judged}
-use Rattle.model.specs.Call.{Edit, steps, refused-before, run}
+use Rattle.model.specs.Limits.{Limits, within}
+use Rattle.model.specs.Call.{Edit, steps, refused-before, judged, run}
 use Rattle.model.specs.WellFormed.{Formed}
 use Rattle.closed_forms.specs.Plan.{listed, apply, unless-refused, closed}
 use Rattle.closed_forms.specs.Steps.{steps-are-closed}
@@ -42,7 +42,7 @@ run-accepted k e m l f h = before (refused-before m e) refl (rw (run-parts k e m
         let a : Accepted e m = closed-accepted e m z in
         record { before = b; accepted = a; space = sym (ap (λ r. within k (r .desk)) (accepted-closed e m a)) ∙ w }
 
-    space : refused-before m e ≡ 0 → (w : Bool) → within k (closed e m .desk) ≡ w → cond w (closed e m) (err 13 m) .number ≡ 0 → RunAccepted k e m
+    space : refused-before m e ≡ 0 → (w : Bool) → within k (closed e m .desk) ≡ w → cond (not w) (err 13 m) (closed e m) .number ≡ 0 → RunAccepted k e m
     space b true w z = kept z b w
     space b false w z = absurd (omega arith)
 

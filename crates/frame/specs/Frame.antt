@@ -9,14 +9,14 @@ use lib.ListN.{length, getD, drop, length-append, length-drop}
 use borrow.Author.Tests.{leb-true, le-leb}
 use Rattle.table.specs.Order.{Linked, countOf}
 use Rattle.model.specs.MagicString.{MagicString, Result, err}
-use Rattle.model.specs.Limits.{Limits, full, within, judged, piece-count, byte-count}
+use Rattle.model.specs.Limits.{Limits, full, within, piece-count, byte-count}
 use Rattle.model.specs.Text.{all}
-use Rattle.model.specs.Call.{Edit, options-valid, texts, positions, steps, refused-before, run}
+use Rattle.model.specs.Call.{Edit, options-valid, texts, positions, idle, steps, refused-before, judged, run}
 use Rattle.utf8.specs.Rfc3629.{utf8, between}
 use Rattle.model.specs.WellFormed as model
 use Rattle.memory.specs.Layout.{magicStringOf}
 use Rattle.memory.specs.WellFormed.{limitsOf, Sized, Readable, WellFormed}
-use Rattle.memory.specs.Calls.{idle, may-write, Ran}
+use Rattle.memory.specs.Calls.{may-write, Ran}
 use Rattle.preservation.specs.Calls.{run-keeps}
 use Rattle.rebuild.specs.Rebuilt.{Rebuilt, Finished}
 pub use Rattle.memory.specs.Laws.{zeros-length, zeros-at}

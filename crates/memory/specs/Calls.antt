@@ -1,13 +1,12 @@
 -- What an exported call promises of every input. `Edited` for the calls that change a desk, `Reported` for the reports, `Opened` for the opening.
-use Prim.Native.Nat.{ℕ, zero, suc}
+use Prim.Native.Nat.{ℕ}
 use mathlib.Core.Path.{_≡_}
-use mathlib.Core.Bool.{Bool, true, false, _&&_, not}
-use mathlib.Core.List.{List, [], _∷_, _++_}
+use mathlib.Core.Bool.{Bool, false, _&&_, not}
+use mathlib.Core.List.{List, [], _++_}
 use lib.Dec.{eqb}
 use lib.ListN.{length, drop}
 use Rattle.model.specs.MagicString.{MagicString, Result, new}
-use Rattle.model.specs.Indent.{is-empty-indentor}
-use Rattle.model.specs.Call.{Edit, remove, update-with, reset, append-left, append-right, prepend-left, prepend-right, append, prepend, relocate, trim, trim-start, trim-end, trim-lines, indent-with, Report, Shown, may-change, run, show, opened}
+use Rattle.model.specs.Call.{Edit, Report, Shown, idle, may-change, run, show, opened}
 use Rattle.memory.specs.Layout.{magicStringOf}
 use Rattle.memory.specs.WellFormed.{limitsOf, Full, Lengths, WellFormed, Taken}
 
@@ -16,24 +15,6 @@ pub record Same (t p s t′ p′ s′ : List ℕ) : Type 0 where
   pub chunks : t′ ≡ t
   pub pieces : p′ ≡ p
   pub store : s′ ≡ s
-
--- an edit that the Rust accepts without a step: zero width, or an empty indentor
-unfoldable pub idle : Edit → Bool
-idle (remove a b) = eqb a b
-idle (update-with a b t o) = false
-idle (reset a b) = eqb a b
-idle (append-left p t) = false
-idle (append-right p t) = false
-idle (prepend-left p t) = false
-idle (prepend-right p t) = false
-idle (append t) = false
-idle (prepend t) = false
-idle (relocate a b to) = eqb a b
-idle (trim p) = false
-idle (trim-start p) = false
-idle (trim-end p) = false
-idle trim-lines = false
-idle (indent-with i l) = is-empty-indentor i
 
 -- whether a call with this answer may write the tables: where it may change the desk, and does not accept without a step
 unfoldable pub may-write : Edit → ℕ → Bool

@@ -1,12 +1,12 @@
 -- Every call of document 01, by name, and what it gives: `run` for the calls that change a desk, `show` for those that report on it.
 use Prim.Native.Nat.{ℕ, zero, suc, _%_}
-use mathlib.Core.Bool.{Bool, true, false, _&&_, _||_, cond}
+use mathlib.Core.Bool.{Bool, true, false, _||_, not, cond}
 use mathlib.Core.List.{List, [], _∷_, _++_}
 use mathlib.Core.Option.{Option, none, some}
 use lib.Dec.{leb, eqb}
 use lib.ListN.{length}
 use Rattle.utf8.specs.Rfc3629.{utf8, between}
-use Rattle.model.specs.Text.{Text, all}
+use Rattle.model.specs.Text.{Text, any, all}
 use Rattle.model.specs.MagicString.{MagicString, Result, ok, err, new}
 use Rattle.model.specs.MagicString as mod-rs
 use Rattle.model.specs.Append as append-rs
@@ -17,8 +17,9 @@ use Rattle.model.specs.Reset as reset-rs
 use Rattle.model.specs.Slice.{Sliced, text, refused}
 use Rattle.model.specs.Slice as slice-rs
 use Rattle.model.specs.Trim as trim-rs
+use Rattle.model.specs.Indent.{is-empty-indentor}
 use Rattle.model.specs.Indent as indent-rs
-use Rattle.model.specs.Limits.{Limits, within, judged}
+use Rattle.model.specs.Limits.{Limits, within}
 
 -- the calls that change a desk
 pub data Edit : Type 0 where
@@ -48,112 +49,144 @@ pub data Call : Type 0 where
   change : Edit → Call
   report : Report → Call
 
--- ── what a call is given: its options, texts and positions ──
--- 15: "pattern above 1, or an exclude list of odd count"
-abbrev pub options-valid : Edit → Bool
-options-valid (remove a b) = true
-options-valid (update-with a b t o) = true
-options-valid (reset a b) = true
-options-valid (append-left p t) = true
-options-valid (append-right p t) = true
-options-valid (prepend-left p t) = true
-options-valid (prepend-right p t) = true
-options-valid (append t) = true
-options-valid (prepend t) = true
-options-valid (relocate a b to) = true
-options-valid (trim p) = leb p 1
-options-valid (trim-start p) = leb p 1
-options-valid (trim-end p) = leb p 1
-options-valid trim-lines = true
-options-valid (indent-with i l) = eqb (length l % 2) 0
-
+-- ── a call that changes a desk ──
 abbrev pub given : Option Text → List Text
 given none = []
 given (some t) = t ∷ []
 
+-- What an edit is given, the Rust's function of its name, and the numbers that it may give
+pub record Asked : Type 0 where
+  -- 15: "pattern above 1, or an exclude list of odd count"
+  pub options-valid : Bool
+  -- 1: the texts
+  pub texts : List Text
+  -- 3: the positions
+  pub positions : List ℕ
+  -- whether the Rust accepts it without a step: zero width, or an empty indentor
+  pub idle : Bool
+  pub steps : MagicString → Result
+  -- which of 15, 1 and 3 it may give, and "the module's own" numbers, in the order of its tests
+  pub before : List ℕ
+  pub own : List ℕ
+  -- of its own: "6, 7, 9 and `update_with`'s 10 leave the desk as the Rust does: cuts made stay, so do chunks cleared before 7. All others change nothing"
+  pub leaving : List ℕ
+
+-- an insertion by a function of append.rs or prepend.rs: its one cut is made or refused, so that 6 leaves nothing
+abbrev pub insertion : ℕ → Text → (MagicString → Result) → Asked
+insertion p t f =
+    record { options-valid = true; texts = t ∷ []; positions = p ∷ []; idle = false; steps = f; before = 1 ∷ 3 ∷ []; own = 6 ∷ []; leaving = [] }
+
+abbrev pub addition : Text → (MagicString → Result) → Asked
+addition t f = record { options-valid = true; texts = t ∷ []; positions = []; idle = false; steps = f; before = 1 ∷ []; own = []; leaving = [] }
+
+abbrev pub trimming : Bool → List ℕ → (MagicString → MagicString) → Asked
+trimming valid before f =
+    record { options-valid = valid; texts = []; positions = []; idle = false; steps = λ m. ok (f m); before = before; own = []; leaving = [] }
+
+abbrev pub asked : Edit → Asked
+asked (remove a b) =
+    record {
+      options-valid = true;
+      texts = [];
+      positions = a ∷ b ∷ [];
+      idle = eqb a b;
+      steps = movement-rs.remove a b;
+      before = 3 ∷ [];
+      own = 4 ∷ 6 ∷ [];
+      leaving = 6 ∷ [];
+    }
+asked (update-with a b t o) =
+    record {
+      options-valid = true;
+      texts = t ∷ [];
+      positions = a ∷ b ∷ [];
+      idle = false;
+      steps = update-rs.update-with a b t o;
+      before = 1 ∷ 3 ∷ [];
+      own = 5 ∷ 4 ∷ 6 ∷ 10 ∷ 7 ∷ [];
+      leaving = 6 ∷ 10 ∷ 7 ∷ [];
+    }
+asked (reset a b) =
+    record {
+      options-valid = true;
+      texts = [];
+      positions = a ∷ b ∷ [];
+      idle = eqb a b;
+      steps = reset-rs.reset a b;
+      before = 3 ∷ [];
+      own = 4 ∷ 10 ∷ 6 ∷ [];
+      leaving = 6 ∷ [];
+    }
+asked (append-left p t) = insertion p t (append-rs.append-left p t)
+asked (append-right p t) = insertion p t (append-rs.append-right p t)
+asked (prepend-left p t) = insertion p t (prepend-rs.prepend-left p t)
+asked (prepend-right p t) = insertion p t (prepend-rs.prepend-right p t)
+asked (append t) = addition t (append-rs.append t)
+asked (prepend t) = addition t (prepend-rs.prepend t)
+asked (relocate a b to) =
+    record {
+      options-valid = true;
+      texts = [];
+      positions = a ∷ b ∷ to ∷ [];
+      idle = eqb a b;
+      steps = movement-rs.relocate a b to;
+      before = 3 ∷ [];
+      own = 8 ∷ 4 ∷ 10 ∷ 6 ∷ 9 ∷ [];
+      leaving = 6 ∷ 9 ∷ [];
+    }
+asked (trim p) = trimming (leb p 1) (15 ∷ []) (trim-rs.trim p)
+asked (trim-start p) = trimming (leb p 1) (15 ∷ []) (trim-rs.trim-start p)
+asked (trim-end p) = trimming (leb p 1) (15 ∷ []) (trim-rs.trim-end p)
+asked trim-lines = trimming true [] trim-rs.trim-lines
+asked (indent-with i l) =
+    record {
+      options-valid = eqb (length l % 2) 0;
+      texts = given i;
+      positions = l;
+      idle = is-empty-indentor i;
+      steps = indent-rs.indent-with i l;
+      before = 15 ∷ 1 ∷ 3 ∷ [];
+      own = [];
+      leaving = [];
+    }
+
+abbrev pub options-valid : Edit → Bool
+options-valid e = asked e .options-valid
+
 abbrev pub texts : Edit → List Text
-texts (remove a b) = []
-texts (update-with a b t o) = t ∷ []
-texts (reset a b) = []
-texts (append-left p t) = t ∷ []
-texts (append-right p t) = t ∷ []
-texts (prepend-left p t) = t ∷ []
-texts (prepend-right p t) = t ∷ []
-texts (append t) = t ∷ []
-texts (prepend t) = t ∷ []
-texts (relocate a b to) = []
-texts (trim p) = []
-texts (trim-start p) = []
-texts (trim-end p) = []
-texts trim-lines = []
-texts (indent-with i l) = given i
+texts e = asked e .texts
 
 abbrev pub positions : Edit → List ℕ
-positions (remove a b) = a ∷ b ∷ []
-positions (update-with a b t o) = a ∷ b ∷ []
-positions (reset a b) = a ∷ b ∷ []
-positions (append-left p t) = p ∷ []
-positions (append-right p t) = p ∷ []
-positions (prepend-left p t) = p ∷ []
-positions (prepend-right p t) = p ∷ []
-positions (append t) = []
-positions (prepend t) = []
-positions (relocate a b to) = a ∷ b ∷ to ∷ []
-positions (trim p) = []
-positions (trim-start p) = []
-positions (trim-end p) = []
-positions trim-lines = []
-positions (indent-with i l) = l
+positions e = asked e .positions
 
--- the Rust's function of that name
+abbrev pub idle : Edit → Bool
+idle e = asked e .idle
+
 abbrev pub steps : Edit → MagicString → Result
-steps (remove a b) m = movement-rs.remove a b m
-steps (update-with a b t o) m = update-rs.update-with a b t o m
-steps (reset a b) m = reset-rs.reset a b m
-steps (append-left p t) m = append-rs.append-left p t m
-steps (append-right p t) m = append-rs.append-right p t m
-steps (prepend-left p t) m = prepend-rs.prepend-left p t m
-steps (prepend-right p t) m = prepend-rs.prepend-right p t m
-steps (append t) m = append-rs.append t m
-steps (prepend t) m = prepend-rs.prepend t m
-steps (relocate a b to) m = movement-rs.relocate a b to m
-steps (trim p) m = ok (trim-rs.trim p m)
-steps (trim-start p) m = ok (trim-rs.trim-start p m)
-steps (trim-end p) m = ok (trim-rs.trim-end p m)
-steps trim-lines m = ok (trim-rs.trim 1 m)
-steps (indent-with i l) m = indent-rs.indent-with i l m
+steps e = asked e .steps
 
--- ── a call that changes a desk ──
--- "Order: 2, 15, 1, 3, then the module's own .. 13 stands after 3 and replaces any answer after it". 2 is judged on the memory, before there is a desk to speak of
+-- "Order: 2, 15, 1, 3, then the module's own". 2 is judged on the memory, before there is a desk to speak of
 unfoldable pub refused-before : MagicString → Edit → ℕ
 refused-before m e =
-    cond (options-valid e)
-    (cond (all utf8 (texts e))
-    (cond (all (between (m .source)) (positions e)) 0 3) 1) 15
+    cond (not (options-valid e)) 15
+    (cond (not (all utf8 (texts e))) 1
+    (cond (not (all (between (m .source)) (positions e))) 3
+    0))
+
+-- "13 stands after 3 and replaces any answer after it: .. given if and only if the desk that the Rust would leave .., accepted or refused, breaks a desk limit"; then nothing is changed
+unfoldable pub judged : Limits → MagicString → Result → Result
+judged k before r = cond (not (within k (r .desk))) (err 13 before) r
 
 unfoldable pub run : Limits → Edit → MagicString → Result
-run k e m = elim (refused-before m e) [ zero ↦ judged k m (steps e m) | suc n ↦ err (suc n) m ]
+run k e m = elim (refused-before m e) [ suc n ↦ err (suc n) m | zero ↦ judged k m (steps e m) ]
 
-abbrev pub is-update : Edit → Bool
-is-update (remove a b) = false
-is-update (update-with a b t o) = true
-is-update (reset a b) = false
-is-update (append-left p t) = false
-is-update (append-right p t) = false
-is-update (prepend-left p t) = false
-is-update (prepend-right p t) = false
-is-update (append t) = false
-is-update (prepend t) = false
-is-update (relocate a b to) = false
-is-update (trim p) = false
-is-update (trim-start p) = false
-is-update (trim-end p) = false
-is-update trim-lines = false
-is-update (indent-with i l) = false
+-- the numbers that an edit may give beside 0 and 2, in document 01's order
+abbrev pub edit-numbers : Edit → List ℕ
+edit-numbers e = asked e .before ++ (13 ∷ asked e .own)
 
--- "Numbers 6, 7, 9 and `update_with`'s 10 leave the desk as the Rust does .. All others change nothing": the numbers with which an edit may change the desk
+-- the numbers with which an edit may change the desk
 abbrev pub may-change : Edit → ℕ → Bool
-may-change e n = eqb n 0 || (eqb n 6 || (eqb n 7 || (eqb n 9 || (eqb n 10 && is-update e))))
+may-change e n = eqb n 0 || any (eqb n) (asked e .leaving)
 
 -- ── a call that reports ──
 -- the number, the value (0 where nothing is reported) and the bytes written at the front of the lent buffer; what lies behind them stays
@@ -197,8 +230,8 @@ char-or-none (some v) = v
 unfoldable pub show : Report → MagicString → Shown
 show (to-string room) m = into room (mod-rs.to-string m)
 show (slice start end room) m =
-    cond (all (between (m .source)) (slice-positions start end))
-    (sliced-into room (slice-rs.slice start (end-or end (length (m .source))) m)) (refusal 3)
+    cond (not (all (between (m .source)) (slice-positions start end))) (refusal 3)
+    (sliced-into room (slice-rs.slice start (end-or end (length (m .source))) m))
 show (last-line room) m = into room (mod-rs.last-line m)
 show (get-indent-string room) m = into room (indent-rs.get-indent-string (m .source))
 show len m = value-of (mod-rs.len m)
@@ -209,11 +242,34 @@ show has-changed m = value-of (bit (mod-rs.has-changed m))
 show (is-range-within-edited-chunk a b) m = value-of (bit (mod-rs.is-range-within-edited-chunk a b m))
 show last-char m = value-of (char-or-none (mod-rs.last-char m))
 
+-- the numbers that a report may give beside 0 and 2
+abbrev pub report-numbers : Report → List ℕ
+report-numbers (to-string room) = 14 ∷ []
+report-numbers (slice start end room) = 3 ∷ 11 ∷ 12 ∷ 14 ∷ []
+report-numbers (last-line room) = 14 ∷ []
+report-numbers (get-indent-string room) = 14 ∷ []
+report-numbers len = []
+report-numbers len-utf16 = []
+report-numbers line-count = []
+report-numbers is-empty = []
+report-numbers has-changed = []
+report-numbers (is-range-within-edited-chunk a b) = []
+report-numbers last-char = []
+
 -- ── opening: "13 for the source's length, then 1" ──
 unfoldable pub opened : Limits → Text → MagicString → Result
-opened k source before = cond (leb (length source) (k .source)) (cond (utf8 source) (ok (new source)) (err 1 before)) (err 13 before)
+opened k source before =
+    cond (not (leb (length source) (k .source))) (err 13 before)
+    (cond (not (utf8 source)) (err 1 before)
+    (ok (new source)))
 
 -- ── any call ──
+-- "does the call or gives one of the table's numbers": those that a call may give beside 0, in document 01's order. 2 is judged on the memory
+abbrev pub numbers-of : Call → List ℕ
+numbers-of («open» source) = 2 ∷ 13 ∷ 1 ∷ []
+numbers-of (change e) = 2 ∷ edit-numbers e
+numbers-of (report q) = 2 ∷ report-numbers q
+
 -- the number, the value, the bytes written outside the desk, and the desk after
 pub record Outcome : Type 0 where
   pub shown : Shown

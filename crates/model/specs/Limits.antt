@@ -7,7 +7,7 @@ use lib.Dec.{leb}
 use lib.ListN.{length}
 use Rattle.model.specs.Text.{Text, sum}
 use Rattle.model.specs.Chunk.{Chunk}
-use Rattle.model.specs.MagicString.{MagicString, Result, err}
+use Rattle.model.specs.MagicString.{MagicString}
 
 -- a parameter everywhere
 pub record Limits : Type 0 where
@@ -42,7 +42,3 @@ unfoldable pub within : Limits → MagicString → Bool
 within k m =
     leb (length (m .source)) (k .source)
     && (leb (length (m .chunks)) (k .chunks) && (leb (piece-count m) (k .pieces) && leb (byte-count m) (k .bytes)))
-
--- "13 .. is given if and only if the desk that the Rust would leave .., accepted or refused, breaks a desk limit"; then nothing is changed
-unfoldable pub judged : Limits → MagicString → Result → Result
-judged k before r = cond (within k (r .desk)) r (err 13 before)

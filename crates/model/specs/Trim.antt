@@ -118,3 +118,7 @@ trim-end p m =
 -- `trim`
 abbrev pub trim : ℕ → MagicString → MagicString
 trim p m = trim-end p (trim-start p m)
+
+-- `trim_lines`: line ends off both ends
+abbrev pub trim-lines : MagicString → MagicString
+trim-lines m = trim 1 m

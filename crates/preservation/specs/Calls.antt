@@ -3,7 +3,7 @@
 use Prim.Native.Nat.{ℕ, suc, _≤_}
 use native.Mathlib.Omega.{arith}
 use mathlib.Core.Path.{_≡_, refl}
-use mathlib.Core.Bool.{Bool, true, false, cond}
+use mathlib.Core.Bool.{Bool, true, false, not, cond}
 use mathlib.Core.List.{List, [], _∷_}
 use mathlib.Core.Option.{Option, none, some}
 use lib.Dec.{leb}
@@ -15,12 +15,12 @@ use Rattle.utf8.specs.Chars.{All, nil, cons}
 use Rattle.model.specs.Text.{Text, all}
 use Rattle.model.specs.Chunk.{new-chunk}
 use Rattle.model.specs.MagicString.{MagicString, Result, ok, err, new}
-use Rattle.model.specs.Limits.{Limits, within, judged}
-use Rattle.model.specs.Call.{Edit, remove, update-with, reset, append-left, append-right, prepend-left, prepend-right, append, prepend, relocate, trim, trim-start, trim-end, trim-lines, indent-with, Call, «open», change, report, options-valid, given, texts, positions, steps, refused-before, run, opened, perform}
+use Rattle.model.specs.Limits.{Limits, within}
+use Rattle.model.specs.Call.{Edit, remove, update-with, reset, append-left, append-right, prepend-left, prepend-right, append, prepend, relocate, trim, trim-start, trim-end, trim-lines, indent-with, Call, «open», change, report, options-valid, given, texts, positions, steps, refused-before, judged, run, opened, perform}
 use Rattle.model.specs.WellFormed.{Valid, ValidReplacement, Covered, Formed, WellFormed}
 use Rattle.model.specs.Lists.{all-true}
 use Rattle.model.specs.Spans.{covers-in}
-use Rattle.preservation.specs.Lists.{of-cond, of-number}
+use Rattle.preservation.specs.Lists.{of-guard, of-number}
 use Rattle.preservation.specs.Desk.{Leaves, FormedOf}
 use Rattle.preservation.specs.Retexts.{bare-valid}
 use Rattle.preservation.specs.Edits.{append-keeps, prepend-keeps, append-left-keeps, append-right-keeps, prepend-left-keeps, prepend-right-keeps, remove-keeps, reset-keeps, update-keeps}
@@ -35,7 +35,7 @@ pub record Given (m : MagicString) (e : Edit) : Type 0 where
   pub texts-valid : All Valid (texts e)
   pub between-characters : All (λ p. between (m .source) p ≡ true) (positions e)
 
-cond-zero : (b : Bool) (n k : ℕ) → cond b n (suc k) ≡ 0 → (b ≡ true) × (n ≡ 0)
+cond-zero : (b : Bool) (n k : ℕ) → cond (not b) (suc k) n ≡ 0 → (b ≡ true) × (n ≡ 0)
 cond-zero true n k e = (refl, e)
 cond-zero false n k e = absurd (omega arith)
 
@@ -89,7 +89,7 @@ indent-accepted i l m f = indent-with-accepted i l m f
 -- ---- a call that changes a desk
 judged-keeps : (k : Limits) (m : MagicString) (r : Result) → WellFormed k m → Formed (r .desk) → WellFormed k (judged k m r .desk)
 unfolding judged
-judged-keeps k m r w f = of-cond (λ (r : Result). WellFormed k (r .desk)) (within k (r .desk)) (λ e. record { formed = f; limits = e }) (λ _. w)
+judged-keeps k m r w f = of-guard (λ (r : Result). WellFormed k (r .desk)) (within k (r .desk)) (λ _. w) (λ e. record { formed = f; limits = e })
 
 pub run-keeps : (k : Limits) (e : Edit) (m : MagicString) → WellFormed k m → WellFormed k (run k e m .desk)
 unfolding run
@@ -98,7 +98,7 @@ run-keeps k e m w =
 
 judged-source : (k : Limits) (m : MagicString) (r : Result) → r .desk .source ≡ m .source → judged k m r .desk .source ≡ m .source
 unfolding judged
-judged-source k m r e = of-cond (λ (r : Result). r .desk .source ≡ m .source) (within k (r .desk)) (λ _. e) (λ _. refl)
+judged-source k m r e = of-guard (λ (r : Result). r .desk .source ≡ m .source) (within k (r .desk)) (λ _. refl) (λ _. e)
 
 pub run-source : (k : Limits) (e : Edit) (m : MagicString) → Formed m → run k e m .desk .source ≡ m .source
 unfolding run
@@ -126,9 +126,9 @@ opened-cases : (k : Limits) (source : Text) (m : MagicString) → 1 ≤ k .chunk
     → P (err 13 m) → P (err 1 m) → (WellFormed k (new source) → P (ok (new source))) → P (opened k source m)
 unfolding opened
 opened-cases k source m l P h i g =
-    of-cond P (leb (length source) (k .source))
-    (λ a. of-cond P (utf8 source)
-    (λ v. g (record { formed = new-formed source v; limits = new-within k source (leb-true (length source) (k .source) a) l })) (λ _. i)) (λ _. h)
+    of-guard P (leb (length source) (k .source)) (λ _. h)
+    (λ a. of-guard P (utf8 source) (λ _. i)
+    (λ v. g (record { formed = new-formed source v; limits = new-within k source (leb-true (length source) (k .source) a) l })))
 
 -- the limits must let a desk have its one chunk
 pub opened-keeps : (k : Limits) (source : Text) (m : MagicString) → 1 ≤ k .chunks → opened k source m .number ≡ 0 → WellFormed k (opened k source m .desk)

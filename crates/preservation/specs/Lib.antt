@@ -10,3 +10,4 @@ pub mod IndentAccepted
 pub mod Calls
 pub mod Refusals
 pub mod Reports
+pub mod Numbers

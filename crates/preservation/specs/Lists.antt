@@ -3,7 +3,7 @@
 use Prim.Native.Nat.{ℕ, zero, suc, _+_, _≤_}
 use native.Mathlib.Omega.{arith}
 use mathlib.Core.Path.{_≡_, refl}
-use mathlib.Core.Bool.{Bool, true, false, cond}
+use mathlib.Core.Bool.{Bool, true, false, not, cond}
 use mathlib.Core.List.{List, [], _∷_, map, head-eq-of-cons-eq, tail-eq-of-cons-eq, nil≢cons, cons≢nil}
 use mathlib.Core.Option.{Option, none, some}
 use Rattle.utf8.specs.Chars.{All, nil, cons}
@@ -15,6 +15,11 @@ module _ {A : Type 0} (P : A → Type 0) where
   pub of-cond : (b : Bool) {x y : A} → (b ≡ true → P x) → (b ≡ false → P y) → P (cond b x y)
   of-cond true f g = f refl
   of-cond false f g = g refl
+
+  -- a guard that lets the good case pass
+  pub of-guard : (b : Bool) {x y : A} → (b ≡ false → P x) → (b ≡ true → P y) → P (cond (not b) x y)
+  of-guard true f g = g refl
+  of-guard false f g = f refl
 
   pub of-either : (b : Bool) {x y : A} → P x → P y → P (elim b as (λ _. A) [ true ↦ x | false ↦ y ])
   of-either true f g = f
