@@ -12,7 +12,7 @@ use lib.Seq.{take-append-seam}
 use borrow.Author.Tests.{le-leb}
 use Rattle.utf8.specs.Chars.{All, nil, cons}
 use Rattle.utf8.specs.Rfc3629.{between}
-use Rattle.model.specs.Text.{Text, all}
+use Rattle.model.specs.Text.{Text, all, unwrap-or}
 use Rattle.model.specs.MagicString.{MagicString, to-string}
 use Rattle.model.specs.MagicString as mod-rs
 use Rattle.model.specs.Slice as slice-rs
@@ -80,7 +80,7 @@ shown-written : (q : Report) (m : MagicString) (rest : List ℕ) → cond (fills
 unfolding show
 shown-written (call.to-string r) m rest = front (show (call.to-string r) m) rest (into-length r (to-string m))
 shown-written (slice a b r) m rest =
-    let x : Sliced = slice-rs.slice a (call.end-or b (length (m .source))) m in
+    let x : Sliced = slice-rs.slice a (unwrap-or b (length (m .source))) m in
     front (show (slice a b r) m) rest (cond-length (all (between (m .source)) (call.slice-positions a b)) (sliced-into r x) (sliced-length r x))
 shown-written (last-line r) m rest = front (show (last-line r) m) rest (into-length r (mod-rs.last-line m))
 shown-written (get-indent-string r) m rest = front (show (get-indent-string r) m) rest (into-length r (indent-rs.get-indent-string (m .source)))

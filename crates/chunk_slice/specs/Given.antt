@@ -9,7 +9,8 @@ use native.Mathlib.Omega.{arith}
 use Rattle.utf8.specs.Chars.{concat}
 use Rattle.table.specs.Order.{Entry}
 use Rattle.model.specs.Text.{Text}
-use Rattle.model.specs.Slice.{contains-end, part, chunk-slice, text}
+use Rattle.model.specs.Slice.{contains-end, chunk-slice, text}
+use Rattle.model.specs.Text.{part}
 use Rattle.memory.specs.Layout.{runOf, chunkOf}
 use Rattle.memory.specs.WellFormed.{RunIn}
 use Rattle.texts.specs.Texts.{contentAt, run-tabulate, concat-nil}

@@ -7,9 +7,9 @@ use mathlib.Core.Option.{Option, none, some}
 use mathlib.Core.Logic.{_⊎_, inl, inr}
 use lib.ListN.{length}
 use Rattle.utf8.specs.Chars.{All}
-use Rattle.model.specs.Text.{Text}
+use Rattle.model.specs.Text.{Text, is-some}
 use Rattle.model.specs.Chunk.{Texts, Chunk, bare}
-use Rattle.model.specs.MagicString.{MagicString, Result, ok, with-chunks, with-intro, with-outro, by-start, by-end, found, at-start, at-end, by-start-mut, by-end-mut}
+use Rattle.model.specs.MagicString.{MagicString, Result, ok, with-chunks, with-intro, with-outro, by-start, by-end, at-start, at-end, by-start-mut, by-end-mut}
 use Rattle.model.specs.Movement.{change-by-position, change-range}
 use Rattle.model.specs.Lists.{bool-cases, all-of, all-map, map-none, first-of}
 use Rattle.closed_forms.specs.Plan.{nothing, clear, insert-left, insert-right, insert-head, insert-tail, End, on-left, on-right, chunk-starts, chunk-ends, cut, cuts, add, add-intro, add-outro, act, acted, rearrange, on-head, on-tail, in-order, ends-past, closed-plan}
@@ -41,7 +41,7 @@ clear-is-closed r a b m ab v =
     (ap (λ cs. ok (with-chunks m cs)) (by-position (λ x. bare r) a b ab (cover-cut-all (a ∷ b ∷ []) v) (all-map (λ c h. first-of h) (cut-all-aligned (a ∷ b ∷ []) (m .chunks)))))
 
 -- ── insertions ──
-either : (o : Option Chunk) (x y : Result) → elim o [ none ↦ x | some c ↦ y ] ≡ cond (found o) y x
+either : (o : Option Chunk) (x y : Result) → elim o [ none ↦ x | some c ↦ y ] ≡ cond (is-some o) y x
 either none x y = refl
 either (some c) x y = refl
 

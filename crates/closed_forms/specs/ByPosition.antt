@@ -11,9 +11,9 @@ use lib.Dec.{ltb, leb, eqb}
 use lib.ListN.{length}
 use borrow.Author.Tests.{eq-eqb, ne-eqb, lt-ltb, le-ltb, le-leb, lt-leb}
 use Rattle.utf8.specs.Chars.{All, nil, cons}
-use Rattle.model.specs.Text.{Text, sum}
+use Rattle.model.specs.Text.{Text, sum, is-some}
 use Rattle.model.specs.Chunk.{Texts, Chunk, chunk-of, with-texts, start-of, end-of}
-use Rattle.model.specs.MagicString.{by-start, by-end, found, at-start, at-end}
+use Rattle.model.specs.MagicString.{by-start, by-end, at-start, at-end}
 use Rattle.model.specs.Movement.{change-by-position}
 use Rattle.model.specs.WellFormed.{covers}
 use Rattle.model.specs.Lists.{clash, rest-of, all-of, all-map, all-map₂, map-keeps, map-same, map-none}
@@ -147,30 +147,30 @@ next-of f a (c ∷ cs) o (cons p pr) d h = go (ℕ-discrete (start-of c) a) (nex
     go (no e) ih = next-later f a (end-of d) c cs o p e (ih (rw (ne-eqb (start-of c) a e) at h))
 
 -- no chunk starts at a
-pub none-starts : (a : ℕ) (cs : List Chunk) → found (by-start a cs) ≡ false → All (λ c. start-of c ≡ a → ⊥) cs
+pub none-starts : (a : ℕ) (cs : List Chunk) → is-some (by-start a cs) ≡ false → All (λ c. start-of c ≡ a → ⊥) cs
 none-starts a [] h = nil
 none-starts a (c ∷ cs) h = go (ℕ-discrete (start-of c) a) (none-starts a cs)
   where
-    go : Dec (start-of c ≡ a) → (found (by-start a cs) ≡ false → All (λ c. start-of c ≡ a → ⊥) cs) → All (λ c. start-of c ≡ a → ⊥) (c ∷ cs)
+    go : Dec (start-of c ≡ a) → (is-some (by-start a cs) ≡ false → All (λ c. start-of c ≡ a → ⊥) cs) → All (λ c. start-of c ≡ a → ⊥) (c ∷ cs)
     go (yes e) ih = clash refl (rw (eq-eqb (start-of c) a e) at h)
     go (no e) ih = cons e (ih (rw (ne-eqb (start-of c) a e) at h))
 
 -- ── where chunks start and end, on aligned spans ──
-start-found : (p : ℕ) {cs : List Chunk} → All (λ c. Contains p c → ⊥) cs → 1 ≤ sum (covers p) cs → found (by-start p cs) ≡ true
+start-found : (p : ℕ) {cs : List Chunk} → All (λ c. Contains p c → ⊥) cs → 1 ≤ sum (covers p) cs → is-some (by-start p cs) ≡ true
 start-found p nil h = absurd (omega arith)
 start-found p (cons {x = c} {xs = cs} n ns) h = go (ℕ-discrete (start-of c) p) (start-found p ns)
   where
-    go : Dec (start-of c ≡ p) → (1 ≤ sum (covers p) cs → found (by-start p cs) ≡ true) → found (by-start p (c ∷ cs)) ≡ true
+    go : Dec (start-of c ≡ p) → (1 ≤ sum (covers p) cs → is-some (by-start p cs) ≡ true) → is-some (by-start p (c ∷ cs)) ≡ true
     go (yes e) ih = rw (eq-eqb (start-of c) p e)
     go (no e) ih =
         let out : Inside (start-of c) (end-of c) p → ⊥ = λ i. e (omega (arith, starts-from p c n (i .1))) in
         rw (ne-eqb (start-of c) p e) (ih (omega (arith, covers-out p c out)))
 
-end-found : (p : ℕ) {cs : List Chunk} → All (λ c. Contains p c → ⊥) cs → 0 < p → 1 ≤ sum (covers (p - 1)) cs → found (by-end p cs) ≡ true
+end-found : (p : ℕ) {cs : List Chunk} → All (λ c. Contains p c → ⊥) cs → 0 < p → 1 ≤ sum (covers (p - 1)) cs → is-some (by-end p cs) ≡ true
 end-found p nil q h = absurd (omega arith)
 end-found p (cons {x = c} {xs = cs} n ns) q h = go (ℕ-discrete (end-of c) p) (end-found p ns q)
   where
-    go : Dec (end-of c ≡ p) → (1 ≤ sum (covers (p - 1)) cs → found (by-end p cs) ≡ true) → found (by-end p (c ∷ cs)) ≡ true
+    go : Dec (end-of c ≡ p) → (1 ≤ sum (covers (p - 1)) cs → is-some (by-end p cs) ≡ true) → is-some (by-end p (c ∷ cs)) ≡ true
     go (yes e) ih = rw (eq-eqb (end-of c) p e)
     go (no e) ih =
         let out : Inside (start-of c) (end-of c) (p - 1) → ⊥ = λ i. e (omega (arith, ends-by p c n (omega arith))) in
@@ -238,7 +238,7 @@ module _ (n : ℕ) (f : Texts → Texts) (b : ℕ) where
   walk zero a cs ab t al h = range-past a b f (from-none a cs (omega arith))
   walk (suc k) a cs ab t al h = go (by-start a cs) refl (λ y. walk k y (map (in-range a y f) cs))
     where
-      past : found (by-start a cs) ≡ false → All (λ c. start-of c < a) cs
+      past : is-some (by-start a cs) ≡ false → All (λ c. start-of c < a) cs
       past e = side (decLt a n)
         where
           side : Dec (a < n) → All (λ c. start-of c < a) cs
@@ -249,7 +249,7 @@ module _ (n : ℕ) (f : Texts → Texts) (b : ℕ) where
           → ((y : ℕ) → y < b → Tiling n (map (in-range a y f) cs) → All (λ c. Contains y c → ⊥) (map (in-range a y f) cs) → sum (from y) (map (in-range a y f) cs) ≤ k
           → change-by-position k f y b (map (in-range a y f) cs) ≡ map (in-range y b f) (map (in-range a y f) cs))
           → change-by-position (suc k) f a b cs ≡ map (in-range a b f) cs
-      go none e ih = turn-none k f a b cs e ∙ range-past a b f (past (ap found e))
+      go none e ih = turn-none k f a b cs e ∙ range-past a b f (past (ap is-some e))
       go (some c) e ih = next (decLt (end-of c) b)
         where
           y : ℕ
@@ -318,22 +318,22 @@ at-start-is-map p f (empty t) = one-or (eqb 0 p) f (chunk-of 0 0 t)
 at-start-is-map p f (tiled {cs = cs} l t) = at-start-map p f cs (tiling-once t) (t .proper)
 
 -- a chunk ends, or starts, where the plan says
-pub end-is-found : (p : ℕ) {s : Text} {cs : List Chunk} → Cover s cs → All (λ c. Contains p c → ⊥) cs → found (by-end p cs) ≡ chunk-ends (length s) p
+pub end-is-found : (p : ℕ) {s : Text} {cs : List Chunk} → Cover s cs → All (λ c. Contains p c → ⊥) cs → is-some (by-end p cs) ≡ chunk-ends (length s) p
 end-is-found zero (empty t) al = refl
 end-is-found (suc p) (empty t) al = rw (ne-eqb 0 (suc p) (λ e. omega arith), lt-leb (suc p) 0 (omega arith))
 end-is-found p (tiled {source = s} {cs = cs} l t) al = go (ℕ-discrete p 0) (decLe p (length s))
   where
-    go : Dec (p ≡ 0) → Dec (p ≤ length s) → found (by-end p cs) ≡ chunk-ends (length s) p
+    go : Dec (p ≡ 0) → Dec (p ≤ length s) → is-some (by-end p cs) ≡ chunk-ends (length s) p
     go (yes z) _ = rw (z, end-missing 0 (all-map (λ c k e. omega arith) (t .proper)), le-leb 0 (length s) (omega arith), ne-eqb (length s) 0 (λ e. omega arith))
     go (no z) (yes k) = rw (end-found p al (omega arith) (omega (arith, t .exact (p - 1) (omega arith))), le-leb p (length s) k, lt-ltb 0 p (omega arith))
     go (no z) (no k) = rw (end-missing p (all-map (λ c w e. omega arith) (t .within)), lt-leb p (length s) (omega arith))
 
-pub start-is-found : (p : ℕ) {s : Text} {cs : List Chunk} → Cover s cs → All (λ c. Contains p c → ⊥) cs → found (by-start p cs) ≡ chunk-starts (length s) p
+pub start-is-found : (p : ℕ) {s : Text} {cs : List Chunk} → Cover s cs → All (λ c. Contains p c → ⊥) cs → is-some (by-start p cs) ≡ chunk-starts (length s) p
 start-is-found zero (empty t) al = refl
 start-is-found (suc p) (empty t) al = rw (ne-eqb 0 (suc p) (λ e. omega arith), le-ltb (suc p) 0 (omega arith), ne-eqb (suc p) 0 (λ e. omega arith))
 start-is-found p (tiled {source = s} {cs = cs} l t) al = go (decLt p (length s))
   where
-    go : Dec (p < length s) → found (by-start p cs) ≡ chunk-starts (length s) p
+    go : Dec (p < length s) → is-some (by-start p cs) ≡ chunk-starts (length s) p
     go (yes k) = rw (start-found p al (omega (arith, t .exact p k)), lt-ltb p (length s) k)
     go (no k) =
         rw (

@@ -11,9 +11,9 @@ use mathlib.Core.Logic.{_⊎_, inl, inr}
 use borrow.Author.Tests.{eqb-true, eq-eqb, ne-eqb}
 use Rattle.utf8.specs.Chars.{All, cons}
 use Rattle.utf8.specs.CharLaws.{all-front, all-back}
-use Rattle.model.specs.Text.{sum}
+use Rattle.model.specs.Text.{sum, is-some}
 use Rattle.model.specs.Chunk.{Chunk, start-of, end-of}
-use Rattle.model.specs.MagicString.{MagicString, ok, err, with-chunks, by-start, found}
+use Rattle.model.specs.MagicString.{MagicString, ok, err, with-chunks, by-start}
 use Rattle.model.specs.Movement.{Segment, together, apart, into-range, before-range, range-from, segment, insert-before, stands-there, move-segment}
 use Rattle.model.specs.WellFormed.{covers}
 use Rattle.model.specs.Lists.{clash, bool-cases, first-of, rest-of, all-map, sum-append}
@@ -23,7 +23,7 @@ use Rattle.closed_forms.specs.Spans.{Inside, inside-true, inside-false, 
 use Rattle.closed_forms.specs.ByPosition.{none-starts}
 use Rattle.closed_forms.specs.Together.{Tiles, tiles-inside, tiles-cover, ascends-from, ascends-from-is-together, keep-append, keep-every, keep-no, insert-skips}
 
--- ── the range found, or not ──
+-- ── the range is-some, or not ──
 data RangeAtHead (a b : ℕ) (cs : List Chunk) : Bool → Segment → Type 0 where
   range-found : (range behind : List Chunk) → cs ≡ range ++ behind → Tiles a b range → RangeAtHead a b cs true (together [] range behind)
   range-missing : RangeAtHead a b cs false apart
@@ -122,7 +122,7 @@ stays to xs ys zs one pr h = go (by-start to (xs ++ (ys ++ zs))) refl zs one pr 
   where
     go : (o : Option Chunk) → by-start to (xs ++ (ys ++ zs)) ≡ o → (rest : List Chunk) → Once (xs ++ (ys ++ rest)) → All Proper (xs ++ (ys ++ rest)) → stands-there o rest ≡ true → insert-before to ys (xs ++ rest) ≡ xs ++ (ys ++ rest)
     go none e [] one pr h =
-        insert-skips to ys [] (all-front (λ d. start-of d ≡ to → ⊥) xs (ys ++ zs) (none-starts to (xs ++ (ys ++ zs)) (ap found e)))
+        insert-skips to ys [] (all-front (λ d. start-of d ≡ to → ⊥) xs (ys ++ zs) (none-starts to (xs ++ (ys ++ zs)) (ap is-some e)))
         ∙ ap (λ l. xs ++ l) (sym (append-nil ys))
     go none e (z ∷ rest) one pr h = clash h refl
     go (some d) e [] one pr h = clash h refl

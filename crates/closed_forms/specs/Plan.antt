@@ -9,7 +9,7 @@ use lib.ListN.{length}
 use Rattle.model.specs.Text.{Text, all}
 use Rattle.model.specs.Chunk.{Span, Texts, Chunk, bare, with-texts, start-of, end-of, contains, is-filled, first-half, second-half, edit}
 use Rattle.model.specs.MagicString.{MagicString, Result, ok, err, with-chunks}
-use Rattle.model.specs.Append.{push-back}
+use Rattle.model.specs.Text.{push-back}
 use Rattle.model.specs.Prepend.{push-front}
 use Rattle.model.specs.Movement.{insert-before}
 use Rattle.model.specs.Call.{Edit, remove, update-with, reset, append-left, append-right, prepend-left, prepend-right, append, prepend, relocate, trim, trim-start, trim-end, trim-lines, indent-with}

@@ -11,9 +11,9 @@ use lib.Dec.{leb, eqb}
 use lib.ListN.{length}
 use borrow.Author.Tests.{leb-true, eqb-true, ne-eqb}
 use Rattle.utf8.specs.Chars.{All, nil, cons}
-use Rattle.model.specs.Text.{Text, all, sum}
+use Rattle.model.specs.Text.{Text, all, sum, is-some}
 use Rattle.model.specs.Chunk.{Texts, Chunk, chunk-of, end-of, is-filled}
-use Rattle.model.specs.MagicString.{MagicString, Result, ok, err, and-then, with-chunks, by-end, found, holder, split-holder, refuses-split, split-at}
+use Rattle.model.specs.MagicString.{MagicString, Result, ok, err, and-then, with-chunks, by-end, holder, split-holder, refuses-split, split-at}
 use Rattle.model.specs.WellFormed.{covers, Formed}
 use Rattle.model.specs.Lists.{or-cases, bool-cases, clash, all-of, all-map, true-all}
 use Rattle.model.specs.Spans.{covers-in, covers-out}
@@ -42,43 +42,43 @@ cover-cut-all (p ∷ ps) v = cover-cut-all ps (cover-cut p v)
 
 -- ── where the cut finds nothing to do ──
 -- a chunk that ends at p keeps the others from containing p
-ends-cover : (p : ℕ) {cs : List Chunk} → All Proper cs → 0 < p → found (by-end p cs) ≡ true → 1 ≤ sum (covers (p - 1)) cs
+ends-cover : (p : ℕ) {cs : List Chunk} → All Proper cs → 0 < p → is-some (by-end p cs) ≡ true → 1 ≤ sum (covers (p - 1)) cs
 ends-cover p nil q e = clash e refl
 ends-cover p (cons {x = c} {xs = cs} x pr) q e = go (ℕ-discrete (end-of c) p) (ends-cover p pr q)
   where
-    go : Dec (end-of c ≡ p) → (found (by-end p cs) ≡ true → 1 ≤ sum (covers (p - 1)) cs) → 1 ≤ covers (p - 1) c + sum (covers (p - 1)) cs
+    go : Dec (end-of c ≡ p) → (is-some (by-end p cs) ≡ true → 1 ≤ sum (covers (p - 1)) cs) → 1 ≤ covers (p - 1) c + sum (covers (p - 1)) cs
     go (yes k) ih = omega (arith, covers-in (p - 1) c (omega arith))
     go (no k) ih = omega (arith, ih (rw (ne-eqb (end-of c) p k) at e))
 
-ends-aligned : (p : ℕ) (cs : List Chunk) → Once cs → All Proper cs → 0 < p → found (by-end p cs) ≡ true → All (λ c. Contains p c → ⊥) cs
+ends-aligned : (p : ℕ) (cs : List Chunk) → Once cs → All Proper cs → 0 < p → is-some (by-end p cs) ≡ true → All (λ c. Contains p c → ⊥) cs
 ends-aligned p [] o pr q e = nil
 ends-aligned p (c ∷ cs) o (cons x pr) q e = go (ℕ-discrete (end-of c) p) (ends-aligned p cs (once-rest c cs o) pr q)
   where
-    go : Dec (end-of c ≡ p) → (found (by-end p cs) ≡ true → All (λ c. Contains p c → ⊥) cs) → All (λ c. Contains p c → ⊥) (c ∷ cs)
+    go : Dec (end-of c ≡ p) → (is-some (by-end p cs) ≡ true → All (λ c. Contains p c → ⊥) cs) → All (λ c. Contains p c → ⊥) (c ∷ cs)
     go (yes k) ih =
         let u : Contains p c → ⊥ = λ i. omega arith in
         cons u (all-map (λ d n j. n (omega arith)) (none-cover (p - 1) cs (omega (arith, o (p - 1), covers-in (p - 1) c (omega arith)))))
     go (no k) ih =
-        let f : found (by-end p cs) ≡ true = rw (ne-eqb (end-of c) p k) at e in
+        let f : is-some (by-end p cs) ≡ true = rw (ne-eqb (end-of c) p k) at e in
         let u : Contains p c → ⊥ = λ i. omega (arith, o (p - 1), covers-in (p - 1) c (omega arith), ends-cover p pr q f) in
         cons u (ih f)
 
 -- "does nothing at 0, at or past the source's end, or at a chunk's edge"
-idle-aligned : (p : ℕ) {s : Text} {cs : List Chunk} → Cover s cs → eqb p 0 || (leb (length s) p || found (by-end p cs)) ≡ true → All (λ c. Contains p c → ⊥) cs
+idle-aligned : (p : ℕ) {s : Text} {cs : List Chunk} → Cover s cs → eqb p 0 || (leb (length s) p || is-some (by-end p cs)) ≡ true → All (λ c. Contains p c → ⊥) cs
 idle-aligned p (empty t) h = empty-aligned p t
-idle-aligned p (tiled {source = s} {cs = cs} l t) h = at-zero (or-cases (eqb p 0) (leb (length s) p || found (by-end p cs)) h)
+idle-aligned p (tiled {source = s} {cs = cs} l t) h = at-zero (or-cases (eqb p 0) (leb (length s) p || is-some (by-end p cs)) h)
   where
-    at-edge : Dec (p ≡ 0) → found (by-end p cs) ≡ true → All (λ c. Contains p c → ⊥) cs
+    at-edge : Dec (p ≡ 0) → is-some (by-end p cs) ≡ true → All (λ c. Contains p c → ⊥) cs
     at-edge (yes z) e = all-of (λ c i. omega arith) cs
     at-edge (no z) e = ends-aligned p cs (tiling-once t) (t .proper) (omega arith) e
 
-    at-end : (leb (length s) p ≡ true) ⊎ (found (by-end p cs) ≡ true) → All (λ c. Contains p c → ⊥) cs
+    at-end : (leb (length s) p ≡ true) ⊎ (is-some (by-end p cs) ≡ true) → All (λ c. Contains p c → ⊥) cs
     at-end (inl e) = let k : length s ≤ p = leb-true (length s) p e in all-map (λ c w i. omega arith) (t .within)
     at-end (inr e) = at-edge (ℕ-discrete p 0) e
 
-    at-zero : (eqb p 0 ≡ true) ⊎ (leb (length s) p || found (by-end p cs) ≡ true) → All (λ c. Contains p c → ⊥) cs
+    at-zero : (eqb p 0 ≡ true) ⊎ (leb (length s) p || is-some (by-end p cs) ≡ true) → All (λ c. Contains p c → ⊥) cs
     at-zero (inl e) = let z : p ≡ 0 = eqb-true p 0 e in all-of (λ c i. omega arith) cs
-    at-zero (inr e) = at-end (or-cases (leb (length s) p) (found (by-end p cs)) e)
+    at-zero (inr e) = at-end (or-cases (leb (length s) p) (is-some (by-end p cs)) e)
 
 pub aligned-splittable : (p : ℕ) {cs : List Chunk} → All (λ c. Contains p c → ⊥) cs → all (splittable p) cs ≡ true
 aligned-splittable p n = true-all (splittable p) (all-map (λ c k. splittable-true p c (λ i. absurd (k i))) n)
@@ -114,14 +114,14 @@ cut-result p m = cond (all (splittable p) (m .chunks)) (ok (with-chunks m (cut p
 
 pub split-at-cover : (p : ℕ) (m : MagicString) → Cover (m .source) (m .chunks) → split-at p m ≡ cut-result p m
 unfolding split-at
-split-at-cover p m v = go (bool-cases (eqb p 0 || (leb (length (m .source)) p || found (by-end p (m .chunks)))))
+split-at-cover p m v = go (bool-cases (eqb p 0 || (leb (length (m .source)) p || is-some (by-end p (m .chunks)))))
   where
     swapped : (b : Bool) (x y : Result) → cond (not b) x y ≡ cond b y x
     swapped true x y = refl
     swapped false x y = refl
 
-    go : (eqb p 0 || (leb (length (m .source)) p || found (by-end p (m .chunks))) ≡ true) ⊎ (eqb p 0 || (leb (length (m .source)) p || found (by-end p (m .chunks))) ≡ false)
-        → cond (eqb p 0 || (leb (length (m .source)) p || found (by-end p (m .chunks)))) (ok m) (cond (refuses-split (holder p (m .chunks))) (err 6 m) (ok (with-chunks m (split-holder p (m .chunks))))) ≡ cut-result p m
+    go : (eqb p 0 || (leb (length (m .source)) p || is-some (by-end p (m .chunks))) ≡ true) ⊎ (eqb p 0 || (leb (length (m .source)) p || is-some (by-end p (m .chunks))) ≡ false)
+        → cond (eqb p 0 || (leb (length (m .source)) p || is-some (by-end p (m .chunks)))) (ok m) (cond (refuses-split (holder p (m .chunks))) (err 6 m) (ok (with-chunks m (split-holder p (m .chunks))))) ≡ cut-result p m
     go (inl h) = let n = idle-aligned p v h in rw (h, aligned-splittable p n, cut-none p n)
     go (inr h) =
         rw (h, refuses-law p (m .chunks) (cover-once v), split-holder-is-cut p (m .chunks) (cover-once v))

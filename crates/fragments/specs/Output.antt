@@ -13,7 +13,7 @@ use Rattle.utf8.specs.Chars.{All, nil, cons, concat}
 use Rattle.utf8.specs.CharLaws.{concat-append}
 use Rattle.utf8.specs.Sequences.{both}
 use Rattle.table.specs.Order.{Entry, entryAt, entries, countOf, Linked}
-use Rattle.model.specs.Text.{Text, sum}
+use Rattle.model.specs.Text.{Text, sum, unwrap-or}
 use Rattle.model.specs.Chunk.{Chunk, Span, start-of, end-of, content}
 use Rattle.model.specs.Chunk as chunk
 use Rattle.model.specs.MagicString.{MagicString, chunk-fragments, fragments, to-string, output-len, len}
@@ -83,7 +83,7 @@ sum-le f h [] = omega arith
 sum-le f h (t ∷ ts) = omega (arith, h t, sum-le f h ts)
 
 -- ---- the output is short: each chunk shows at most the source and its own texts
-content-le : (source : Text) (e : Option Text) (a b : ℕ) → length (chunk.content-or e (take (b - a) (drop a source))) ≤ length source + replacement-bytes e
+content-le : (source : Text) (e : Option Text) (a b : ℕ) → length (unwrap-or e (take (b - a) (drop a source))) ≤ length source + replacement-bytes e
 content-le source none a b = simp (length-take, length-drop) (omega arith)
 content-le source (some t) a b = omega arith
 

@@ -11,8 +11,8 @@ use Rattle.utf8.specs.Chars.{All, nil, cons}
 use Rattle.utf8.specs.Texts.{utf8-nil}
 use Rattle.utf8.specs.Laws.{utf8-part}
 use Rattle.table.specs.Order.{Entry, entries, countOf, Linked}
-use Rattle.model.specs.Text.{Text}
-use Rattle.model.specs.Chunk.{Chunk, Span, content-or}
+use Rattle.model.specs.Text.{Text, unwrap-or}
+use Rattle.model.specs.Chunk.{Chunk, Span}
 use Rattle.model.specs.WellFormed.{Covered, ProperSpan, Valid, ValidReplacement, ValidTexts}
 use Rattle.model.specs.Lists.{all-append, all-map, map-kept}
 use Rattle.memory.specs.Layout.{runOf, chunkOf, magicStringOf, replacementOf}
@@ -32,7 +32,7 @@ part-valid [] cs u h =
 part-valid (a ∷ source) cs u h =
     all-map (λ c z. utf8-part (a ∷ source) (c .span .start) (c .span .end) u (z .start-between) (z .end-between) (omega (arith, z .proper))) (h .spans)
 
-content-valid : (e : Option Text) (x : Text) → ValidReplacement e → Valid x → Valid (content-or e x)
+content-valid : (e : Option Text) (x : Text) → ValidReplacement e → Valid x → Valid (unwrap-or e x)
 content-valid none x h k = k
 content-valid (some t) x h k = h
 

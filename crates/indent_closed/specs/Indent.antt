@@ -9,9 +9,9 @@ use lib.Dec.{ltb}
 use borrow.Author.Tests.{lt-ltb, le-ltb}
 use Rattle.utf8.specs.Chars.{chars}
 use Rattle.model.specs.Text.{Text}
-use Rattle.model.specs.Chunk.{Chunk, with-texts, start-of, span-text, first-half, second-half, prepend-intro}
+use Rattle.model.specs.Chunk.{Chunk, with-texts, start-of, span-text, first-half, second-half, prepend-intro, edit}
 use Rattle.model.specs.MagicString.{MagicString}
-use Rattle.model.specs.Indent.{Indented, indent-frag, Pieces, indent-pieces, excluded, Starts, line-starts, set-edited}
+use Rattle.model.specs.Indent.{Indented, indent-frag, Pieces, indent-pieces, excluded, Starts, line-starts}
 
 -- `prepend_right` of the indentor at each line start of a source chunk: the chunk is cut there, and the part that begins there has the indentor as its first intro piece
 abbrev pub split-lines : Text → Chunk → List ℕ → List Chunk
@@ -43,7 +43,7 @@ indented-chunk indentor exclude source mark c =
       | some t ↦ elim (excluded exclude (start-of c)) [
         | true ↦ record { mark = mark; chunks = c ∷ [] }
         | false ↦ let r : Indented = indent-frag indentor mark t in
-            record { mark = r .mark; chunks = with-texts (set-edited (r .text)) c ∷ [] }
+            record { mark = r .mark; chunks = with-texts (edit (r .text) false) c ∷ [] }
       ]
       | none ↦ let r : Starts = line-starts exclude mark (start-of c) (chars (span-text (c .span) source)) in
           record { mark = r .mark; chunks = split-lines indentor c (r .starts) }
@@ -66,7 +66,7 @@ module _ (indentor : Text) (exclude : List ℕ) (source : Text) (mark : Bool) (c
 
   pub indented-replaced : {t : Text} → c .texts .edited-content ≡ some t → excluded exclude (start-of c) ≡ false
       → let r : Indented = indent-frag indentor mark t in
-      indented-chunk indentor exclude source mark c ≡ record { mark = r .mark; chunks = with-texts (set-edited (r .text)) c ∷ [] }
+      indented-chunk indentor exclude source mark c ≡ record { mark = r .mark; chunks = with-texts (edit (r .text) false) c ∷ [] }
   unfolding indented-chunk
   indented-replaced e x = rw (e, x, indented-chunk)
 

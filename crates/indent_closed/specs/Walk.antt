@@ -12,10 +12,10 @@ use borrow.Author.Tests.{eq-eqb, ne-eqb}
 use Rattle.utf8.specs.Chars.{All, nil, cons, chars, concat}
 use Rattle.utf8.specs.CharLaws.{concat-chars, all-front}
 use Rattle.model.specs.Text.{Text, all}
-use Rattle.model.specs.Chunk.{Chunk, Texts, chunk-of, with-texts, start-of, end-of, span-text, is-filled, first-half, second-half, prepend-intro}
+use Rattle.model.specs.Chunk.{Chunk, Texts, chunk-of, with-texts, start-of, end-of, span-text, is-filled, first-half, second-half, prepend-intro, edit}
 use Rattle.model.specs.MagicString.{MagicString, Result, ok, and-then, with-chunks, with-intro, with-outro, by-start, at-start, split-at, by-start-mut}
 use Rattle.model.specs.Prepend.{push-front, prepend-right}
-use Rattle.model.specs.Indent.{Indented, is-line-feed, takes-mark, indent-frag, Pieces, indent-pieces, excluded, Starts, line-starts, prepend-at, Marked, set-edited, indent-chunk, indent-chunks, indent-by}
+use Rattle.model.specs.Indent.{Indented, is-line-feed, takes-mark, indent-frag, Pieces, indent-pieces, excluded, Starts, line-starts, prepend-at, Marked, indent-chunk, indent-chunks, indent-by}
 use Rattle.model.specs.WellFormed.{Valid, covers, Formed}
 use Rattle.model.specs.Lists.{sum-append, all-map, all-map₂, true-all, all-append, concat-length}
 use Rattle.model.specs.Spans.{covers-in, covers-key}
@@ -249,8 +249,8 @@ module _ (indentor : Text) (exclude : List ℕ) (m : MagicString) where
               let r : Indented = indent-frag indentor mark t in
               rw (e, x, indent-chunk, indented-chunk)
               (record {
-                result = ap (λ (cs : List Chunk). record { mark = r .mark; result = ok (with-chunks m cs) }) (start-set (start-of c) (set-edited (r .text)) c ys (starts-apart xs c ys refl v) (eq-eqb (start-of c) (start-of c) refl));
-                cover = cover-texts (set-edited (r .text)) xs c ys v;
+                result = ap (λ (cs : List Chunk). record { mark = r .mark; result = ok (with-chunks m cs) }) (start-set (start-of c) (edit (r .text) false) c ys (starts-apart xs c ys refl v) (eq-eqb (start-of c) (start-of c) refl));
+                cover = cover-texts (edit (r .text) false) xs c ys v;
               })
 
   -- ── the loop: xs is done, ds is left ──

@@ -13,10 +13,10 @@ use lib.Seq.{take-all}
 use borrow.Author.Tests.{leb-true}
 use Rattle.utf8.specs.Chars.{All, nil, cons}
 use Rattle.table.specs.Order.{Entry, entryAt, countOf, Linked}
-use Rattle.model.specs.Text.{Text, sum}
-use Rattle.model.specs.Chunk.{Chunk, with-texts, span-text, content-or, content}
+use Rattle.model.specs.Text.{Text, sum, unwrap-or}
+use Rattle.model.specs.Chunk.{Chunk, with-texts, span-text, content, edit}
 use Rattle.model.specs.Limits.{chunk-pieces, chunk-bytes}
-use Rattle.model.specs.Indent.{Indented, indent-frag, excluded, Starts, set-edited}
+use Rattle.model.specs.Indent.{Indented, indent-frag, excluded, Starts}
 use Rattle.model.specs.WellFormed.{Valid}
 use Rattle.memory.specs.Layout.{NONE, bytesAt, replacementOf, chunkOf}
 use Rattle.memory.specs.Laws.{none-text, some-text}
@@ -76,8 +76,8 @@ pub record RowDone (indentor exclude source t p s : List ℕ) (i : ℕ) (mark : 
   pub past : number ≡ 13 → (513 < countOf t + length (closedRow indentor exclude source t p s i mark .chunks)) ⊎ (length s < byte + sum chunk-bytes (closedRow indentor exclude source t p s i mark .chunks))
 
 -- ---- the row
-content-or-is : {o : Option Text} (p : Option Text) (x : Text) → o ≡ p → content-or o x ≡ content-or p x
-content-or-is p x e = ap (λ (y : Option Text). content-or y x) e
+content-or-is : {o : Option Text} (p : Option Text) (x : Text) → o ≡ p → unwrap-or o x ≡ unwrap-or p x
+content-or-is p x e = ap (λ (y : Option Text). unwrap-or y x) e
 
 module _ {indentor source store t p s : List ℕ} {i top byte : ℕ} (exclude : List ℕ) (mark : Bool) (h : RowReady indentor source store t p s i top byte) where
   abbrev e : Entry
@@ -211,10 +211,10 @@ module _ {indentor source store t p s : List ℕ} {i top byte : ℕ} (exclude : 
       same-frag : F ≡ indent-frag indentor mark (bytesAt s (e .text))
       same-frag = ap (indent-frag indentor mark) lent
 
-      closed-replaced : closedRow indentor exclude source t p s i mark ≡ record { mark = F .mark; chunks = with-texts (set-edited (F .text)) c ∷ [] }
+      closed-replaced : closedRow indentor exclude source t p s i mark ≡ record { mark = F .mark; chunks = with-texts (edit (F .text) false) c ∷ [] }
       closed-replaced =
           indented-replaced indentor exclude source mark c edited-some x
-          ∙ ap (λ (y : Indented). record { mark = y .mark; chunks = with-texts (set-edited (y .text)) c ∷ [] }) (sym same-frag)
+          ∙ ap (λ (y : Indented). record { mark = y .mark; chunks = with-texts (edit (y .text) false) c ∷ [] }) (sym same-frag)
 
       more-bytes : length (F .text) ≤ sum chunk-bytes (closedRow indentor exclude source t p s i mark .chunks)
       more-bytes = omega (arith, replaced-bytes indentor exclude source mark c edited-some x, ap (λ (y : Indented). length (y .text)) same-frag)
@@ -228,7 +228,7 @@ module _ {indentor source store t p s : List ℕ} {i top byte : ℕ} (exclude : 
           let b : take (length T) (drop byte s') ≡ T = rw (d .store-is) (rw (z, append-nil T) at (over-part s byte [] T [] (h .byte-in))) in
           let o : replacementOf s' (byte, length T) ≡ some T = some-text s' (byte, length T) (λ y. omega (arith, h .byte-in, h .narrow)) ∙ ap some b in
           let e' : Entry = withText (byte, length T) e in
-          let q : chunkOf p s' e' ≡ with-texts (set-edited T) c =
+          let q : chunkOf p s' e' ≡ with-texts (edit T false) c =
           rw (run-same top byte p s p s' (rows-same top p) ks (e .intro) (h .low .runs .intro), run-same top byte p s p s' (rows-same top p) ks (e .outro) (h .low .runs .outro), o) in
           record {
             es = e' ∷ [];

@@ -18,10 +18,10 @@ use Rattle.utf8.specs.Laws.{utf8-drop}
 use Rattle.utf8.specs.declared.Decoded.the-variants.{Char, Invalid, End}
 use Rattle.table.specs.declared.Row.{Row}
 use Rattle.table.specs.Order.{Entry, entryOf, entries, countOf, prevOf, Linked}
-use Rattle.model.specs.Text.{Text, back}
+use Rattle.model.specs.Text.{Text, back, unwrap-or}
 use Rattle.model.specs.Chunk.{content}
 use Rattle.model.specs.MagicString.{last-code, last-of-pieces, or-else, last-of-chunks, last-char}
-use Rattle.model.specs.Call.{show, value-of, char-or-none, last-char as LastChar}
+use Rattle.model.specs.Call.{show, value-of, last-char as LastChar}
 use Rattle.model.specs.WellFormed.{Valid}
 use Rattle.model.specs.Lists.{first-of, rest-of}
 use Rattle.memory.specs.Layout.{magicStringOf, runOf, tabulate, chunkOf, replacementOf, bytesAt, pieceAt}
@@ -43,7 +43,7 @@ gives-some : (o : Option ℕ) (r : ℕ) → Gives o r → (r ≡ 0xFFFF_FFFF →
 gives-some none r g e = absurd (e g)
 gives-some (some v) r g e = (ap some (sym (g .0)), omega (arith, g .0, g .1))
 
-pub gives-value : (o : Option ℕ) (r : ℕ) → Gives o r → char-or-none o ≡ r
+pub gives-value : (o : Option ℕ) (r : ℕ) → Gives o r → unwrap-or o 0xFFFF_FFFF ≡ r
 gives-value none r g = sym g
 gives-value (some v) r g = sym (g .0)
 
@@ -223,7 +223,7 @@ module _ (source t p s : List ℕ) (w : WellFormed source t p s) where
   unfolding show
   seeking-none left row k h =
       let z : left ≡ 0 = omega arith in
-      told-value LastChar (magicStringOf source t p s) 0xFFFF_FFFF (ap (λ (x : Option ℕ). value-of (char-or-none x)) (sym (k .rest-is) ∙ ap (lastTo (sectionLast source t p s)) z))
+      told-value LastChar (magicStringOf source t p s) 0xFFFF_FFFF (ap (λ (x : Option ℕ). value-of (unwrap-or x 0xFFFF_FFFF)) (sym (k .rest-is) ∙ ap (lastTo (sectionLast source t p s)) z))
 
   module _ (left row : ℕ) (k : Seeking source t p s left row) (h : 0 < left) where
     suc-is : left ≡ suc (left - 1)
@@ -253,7 +253,7 @@ module _ (source t p s : List ℕ) (w : WellFormed source t p s) where
       unfolding show
       seeking-found v g n =
           told-value LastChar (magicStringOf source t p s) v
-          (ap value-of (ap char-or-none (sym here) ∙ gives-value (or-else (lastOf source p s (entryOf r)) (lastTo (sectionLast source t p s) (left - 1))) v (gives-first (lastOf source p s (entryOf r)) (lastTo (sectionLast source t p s) (left - 1)) v g n)))
+          (ap value-of (ap (λ (y : Option ℕ). unwrap-or y 0xFFFF_FFFF) (sym here) ∙ gives-value (or-else (lastOf source p s (entryOf r)) (lastTo (sectionLast source t p s) (left - 1))) v (gives-first (lastOf source p s (entryOf r)) (lastTo (sectionLast source t p s) (left - 1)) v g n)))
 
       pub seeking-more : (v : ℕ) → Gives (lastOf source p s (entryOf r)) v → v ≡ 0xFFFF_FFFF → Seeking source t p s (left - 1) (r .prev)
       seeking-more v g n = record {

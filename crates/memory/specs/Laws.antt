@@ -14,8 +14,8 @@ use Rattle.utf8.specs.Chars.{All, nil, cons}
 use Rattle.utf8.specs.CharLaws.{all-front, all-back}
 use Rattle.table.specs.Ring.{Each, Not}
 use Rattle.table.specs.Order.{entries, countOf, count-entries}
-use Rattle.model.specs.Text.{Text}
-use Rattle.model.specs.Chunk.{Chunk, is-some}
+use Rattle.model.specs.Text.{Text, is-some}
+use Rattle.model.specs.Chunk.{Chunk}
 use Rattle.model.specs.MagicString.{MagicString}
 use Rattle.model.specs.Limits.{Limits, full, within, piece-count, byte-count}
 use Rattle.model.specs.Lists.{and-left, and-right, first-of, all-snoc, bool-elim, no-tf}

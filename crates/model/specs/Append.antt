@@ -1,14 +1,9 @@
 -- append.rs. Left adds to the outro of the chunk that ends at the position, right to the intro of the chunk that starts there; without such a chunk left goes to
 -- the head and right to the tail, past the end too.
 use Prim.Native.Nat.{ℕ}
-use mathlib.Core.List.{List, [], _∷_, _++_}
-use Rattle.model.specs.Text.{Text}
+use Rattle.model.specs.Text.{Text, push-back}
 use Rattle.model.specs.Chunk.{append-intro, append-outro}
 use Rattle.model.specs.MagicString.{MagicString, Result, ok, with-outro, by-start-mut, by-end-mut}
-
--- `push_back`
-abbrev pub push-back : Text → List Text → List Text
-push-back t l = l ++ (t ∷ [])
 
 -- `append`
 abbrev pub append : Text → MagicString → Result

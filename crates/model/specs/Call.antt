@@ -6,7 +6,7 @@ use mathlib.Core.Option.{Option, none, some}
 use lib.Dec.{leb, eqb}
 use lib.ListN.{length}
 use Rattle.utf8.specs.Rfc3629.{utf8, between}
-use Rattle.model.specs.Text.{Text, any, all}
+use Rattle.model.specs.Text.{Text, unwrap-or, any, all}
 use Rattle.model.specs.MagicString.{MagicString, Result, ok, err, new}
 use Rattle.model.specs.MagicString as mod-rs
 use Rattle.model.specs.Append as append-rs
@@ -213,25 +213,20 @@ abbrev pub sliced-into : ℕ → Sliced → Shown
 sliced-into room (text t) = into room t
 sliced-into room (refused k) = refusal k
 
--- "An absent end is the source's end"
-abbrev pub end-or : Option ℕ → ℕ → ℕ
-end-or none n = n
-end-or (some e) n = e
-
 abbrev pub slice-positions : ℕ → Option ℕ → List ℕ
 slice-positions start none = start ∷ []
 slice-positions start (some e) = start ∷ e ∷ []
 
--- the code of the last character, FFFF_FFFF where there is none
-abbrev pub char-or-none : Option ℕ → ℕ
-char-or-none none = 0xFFFF_FFFF
-char-or-none (some v) = v
+-- `last_char`'s value where there is no last character
+abbrev pub NO-CHAR : ℕ
+NO-CHAR = 0xFFFF_FFFF
 
+-- "An absent end is the source's end"
 unfoldable pub show : Report → MagicString → Shown
 show (to-string room) m = into room (mod-rs.to-string m)
 show (slice start end room) m =
     cond (not (all (between (m .source)) (slice-positions start end))) (refusal 3)
-    (sliced-into room (slice-rs.slice start (end-or end (length (m .source))) m))
+    (sliced-into room (slice-rs.slice start (unwrap-or end (length (m .source))) m))
 show (last-line room) m = into room (mod-rs.last-line m)
 show (get-indent-string room) m = into room (indent-rs.get-indent-string (m .source))
 show len m = value-of (mod-rs.len m)
@@ -240,7 +235,7 @@ show line-count m = value-of (mod-rs.line-count m)
 show is-empty m = value-of (bit (mod-rs.is-empty m))
 show has-changed m = value-of (bit (mod-rs.has-changed m))
 show (is-range-within-edited-chunk a b) m = value-of (bit (mod-rs.is-range-within-edited-chunk a b m))
-show last-char m = value-of (char-or-none (mod-rs.last-char m))
+show last-char m = value-of (unwrap-or (mod-rs.last-char m) NO-CHAR)
 
 -- the numbers that a report may give beside 0 and 2
 abbrev pub report-numbers : Report → List ℕ

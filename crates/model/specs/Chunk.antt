@@ -1,11 +1,10 @@
 -- span.rs and chunk.rs: a span of the source, and a chunk with its pieces and its replacement.
-use Prim.Native.Nat.{ℕ, _-_}
+use Prim.Native.Nat.{ℕ}
 use mathlib.Core.Bool.{Bool, true, false, _&&_, not, cond}
 use mathlib.Core.List.{List, [], _∷_, _++_}
 use mathlib.Core.Option.{Option, none, some}
 use lib.Dec.{ltb}
-use lib.ListN.{take, drop}
-use Rattle.model.specs.Text.{Text, is-nil}
+use Rattle.model.specs.Text.{Text, part, is-nil, push-back, is-some, unwrap-or}
 
 -- `Span`: the source bytes from start up to but without end
 pub record Span : Type 0 where
@@ -14,7 +13,7 @@ pub record Span : Type 0 where
 
 -- `Span::text`
 abbrev pub span-text : Span → Text → Text
-span-text p source = take (p .end - p .start) (drop (p .start) source)
+span-text p source = part (p .start) (p .end) source
 
 -- what a chunk has besides its span: intro pieces, outro pieces, and perhaps a replacement (`edited_content`)
 pub record Texts : Type 0 where
@@ -56,10 +55,10 @@ contains c at = ltb (start-of c) at && ltb at (end-of c)
 
 -- `append_outro`, `append_intro`, `prepend_outro`, `prepend_intro`: append adds at the back of a piece list, prepend at the front
 abbrev pub append-outro : Text → Texts → Texts
-append-outro t x = record { intro = x .intro; outro = x .outro ++ (t ∷ []); edited-content = x .edited-content }
+append-outro t x = record { intro = x .intro; outro = push-back t (x .outro); edited-content = x .edited-content }
 
 abbrev pub append-intro : Text → Texts → Texts
-append-intro t x = record { intro = x .intro ++ (t ∷ []); outro = x .outro; edited-content = x .edited-content }
+append-intro t x = record { intro = push-back t (x .intro); outro = x .outro; edited-content = x .edited-content }
 
 abbrev pub prepend-outro : Text → Texts → Texts
 prepend-outro t x = record { intro = x .intro; outro = t ∷ x .outro; edited-content = x .edited-content }
@@ -68,10 +67,6 @@ abbrev pub prepend-intro : Text → Texts → Texts
 prepend-intro t x = record { intro = t ∷ x .intro; outro = x .outro; edited-content = x .edited-content }
 
 -- `Chunk::is_edited`
-abbrev pub is-some : Option Text → Bool
-is-some none = false
-is-some (some t) = true
-
 abbrev pub is-edited : Chunk → Bool
 is-edited c = is-some (c .texts .edited-content)
 
@@ -89,13 +84,9 @@ abbrev pub second-half : ℕ → Chunk → Chunk
 second-half at c =
     chunk-of at (end-of c) (record { intro = []; outro = c .texts .outro; edited-content = c .texts .edited-content })
 
--- the source of a chunk's content: its replacement, or else its part of the source
-abbrev pub content-or : Option Text → Text → Text
-content-or none s = s
-content-or (some t) s = t
-
+-- "A chunk's content is either its part of the source or its replacement text"
 abbrev pub content : Text → Chunk → Text
-content source c = content-or (c .texts .edited-content) (span-text (c .span) source)
+content source c = unwrap-or (c .texts .edited-content) (span-text (c .span) source)
 
 -- `Chunk::fragments`
 abbrev pub fragments : Text → Chunk → List Text

@@ -6,8 +6,8 @@ use mathlib.Core.Option.{Option, none, some}
 use lib.Dec.{ltb, leb, eqb}
 use lib.ListN.{length, getD, replicate}
 use Rattle.utf8.specs.Chars.{chars, concat}
-use Rattle.model.specs.Text.{Text, TAB, LF, CR, SPACE, is-nil, same, lines}
-use Rattle.model.specs.Chunk.{Chunk, Texts, start-of, span-text}
+use Rattle.model.specs.Text.{Text, TAB, LF, CR, SPACE, is-nil, unwrap-or, same, lines}
+use Rattle.model.specs.Chunk.{Chunk, start-of, span-text, edit}
 use Rattle.model.specs.MagicString.{MagicString, Result, ok, and-then, with-chunks, with-intro, with-outro, at-start}
 use Rattle.model.specs.Prepend.{prepend-right}
 
@@ -121,9 +121,6 @@ pub record Marked : Type 0 where
   pub mark : Bool
   pub result : Result
 
-abbrev pub set-edited : Text → Texts → Texts
-set-edited t x = record { intro = x .intro; outro = x .outro; edited-content = some t }
-
 -- one chunk: its replacement is indented in place, unless its start is excluded; its part of the source gets the indentor as a piece at each line start
 unfoldable pub indent-chunk : Text → List ℕ → Bool → Chunk → MagicString → Marked
 indent-chunk indentor exclude mark c m =
@@ -131,7 +128,7 @@ indent-chunk indentor exclude mark c m =
       | some t ↦ elim (excluded exclude (start-of c)) [
         | true ↦ record { mark = mark; result = ok m }
         | false ↦ let r : Indented = indent-frag indentor mark t in
-            record { mark = r .mark; result = ok (with-chunks m (at-start (start-of c) (set-edited (r .text)) (m .chunks))) }
+            record { mark = r .mark; result = ok (with-chunks m (at-start (start-of c) (edit (r .text) false) (m .chunks))) }
       ]
       | none ↦ let r : Starts = line-starts exclude mark (start-of c) (chars (span-text (c .span) (m .source))) in
           record { mark = r .mark; result = prepend-at indentor (r .starts) m }
@@ -153,17 +150,12 @@ indent-by indentor exclude m =
     let body : Marked = indent-chunks indentor exclude (head .mark) (m .chunks) (with-intro m (head .pieces)) in
     and-then (body .result) (λ m. ok (with-outro m (indent-pieces indentor (body .mark) (m .outro) .pieces)))
 
--- the indentor given, or the guess
-abbrev pub indentor-or : Option Text → Text → Text
-indentor-or none source = get-indent-string source
-indentor-or (some t) source = t
-
 -- whether an indentor is given and empty
 abbrev pub is-empty-indentor : Option Text → Bool
 is-empty-indentor none = false
 is-empty-indentor (some t) = is-nil t
 
--- `indent_with`
+-- `indent_with`: the indentor given, or the guess
 unfoldable pub indent-with : Option Text → List ℕ → MagicString → Result
 indent-with indentor exclude m =
-    cond (is-empty-indentor indentor) (ok m) (indent-by (indentor-or indentor (m .source)) exclude m)
+    cond (is-empty-indentor indentor) (ok m) (indent-by (unwrap-or indentor (get-indent-string (m .source))) exclude m)

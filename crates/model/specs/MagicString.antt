@@ -6,7 +6,7 @@ use mathlib.Core.Option.{Option, none, some}
 use lib.Dec.{ltb, leb, eqb}
 use lib.ListN.{length}
 use Rattle.utf8.specs.Chars.{chars, concat, code, utf16Width}
-use Rattle.model.specs.Text.{Text, same, is-nil, back, any, all, sum, trim-white-space, behind-last-line-feed, line-feeds}
+use Rattle.model.specs.Text.{Text, same, is-nil, is-some, back, any, all, sum, trim-white-space, behind-last-line-feed, line-feeds}
 use Rattle.model.specs.Chunk.{Chunk, Texts, new-chunk, with-texts, start-of, end-of, contains, is-edited, is-filled, first-half, second-half, content}
 use Rattle.model.specs.Chunk as chunk
 
@@ -158,10 +158,6 @@ abbrev pub by-end : ℕ → List Chunk → Option Chunk
 by-end at [] = none
 by-end at (c ∷ cs) = cond (eqb (end-of c) at) (some c) (by-end at cs)
 
-abbrev pub found : Option Chunk → Bool
-found none = false
-found (some c) = true
-
 -- `self.chunks[idx]` changed, for the chunk that starts, or ends, at a position
 abbrev pub at-start : ℕ → (Texts → Texts) → List Chunk → List Chunk
 at-start at f [] = []
@@ -184,13 +180,13 @@ split-holder at (c ∷ cs) =
     cond (contains c at) (first-half at c ∷ second-half at c ∷ cs) (c ∷ r)
 
 abbrev pub refuses-split : Option Chunk → Bool
-refuses-split none = false
+refuses-split none = false  -- cannot arise on a formed desk: some chunk contains a position that is no edge
 refuses-split (some c) = is-filled (c .texts .edited-content)
 
 -- nothing at 0, at or past the source's end, or at a chunk's edge
 unfoldable pub split-at : ℕ → MagicString → Result
 split-at at m =
-    cond (eqb at 0 || (leb (length (m .source)) at || found (by-end at (m .chunks)))) (ok m)
+    cond (eqb at 0 || (leb (length (m .source)) at || is-some (by-end at (m .chunks)))) (ok m)
     (cond (refuses-split (holder at (m .chunks))) (err 6 m) (ok (with-chunks m (split-holder at (m .chunks)))))
 
 -- `by_start_mut`, with what its callers do: after the cut the chunk that starts at the position is changed by f, or else the tail by g

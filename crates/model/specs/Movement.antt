@@ -55,14 +55,14 @@ begins-at at (c ∷ cs) = eqb (start-of c) at
 
 -- the walk in original order: each next chunk by position must also be the next of the list, up to the one that ends at `end`
 abbrev pub range-from : ℕ → List Chunk → Segment
-range-from end [] = apart
+range-from end [] = apart  -- cannot arise: the walk goes on only where a next chunk begins
 range-from end (c ∷ cs) =
     let r : Segment = into-range c (range-from end cs) in
     cond (eqb (end-of c) end) (together [] (c ∷ []) cs) (cond (begins-at (end-of c) cs) r apart)
 
 -- from the chunk that starts at `start`
 abbrev pub segment : ℕ → ℕ → List Chunk → Segment
-segment start end [] = apart
+segment start end [] = apart  -- cannot arise: after the cuts a chunk starts at `start`
 segment start end (c ∷ cs) =
     let r : Segment = before-range c (segment start end cs) in
     cond (eqb (start-of c) start) (range-from end (c ∷ cs)) r

@@ -3,9 +3,9 @@ use Prim.Native.Nat.{ℕ, _-_}
 use mathlib.Core.Bool.{Bool, true, false, _&&_, _||_, not, cond}
 use mathlib.Core.List.{List, [], _∷_, _++_}
 use lib.Dec.{ltb, leb, eqb}
-use lib.ListN.{length, take, drop}
+use lib.ListN.{length}
 use Rattle.utf8.specs.Chars.{concat}
-use Rattle.model.specs.Text.{Text}
+use Rattle.model.specs.Text.{Text, part}
 use Rattle.model.specs.Chunk.{Chunk, start-of, end-of, is-edited, content}
 use Rattle.model.specs.MagicString.{MagicString}
 
@@ -31,10 +31,6 @@ find-start start end (c ∷ cs) =
       | false ↦ from c cs
       | true ↦ elim (contains-end c end) [ true ↦ nothing | false ↦ find-start start end cs ]
     ]
-
--- `&content[slice_start..slice_end]`, empty where the range is reversed
-abbrev pub part : ℕ → ℕ → Text → Text
-part a b s = take (b - a) (drop a s)
 
 -- what one chunk gives, from `slice_start` on: its intro if `with_intro`, its content up to the end, its outro unless the end lies before the chunk's end
 unfoldable pub chunk-slice : Text → Bool → ℕ → ℕ → Chunk → Text

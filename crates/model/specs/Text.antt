@@ -1,10 +1,10 @@
 -- Texts, and what the crate uses of Rust's `str` and `VecDeque`. A name that Rust writes with `_` has `-` here.
-use Prim.Native.Nat.{ℕ, zero, suc, _+_}
+use Prim.Native.Nat.{ℕ, zero, suc, _+_, _-_}
 use mathlib.Core.Bool.{Bool, true, false, _&&_, _||_, cond}
 use mathlib.Core.List.{List, [], _∷_, _++_, map, reverse}
 use mathlib.Core.Option.{Option, none, some}
 use lib.Dec.{eqb}
-use lib.ListN.{length, getD}
+use lib.ListN.{length, getD, take, drop}
 use Rattle.utf8.specs.WhiteSpace.{whiteSpace}
 use Rattle.utf8.specs.Chars.{chars, concat, code}
 
@@ -25,6 +25,10 @@ CR = 13
 abbrev pub SPACE : ℕ
 SPACE = 32
 
+-- `&s[a..b]`, empty where the range is reversed
+abbrev pub part : ℕ → ℕ → Text → Text
+part a b s = take (b - a) (drop a s)
+
 -- `==` of two strings
 abbrev pub same : Text → Text → Bool
 same [] [] = true
@@ -37,6 +41,19 @@ module _ {A : Type 0} where
   abbrev pub is-nil : List A → Bool
   is-nil [] = true
   is-nil (x ∷ l) = false
+
+  -- `push_back` of a deque
+  abbrev pub push-back : A → List A → List A
+  push-back x l = l ++ (x ∷ [])
+
+  -- `Option::is_some`, `Option::unwrap_or`
+  abbrev pub is-some : Option A → Bool
+  is-some none = false
+  is-some (some x) = true
+
+  abbrev pub unwrap-or : Option A → A → A
+  unwrap-or none d = d
+  unwrap-or (some x) d = x
 
   -- `VecDeque::back`, and `next_back` of an iterator
   abbrev pub back : List A → Option A

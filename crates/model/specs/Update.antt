@@ -16,8 +16,8 @@ pub record Walk : Type 0 where
 abbrev pub onto : Chunk → Walk → Walk
 onto c w = record { done = w .done; chunks = c ∷ w .chunks }
 
--- the loop: behind a chunk that ends at `at`. Each next chunk of the list must start there; it is cleared as it is passed. A chunk that ends at `end` is the last;
--- at a gap the chunks cleared so far stay cleared
+-- the loop: behind a chunk that ends at `at`. If that is `end` the walk is done (so it is at once where the first chunk is the whole range); else the next chunk of the
+-- list must start there, and it is cleared as it is passed. At a gap, or the list's end, the chunks cleared so far stay cleared
 abbrev pub clear-run : ℕ → ℕ → List Chunk → Walk
 clear-run at end [] = record { done = eqb at end; chunks = [] }
 clear-run at end (c ∷ cs) =
@@ -27,7 +27,7 @@ clear-run at end (c ∷ cs) =
 
 -- from the chunk that starts at `start` along the list; that first chunk is edited last, and only if the walk came through
 abbrev pub update-walk : ℕ → ℕ → Text → Bool → List Chunk → Walk
-update-walk start end t overwrite [] = record { done = false; chunks = [] }
+update-walk start end t overwrite [] = record { done = false; chunks = [] }  -- cannot arise: after the cuts a chunk starts at `start`
 update-walk start end t overwrite (c ∷ cs) =
     let r : Walk = clear-run (end-of c) end cs in
     let there : Walk = onto c (update-walk start end t overwrite cs) in

@@ -9,9 +9,9 @@ use lib.ListN.{length}
 use borrow.Author.Tests.{leb-false}
 use Rattle.utf8.specs.Rfc3629.{between}
 use Rattle.utf8.specs.Chars.{All, nil}
-use Rattle.model.specs.Text.{Text}
+use Rattle.model.specs.Text.{Text, is-some}
 use Rattle.model.specs.Chunk.{Chunk, start-of, end-of, first-half, second-half}
-use Rattle.model.specs.MagicString.{MagicString, Result, ok, err, and-then, with-chunks, by-end, found, holder, split-holder, refuses-split, split-at}
+use Rattle.model.specs.MagicString.{MagicString, Result, ok, err, and-then, with-chunks, by-end, holder, split-holder, refuses-split, split-at}
 use Rattle.model.specs.WellFormed.{Valid, ValidTexts, Formed}
 use Rattle.model.specs.Lists.{neither}
 use Rattle.preservation.specs.Lists.{of-cond}
@@ -65,7 +65,7 @@ pub split-cases : (P : Result → Type 0) (p : ℕ) (m : MagicString) → P (ok 
 unfolding split-at
 split-cases P p m h k g =
     let past : Bool = leb (length (m .source)) p in
-    let edge : Bool = found (by-end p (m .chunks)) in
+    let edge : Bool = is-some (by-end p (m .chunks)) in
     of-cond P (eqb p 0 || (past || edge)) (λ e. h)
     (λ e. of-cond P (refuses-split (holder p (m .chunks))) k (λ _. g (leb-false (length (m .source)) p (neither past edge (neither (eqb p 0) (past || edge) e .1) .0))))
 

@@ -12,7 +12,8 @@ use Rattle.utf8.specs.Chars.{All, nil, cons}
 use Rattle.model.specs.Text.{Text}
 use Rattle.model.specs.Chunk.{Chunk, Texts, edit}
 use Rattle.model.specs.MagicString.{MagicString, Result, ok, err, and-then, with-chunks, with-intro, with-outro, by-start, by-end, at-start, at-end, split-at, by-end-mut, by-start-mut}
-use Rattle.model.specs.Append.{push-back, append, append-left, append-right}
+use Rattle.model.specs.Append.{append, append-left, append-right}
+use Rattle.model.specs.Text.{push-back}
 use Rattle.model.specs.Prepend.{push-front, prepend, prepend-left, prepend-right}
 use Rattle.model.specs.Update.{update-walk, update-chunks, update-with}
 use Rattle.model.specs.Movement.{change-by-position, change-range, remove}

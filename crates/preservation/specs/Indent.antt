@@ -14,11 +14,11 @@ use Rattle.utf8.specs.Chars.{All, nil, cons, chars, concat, toFirst}
 use Rattle.utf8.specs.Texts.{utf8-nil}
 use Rattle.utf8.specs.Laws.{utf8-append, utf8-part, ascii-utf8, between-take, take-between}
 use Rattle.utf8.specs.CharLaws.{concat-chars, chars-utf8}
-use Rattle.model.specs.Text.{Text, TAB, SPACE, lines}
-use Rattle.model.specs.Chunk.{Chunk, start-of, end-of, span-text}
+use Rattle.model.specs.Text.{Text, TAB, SPACE, lines, unwrap-or}
+use Rattle.model.specs.Chunk.{Chunk, start-of, end-of, span-text, edit}
 use Rattle.model.specs.MagicString.{MagicString, Result, ok, with-intro, with-outro}
 use Rattle.model.specs.Prepend.{prepend-right}
-use Rattle.model.specs.Indent.{count, spaced, tabbed, least-spaces, get-indent-string, Indented, is-line-feed, takes-mark, indent-chars, indent-frag, Pieces, indent-pieces, excluded, Starts, line-starts, prepend-at, Marked, set-edited, indent-chunk, indent-chunks, indent-by, indentor-or, is-empty-indentor, indent-with}
+use Rattle.model.specs.Indent.{count, spaced, tabbed, least-spaces, get-indent-string, Indented, is-line-feed, takes-mark, indent-chars, indent-frag, Pieces, indent-pieces, excluded, Starts, line-starts, prepend-at, Marked, indent-chunk, indent-chunks, indent-by, is-empty-indentor, indent-with}
 use Rattle.model.specs.WellFormed.{Valid, ValidReplacement, ValidTexts}
 use Rattle.model.specs.Lists.{all-map, all-map₂, concat-length}
 use Rattle.preservation.specs.Lists.{of-cond, of-either, of-option, of-number}
@@ -38,7 +38,7 @@ guess-valid source =
     of-cond Valid (leb (count spaced (lines source)) (count tabbed (lines source)))
     (λ _. ascii-utf8 (TAB ∷ []) (cons {x = TAB} (omega arith) nil)) (λ _. ascii-utf8 _ (spaces-ascii (least-spaces (length source) (lines source))))
 
-pub indentor-valid : (indentor : Option Text) (source : Text) → ValidReplacement indentor → Valid (indentor-or indentor source)
+pub indentor-valid : (indentor : Option Text) (source : Text) → ValidReplacement indentor → Valid (unwrap-or indentor (get-indent-string source))
 indentor-valid none source h = guess-valid source
 indentor-valid (some t) source h = h
 
@@ -142,7 +142,7 @@ module _ (source indentor : Text) (v : Valid indentor) where
   prepend-at-keeps (cons {x = i} {xs = l} b k) m h =
       of-and-then (FormedOf source) (prepend-right i indentor m) (prepend-at indentor l) (prepend-right-keeps source i indentor v b m h) (λ n. prepend-at-keeps k n)
 
-  set-edited-valid : (t : Text) → Valid t → KeepsValid (set-edited t)
+  set-edited-valid : (t : Text) → Valid t → KeepsValid (edit t false)
   set-edited-valid t w x h = record { intro = h .intro; outro = h .outro; replacement = w }
 
   indent-chunk-keeps : (exclude : List ℕ) (mark : Bool) (c : Chunk) → Inside source c → ValidTexts (c .texts)
@@ -187,4 +187,4 @@ pub indent-with-keeps : (source : Text) (indentor : Option Text) → ValidReplac
 unfolding indent-with
 indent-with-keeps source indentor v exclude m h =
     of-cond (Leaves (FormedOf source)) (is-empty-indentor indentor) (λ _. record { desk = h })
-    (λ _. indent-by-keeps source (indentor-or indentor (m .source)) (indentor-valid indentor (m .source) v) exclude m h)
+    (λ _. indent-by-keeps source (unwrap-or indentor (get-indent-string (m .source))) (indentor-valid indentor (m .source) v) exclude m h)

@@ -13,11 +13,11 @@ use lib.ListN.{length}
 use borrow.Author.Tests.{eqb-true}
 use Rattle.utf8.specs.Rfc3629.{between}
 use Rattle.utf8.specs.Chars.{All, nil, cons}
-use Rattle.model.specs.Text.{Text, sum}
-use Rattle.model.specs.Chunk.{Chunk, Texts, with-texts, start-of, end-of, contains, is-some, is-edited, is-filled, first-half, second-half, prepend-intro}
+use Rattle.model.specs.Text.{Text, sum, is-some, unwrap-or}
+use Rattle.model.specs.Chunk.{Chunk, Texts, with-texts, start-of, end-of, contains, is-edited, is-filled, first-half, second-half, prepend-intro, edit}
 use Rattle.model.specs.MagicString.{MagicString, Result, ok, and-then, with-chunks, with-intro, with-outro, by-start, at-start, holder, refuses-split, split-at, by-start-mut}
 use Rattle.model.specs.Prepend.{push-front, prepend-right}
-use Rattle.model.specs.Indent.{Pieces, indent-pieces, excluded, prepend-at, Marked, set-edited, indent-chunk, indent-chunks, indent-by, indentor-or, is-empty-indentor, indent-with}
+use Rattle.model.specs.Indent.{get-indent-string, Pieces, indent-pieces, excluded, prepend-at, Marked, indent-chunk, indent-chunks, indent-by, is-empty-indentor, indent-with}
 use Rattle.model.specs.WellFormed.{Valid, covers, Covered, Formed}
 use Rattle.model.specs.Lists.{all-map, all-map₂, all-of, sum-part}
 use Rattle.model.specs.Spans.{covers-key, covers-in, covers-out, covers-halves}
@@ -139,12 +139,12 @@ edited-nowhere x d h = omega (arith, edited-le x d, covers-out x d (λ i. omega 
 module _ (source : Text) (cs : List Chunk) where
   -- a chunk that starts where one with a replacement stood at the start has a replacement, or no byte
   replaced-there : (c : Chunk) → Original source cs c → is-edited c ≡ true → (m : MagicString) → Walks source cs m
-      → (t : Text) (x : ℕ) → All (λ d. start-of d ≡ start-of c → edited-at x (with-texts (set-edited t) d) ≡ edited-at x d) (m .chunks)
+      → (t : Text) (x : ℕ) → All (λ d. start-of d ≡ start-of c → edited-at x (with-texts (edit t false) d) ≡ edited-at x d) (m .chunks)
   replaced-there c o e m w t x =
       let a : ℕ = start-of c in
       all-map₂ (λ d i k q. elim (decLt (start-of d) (end-of d)) [
-        | no l ↦ edited-nowhere x (with-texts (set-edited t) d) (omega arith) ∙ sym (edited-nowhere x d (omega arith))
-        | yes l ↦ edited-key x d (with-texts (set-edited t) d) refl
+        | no l ↦ edited-nowhere x (with-texts (edit t false) d) (omega arith) ∙ sym (edited-nowhere x d (omega arith))
+        | yes l ↦ edited-key x d (with-texts (edit t false) d) refl
             (sym (edited-one a d (omega (
               arith,
               k,
@@ -245,4 +245,4 @@ indent-by-accepted indentor exclude m f =
 pub indent-with-accepted : (indentor : Option Text) (exclude : List ℕ) (m : MagicString) → Formed m → indent-with indentor exclude m .number ≡ 0
 unfolding indent-with
 indent-with-accepted indentor exclude m f =
-    of-cond (λ (r : Result). r .number ≡ 0) (is-empty-indentor indentor) (λ _. refl) (λ _. indent-by-accepted (indentor-or indentor (m .source)) exclude m f)
+    of-cond (λ (r : Result). r .number ≡ 0) (is-empty-indentor indentor) (λ _. refl) (λ _. indent-by-accepted (unwrap-or indentor (get-indent-string (m .source))) exclude m f)

@@ -7,7 +7,7 @@ use mathlib.Core.List.{List, [], _∷_}
 use lib.Dec.{leb, eqb}
 use lib.ListN.{length}
 use Rattle.utf8.specs.Rfc3629.{utf8, between}
-use Rattle.model.specs.Text.{Text, any, all}
+use Rattle.model.specs.Text.{Text, any, all, unwrap-or}
 use Rattle.model.specs.Chunk.{Chunk, start-of, is-edited}
 use Rattle.model.specs.MagicString.{MagicString, Result}
 use Rattle.model.specs.Limits.{Limits}
@@ -16,7 +16,7 @@ use Rattle.model.specs.Slice.{Sliced, text, refused, Start, from, nothing, befo
 use Rattle.model.specs.Slice as slice-rs
 use Rattle.model.specs.MagicString as mod-rs
 use Rattle.model.specs.Indent as indent-rs
-use Rattle.model.specs.Call.{Call, «open», change, report, Report, to-string, slice, last-line, get-indent-string, len, len-utf16, line-count, is-empty, has-changed, is-range-within-edited-chunk, last-char, Shown, into, sliced-into, end-or, slice-positions, run, edit-numbers, show, opened, report-numbers, numbers-of, perform}
+use Rattle.model.specs.Call.{Call, «open», change, report, Report, to-string, slice, last-line, get-indent-string, len, len-utf16, line-count, is-empty, has-changed, is-range-within-edited-chunk, last-char, Shown, into, sliced-into, slice-positions, run, edit-numbers, show, opened, report-numbers, numbers-of, perform}
 use Rattle.preservation.specs.Lists.{of-cond, of-either, of-guard}
 use Rattle.preservation.specs.Refusals.{among, answer-listed}
 
@@ -67,9 +67,9 @@ report-listed : (q : Report) (m : MagicString) → among (show q m .number) (rep
 unfolding show slice-rs.slice
 report-listed (to-string room) m = into-listed room (mod-rs.to-string m) (14 ∷ []) refl
 report-listed (slice start end room) m =
-    let s : Sliced = slice-from (m .source) start (end-or end (length (m .source))) (find-start start (end-or end (length (m .source))) (m .chunks)) in
+    let s : Sliced = slice-from (m .source) start (unwrap-or end (length (m .source))) (find-start start (unwrap-or end (length (m .source))) (m .chunks)) in
     of-guard (λ (x : Shown). among (x .number) (3 ∷ 11 ∷ 12 ∷ 14 ∷ []) ≡ true) (all (between (m .source)) (slice-positions start end)) (λ _. refl)
-    (λ _. sliced-listed room s (from-listed (m .source) start (end-or end (length (m .source))) (find-start start (end-or end (length (m .source))) (m .chunks))))
+    (λ _. sliced-listed room s (from-listed (m .source) start (unwrap-or end (length (m .source))) (find-start start (unwrap-or end (length (m .source))) (m .chunks))))
 report-listed (last-line room) m = into-listed room (mod-rs.last-line m) (14 ∷ []) refl
 report-listed (get-indent-string room) m = into-listed room (indent-rs.get-indent-string (m .source)) (14 ∷ []) refl
 report-listed len m = refl

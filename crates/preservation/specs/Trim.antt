@@ -11,8 +11,8 @@ use Rattle.utf8.specs.Chars.{All, nil, cons, code}
 use Rattle.utf8.specs.Texts.{utf8-nil}
 use Rattle.utf8.specs.Laws.{utf8-part}
 use Rattle.utf8.specs.CharLaws.{chars-utf8, concat-utf8}
-use Rattle.model.specs.Text.{Text, is-nil, trim-start-matches, trim-end-matches}
-use Rattle.model.specs.Chunk.{Chunk, start-of, end-of, span-text, content-or, content}
+use Rattle.model.specs.Text.{Text, is-nil, trim-start-matches, trim-end-matches, unwrap-or}
+use Rattle.model.specs.Chunk.{Chunk, start-of, end-of, span-text, content}
 use Rattle.model.specs.MagicString.{MagicString}
 use Rattle.model.specs.Trim.{matches, trim-start-pattern, trim-end-pattern, trim-deque-start, trim-reversed, trim-deque-end, Trimmed, trim-chunk-start, trim-chunk-end, trim-chunks, trim-start, trim-end, trim}
 use Rattle.model.specs.WellFormed.{Valid, ValidReplacement, ValidTexts}
@@ -32,7 +32,7 @@ pub trim-end-valid : (f : ℕ → Bool) (s : Text) → Valid s → Valid (trim-e
 unfolding trim-end-matches
 trim-end-valid f s h = concat-utf8 _ (all-reverse (all-skip-while (λ c. f (code c)) (all-reverse (chars-utf8 s h))))
 
-content-or-valid : (e : Option Text) (s : Text) → ValidReplacement e → Valid s → Valid (content-or e s)
+content-or-valid : (e : Option Text) (s : Text) → ValidReplacement e → Valid s → Valid (unwrap-or e s)
 content-or-valid Option.none s h k = k
 content-or-valid (some t) s h k = h
 

@@ -12,12 +12,12 @@ use Rattle.utf8.specs.Rfc3629.{between}
 use Rattle.table.specs.declared.Row.{Row}
 use Rattle.table.specs.Table.{rowAt}
 use Rattle.table.specs.Order.{Entry, entryOf, entryAt, entries, countOf, Linked}
-use Rattle.model.specs.Text.{Text, all}
+use Rattle.model.specs.Text.{Text, all, unwrap-or}
 use Rattle.model.specs.Chunk.{Chunk, start-of, end-of, is-edited}
 use Rattle.model.specs.MagicString.{MagicString}
 use Rattle.model.specs.Limits.{full}
 use Rattle.model.specs.Slice.{Sliced, text, refused, Start, from, nothing, contains-end, ends-inside, chunk-slice, before, slice-rest, slice-from, find-start, slice}
-use Rattle.model.specs.Call.{Shown, show, refusal, into, sliced-into, slice-positions, end-or, slice as Slice}
+use Rattle.model.specs.Call.{Shown, show, refusal, into, sliced-into, slice-positions, slice as Slice}
 use Rattle.model.specs.Lists.{neither}
 use Rattle.memory.specs.Layout.{chunkOf, magicStringOf}
 use Rattle.memory.specs.Calls.{Told}

@@ -15,7 +15,8 @@ use Rattle.model.specs.Text.{Text, sum}
 use Rattle.model.specs.Chunk.{Chunk, end-of, content}
 use Rattle.model.specs.Chunk as chunk
 use Rattle.model.specs.MagicString.{chunk-fragments, fragments}
-use Rattle.model.specs.Slice.{Sliced, text, refused, contains-end, ends-inside, part, chunk-slice, before, slice-rest}
+use Rattle.model.specs.Slice.{Sliced, text, refused, contains-end, ends-inside, chunk-slice, before, slice-rest}
+use Rattle.model.specs.Text.{part}
 use Rattle.model.specs.Lists.{sum-append}
 use Rattle.memory.specs.Layout.{chunkOf, magicStringOf}
 use Rattle.memory.specs.WellFormed.{WellFormed, EntryIn}

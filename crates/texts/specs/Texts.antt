@@ -9,8 +9,7 @@ use lib.Seq.{drop-cons, getD-append-add}
 use Rattle.utf8.specs.Chars.{concat}
 use Rattle.utf8.specs.CharLaws.{concat-append}
 use Rattle.table.specs.Order.{Entry}
-use Rattle.model.specs.Text.{Text}
-use Rattle.model.specs.Chunk.{content-or}
+use Rattle.model.specs.Text.{Text, unwrap-or}
 use Rattle.model.specs.Chunk as chunk
 use Rattle.memory.specs.Layout.{Place, bytesAt, pieceAt, tabulate, runOf, replacementOf, chunkOf}
 use Rattle.memory.specs.WellFormed.{PieceIn, RunIn, ReplacementIn}
@@ -28,7 +27,7 @@ pub record ContentIn (source s : List ℕ) (start end : ℕ) (text : Place) : Ty
 
 -- a chunk's content: its replacement, or else its part of the source
 abbrev pub contentAt : List ℕ → List ℕ → ℕ → ℕ → Place → Text
-contentAt source s start end text = content-or (replacementOf s text) (take (end - start) (drop start source))
+contentAt source s start end text = unwrap-or (replacementOf s text) (take (end - start) (drop start source))
 
 -- all that a chunk shows
 abbrev pub chunkText : List ℕ → List ℕ → List ℕ → Entry → Text

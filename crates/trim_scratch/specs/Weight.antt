@@ -10,8 +10,8 @@ use lib.Dec.{eqb}
 use lib.ListN.{length, drop, length-take, length-reverse}
 use Rattle.utf8.specs.Chars.{chars, concat, code}
 use Rattle.utf8.specs.CharLaws.{concat-chars}
-use Rattle.model.specs.Text.{Text, is-nil, sum, skip-while, trim-start-matches, trim-end-matches}
-use Rattle.model.specs.Chunk.{Chunk, start-of, end-of, span-text, content-or, content}
+use Rattle.model.specs.Text.{Text, is-nil, sum, skip-while, trim-start-matches, trim-end-matches, unwrap-or}
+use Rattle.model.specs.Chunk.{Chunk, start-of, end-of, span-text, content}
 use Rattle.model.specs.MagicString.{MagicString}
 use Rattle.model.specs.Limits.{replacement-bytes, chunk-bytes, piece-count, byte-count}
 use Rattle.model.specs.WellFormed.{covers, Formed}
@@ -73,7 +73,7 @@ module _ (p : ℕ) where
 weight : Chunk → ℕ
 weight c = chunk-bytes c + plain c
 
-content-le : (e : Option Text) (s : Text) (n : ℕ) → length s ≤ n → length (content-or e s) ≤ replacement-bytes e + plain-or e n
+content-le : (e : Option Text) (s : Text) (n : ℕ) → length s ≤ n → length (unwrap-or e s) ≤ replacement-bytes e + plain-or e n
 content-le none s n h = omega arith
 content-le (some t) s n h = omega arith
 

@@ -4,7 +4,7 @@ use Prim.Native.Nat.{ℕ, _-_}
 use native.Mathlib.Omega.{arith}
 use lib.ListN.{length}
 use Rattle.model.specs.Text.{Text}
-use Rattle.model.specs.Slice.{part}
+use Rattle.model.specs.Text.{part}
 use borrow.Author.Needs.{needs}
 use Rattle.chunk_slice.proofs.slice_content.Statement.{statement}
 use Rattle.chunk_slice.proofs.slice_content.Tie as tie
