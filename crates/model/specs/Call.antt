@@ -44,10 +44,16 @@ pub data Report : Type 0 where
   is-range-within-edited-chunk : ℕ → ℕ → Report
   last-char : Report
 
+-- the calls on a desk: "this paper's calls on a desk (edits, trims, indent, slices, reports, `to_string`)". The any-order rule's later calls are these, so that a call that is
+-- added, as an edit or a report, is one of them
+pub data DeskCall : Type 0 where
+  change : Edit → DeskCall
+  report : Report → DeskCall
+
+-- every call: an opening, or a call on a desk
 pub data Call : Type 0 where
   «open» : Text → Call
-  change : Edit → Call
-  report : Report → Call
+  on-desk : DeskCall → Call
 
 -- ── a call that changes a desk ──
 abbrev pub given : Option Text → List Text
@@ -262,8 +268,8 @@ opened k source before =
 -- "does the call or gives one of the table's numbers": those that a call may give beside 0, in document 01's order. 2 is judged on the memory
 abbrev pub numbers-of : Call → List ℕ
 numbers-of («open» source) = 2 ∷ 13 ∷ 1 ∷ []
-numbers-of (change e) = 2 ∷ edit-numbers e
-numbers-of (report q) = 2 ∷ report-numbers q
+numbers-of (on-desk (change e)) = 2 ∷ edit-numbers e
+numbers-of (on-desk (report q)) = 2 ∷ report-numbers q
 
 -- the number, the value, the bytes written outside the desk, and the desk after
 pub record Outcome : Type 0 where
@@ -275,5 +281,5 @@ changed r = record { shown = record { number = r .number; value = 0; written = [
 
 unfoldable pub perform : Limits → Call → MagicString → Outcome
 perform k («open» source) m = changed (opened k source m)
-perform k (change e) m = changed (run k e m)
-perform k (report q) m = record { shown = show q m; desk = m }
+perform k (on-desk (change e)) m = changed (run k e m)
+perform k (on-desk (report q)) m = record { shown = show q m; desk = m }

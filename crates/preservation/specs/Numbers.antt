@@ -16,7 +16,7 @@ use Rattle.model.specs.Slice.{Sliced, text, refused, Start, from, nothing, befo
 use Rattle.model.specs.Slice as slice-rs
 use Rattle.model.specs.MagicString as mod-rs
 use Rattle.model.specs.Indent as indent-rs
-use Rattle.model.specs.Call.{Call, «open», change, report, Report, to-string, slice, last-line, get-indent-string, len, len-utf16, line-count, is-empty, has-changed, is-range-within-edited-chunk, last-char, Shown, into, sliced-into, slice-positions, run, edit-numbers, show, opened, report-numbers, numbers-of, perform}
+use Rattle.model.specs.Call.{change, report, Call, «open», on-desk, Report, to-string, slice, last-line, get-indent-string, len, len-utf16, line-count, is-empty, has-changed, is-range-within-edited-chunk, last-char, Shown, into, sliced-into, slice-positions, run, edit-numbers, show, opened, report-numbers, numbers-of, perform}
 use Rattle.preservation.specs.Lists.{of-cond, of-either, of-guard}
 use Rattle.preservation.specs.Refusals.{among, answer-listed}
 
@@ -99,5 +99,5 @@ listed-behind n k ns h = go (eqb n 0) (eqb n k) (any (eqb n) ns) h
 pub call-listed : (k : Limits) (c : Call) (m : MagicString) → Formed m → among (perform k c m .shown .number) (numbers-of c) ≡ true
 unfolding perform
 call-listed k («open» source) m f = listed-behind (opened k source m .number) 2 (13 ∷ 1 ∷ []) (opened-listed k source m)
-call-listed k (change e) m f = listed-behind (run k e m .number) 2 (edit-numbers e) (answer-listed k e m f)
-call-listed k (report q) m f = listed-behind (show q m .number) 2 (report-numbers q) (report-listed q m)
+call-listed k (on-desk (change e)) m f = listed-behind (run k e m .number) 2 (edit-numbers e) (answer-listed k e m f)
+call-listed k (on-desk (report q)) m f = listed-behind (show q m .number) 2 (report-numbers q) (report-listed q m)

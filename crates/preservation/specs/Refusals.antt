@@ -21,7 +21,7 @@ use Rattle.model.specs.Movement.{change-by-position, change-range, Segment, tog
 use Rattle.model.specs.Movement as movement-rs
 use Rattle.model.specs.Reset as reset-rs
 use Rattle.model.specs.Limits.{Limits, within}
-use Rattle.model.specs.Call.{Edit, remove, update-with, reset, append-left, append-right, prepend-left, prepend-right, append, prepend, relocate, trim, trim-start, trim-end, trim-lines, indent-with, asked, given, texts, positions, steps, refused-before, judged, run, edit-numbers, may-change, Report, report, opened, perform}
+use Rattle.model.specs.Call.{Edit, remove, update-with, reset, append-left, append-right, prepend-left, prepend-right, append, prepend, relocate, trim, trim-start, trim-end, trim-lines, indent-with, asked, given, texts, positions, steps, refused-before, judged, run, edit-numbers, may-change, Report, report, on-desk, opened, perform}
 use Rattle.preservation.specs.Lists.{of-cond, of-guard, of-option, of-number}
 use Rattle.preservation.specs.Desk.{split-cases}
 use Rattle.preservation.specs.IndentAccepted.{indent-with-accepted}
@@ -211,6 +211,6 @@ opened-changes-nothing k source m =
     of-guard P (leb (length source) (k .source)) (λ _ _. refl) (λ _. of-guard P (utf8 source) (λ _ _. refl) (λ _ h. absurd (h refl)))
 
 -- a call that reports leaves the desk as it was
-pub report-changes-nothing : (k : Limits) (q : Report) (m : MagicString) → perform k (report q) m .desk ≡ m
+pub report-changes-nothing : (k : Limits) (q : Report) (m : MagicString) → perform k (on-desk (report q)) m .desk ≡ m
 unfolding perform
 report-changes-nothing k q m = refl
