@@ -107,8 +107,8 @@ typedef struct magic_string_answer {
 
 /* Makes a fresh desk over the source, whatever the tables held: one chunk, no
  * pieces.
- * Numbers: 2 for tables of other lengths, 13 for a source of over 16,384 bytes,
- * 1 for the source. Value: 0. */
+ * Numbers: 2 for tables of other lengths, 13 for a source that is too long, 1
+ * for one that is not UTF-8. Value: 0. */
 magic_string_answer magic_string_open(MAGIC_STRING_DESK);
 
 /* Tells whether the memory holds a well-formed desk. Every call but open makes
