@@ -6,12 +6,12 @@ use Prim.Native.Nat.{ℕ, suc, _+_, _*_, _-_, _/_, _≤_, _<_}
 use native.Mathlib.Omega.{arith}
 use lib.Dec.{leb}
 use lib.ListN.{length, getD, drop, length-append, length-drop}
-use borrow.Author.Tests.{leb-true, le-leb}
+use borrow.Author.Tests.{leb-true, le-leb, ne-eqb}
 use Rattle.table.specs.Order.{Linked, countOf}
 use Rattle.model.specs.MagicString.{MagicString, Result, err}
 use Rattle.model.specs.Limits.{Limits, full, within, piece-count, byte-count}
 use Rattle.model.specs.Text.{all}
-use Rattle.model.specs.Call.{Edit, options-valid, texts, positions, idle, steps, refused-before, judged, run}
+use Rattle.model.specs.Call.{Edit, options-valid, texts, positions, idle, steps, refused-before, judged, run, may-change}
 use Rattle.utf8.specs.Rfc3629.{utf8, between}
 use Rattle.model.specs.WellFormed as model
 use Rattle.memory.specs.Layout.{magicStringOf}
@@ -170,17 +170,10 @@ pub may-write-0 : (e : Edit) → idle e ≡ false → may-write e 0 ≡ true
 unfolding may-write
 may-write-0 e h = rw h
 
-pub may-write-6 : (e : Edit) → may-write e 6 ≡ true
+-- a number that leaves something
+pub may-write-leaving : (e : Edit) (n : ℕ) → may-change e (suc n) ≡ true → may-write e (suc n) ≡ true
 unfolding may-write
-may-write-6 e = refl
-
-pub may-write-7 : (e : Edit) → may-write e 7 ≡ true
-unfolding may-write
-may-write-7 e = refl
-
-pub may-write-9 : (e : Edit) → may-write e 9 ≡ true
-unfolding may-write
-may-write-9 e = refl
+may-write-leaving e n h = rw (h, ne-eqb (suc n) 0 (λ z. omega arith))
 
 -- the steps, and their end
 pub ran-finished : {e : Edit} {source t p s t2 p2 s2 t' p' s' : List ℕ} {r r' : ℕ} → WellFormed source t p s → refused-before (magicStringOf source t p s) e ≡ 0
