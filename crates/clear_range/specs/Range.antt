@@ -24,12 +24,14 @@ use Rattle.closed_forms.specs.Cuts.{Contains, cut-all-aligned}
 use Rattle.closed_forms.specs.ByPosition.{in-range, by-position}
 use Rattle.rows.specs.Insert.{runsOf, startF}
 use Rattle.rows.specs.Clear.{clearIn, ClearDone}
+use Rattle.memory_used.specs.declared.Used.{Used}
+use Rattle.memory_used.specs.Above.{Above}
 use Rattle.uses.specs.Kept.{Kept, kept-then}
 use Rattle.uses.specs.Steps.{clear-kept}
 use Rattle.rebuild.specs.Rebuilt.{Finished}
 use Rattle.frame.specs.Loaded.{Loaded}
-use Rattle.frame.specs.Frame.{Scratch, Did, did-loaded, loaded-readable, ran-finished, may-write-0, may-write-6}
-use Rattle.in_place.specs.InPlace.{ran-rows}
+use Rattle.frame.specs.Frame.{Scratch, Did, did-loaded, loaded-readable, with-scratch, ran-finished, may-write-0, may-write-6}
+use Rattle.in_place.specs.InPlace.{ran-rows, above-kept}
 use Rattle.split.specs.Lift.{Reordered, still-readable, with-entries}
 use Rattle.split.specs.Cuts.{Spans, CutsDone, cuts-spans, formed-spans, loaded-spans, stop}
 
@@ -39,6 +41,7 @@ cleared-to v x = bare (cond (eqb v NONE) none (some []))
 
 pub record RangeDone (a b v : ℕ) (t t' : List ℕ) (r : ℕ) : Type 0 where
   pub leave : (source p s : List ℕ) → Readable t p s → Spans source t p s → Did (change-range (cleared-to v) a b) source t p s t' p s r
+  pub readable : (p s : List ℕ) → Readable t p s → Readable t' p s
   pub number : (r ≡ 0) ⊎ (r ≡ 6)
   pub count : countOf t' ≤ countOf t + 2
   pub kept : Kept t t'
@@ -78,6 +81,7 @@ range-refused a b v t t' r d n =
       leave = λ source p s h c.
           let k = d .leave source p s h c in
           record { readable = k .readable; result = k .result (λ m. ok (with-chunks m (change-by-position (length (m .chunks)) (cleared-to v) a b (m .chunks)))) ∙ stop r (magicStringOf source t' p s) (λ m. ok (with-chunks m (change-by-position (length (m .chunks)) (cleared-to v) a b (m .chunks)))) n };
+      readable = d .readable;
       number = d .number;
       count = omega (arith, d .count);
       kept = d .kept;
@@ -99,26 +103,32 @@ range-done a b v t t1 t2 r ab mk d z c =
       leave = λ source p s h sp.
           let k = d .leave source p s h sp in
           let m1 = magicStringOf source t1 p s in
-          let o : Reordered t1 t2 (map (clearIn a b v) (entries t1)) = record { linked = c .linked; chunks = c .chunks; desk = ap runsOf (c .desk) } in
           let al : All (λ x. Contains a x → ⊥) (m1 .chunks) =
           subst (All (λ x. Contains a x → ⊥)) (sym (k .chunks z)) (lists.all-map (λ x y. first-of y) (cut-all-aligned (a ∷ b ∷ []) (magicStringOf source t p s .chunks))) in
           let g : magicStringOf source t2 p s ≡ with-chunks m1 (change-by-position (length (m1 .chunks)) (cleared-to v) a b (m1 .chunks)) =
-          with-entries t1 p s t2 (k .readable) o source
+          with-entries t1 p s t2 (k .readable) cleared source
           ∙ ap (with-chunks m1)
           (lift-clear p s a b v (entries t1)
           ∙ ap (map (in-range a b (cleared-to v))) (sym (chunks-of source t1 p s))
           ∙ sym (by-position (cleared-to v) a b ab (cuts-spans k z sp) al)) in
           record {
-            readable = still-readable t1 p s t2 (k .readable) o (in-clear p s a b v (marked-in s v mk) (k .readable .chunks));
+            readable = cleared-readable p s (k .readable);
             result =
                 k .result (λ m. ok (with-chunks m (change-by-position (length (m .chunks)) (cleared-to v) a b (m .chunks))))
                 ∙ ap (λ (n : ℕ). and-then (err n m1) (λ m. ok (with-chunks m (change-by-position (length (m .chunks)) (cleared-to v) a b (m .chunks))))) z
                 ∙ ap ok (sym g);
           };
+      readable = λ p s h. cleared-readable p s (d .readable p s h);
       number = inl refl;
       count = omega (arith, d .count, ap startF (c .desk));
       kept = kept-then (d .kept) (clear-kept t1 t2 a b v c);
     }
+  where
+    cleared : Reordered t1 t2 (map (clearIn a b v) (entries t1))
+    cleared = record { linked = c .linked; chunks = c .chunks; desk = ap runsOf (c .desk) }
+
+    cleared-readable : (p s : List ℕ) → Readable t1 p s → Readable t2 p s
+    cleared-readable p s h = still-readable t1 p s t2 h cleared (in-clear p s a b v (marked-in s v mk) (h .chunks))
 
 -- ── the call, for either edit ──
 abbrev pub RangeRan : ℕ → ℕ → ℕ → List ℕ → List ℕ → List ℕ → List ℕ → List ℕ → List ℕ → List ℕ → ℕ → Type 0
@@ -138,6 +148,10 @@ range-in-place {source = source} {p = p} {s = s} w x len e h q i =
     let g = x .leave source p s (w .readable) (formed-spans w) in
     ran-rows w h (record { readable = g .readable; result = q ∙ g .result }) (range-writes x e i) len (x .kept)
 
+-- the bound of what the desk uses stays
+pub range-above : {a b v : ℕ} {t p s t' : List ℕ} {r : ℕ} {l : Used} → RangeDone a b v t t' r → Above t p s l → Above t' p s l
+range-above x h = above-kept (x .kept) (x .readable _ _ (h .readable)) h
+
 -- on scratch rows
 pub range-ran : {a b v : ℕ} {source t p s t₀ p₀ s₀ t1 p1 s1 t2 t' p' s' : List ℕ} {r r' : ℕ} → WellFormed source t p s → Scratch t₀ p₀ s₀ → Loaded t p s t₀ p₀ s₀ t1 p1 s1
     → RangeDone a b v t1 t2 r → Finished t2 p1 s1 t p s t' p' s' r r' → RangeRan a b v source t p s t' p' s' r'
@@ -147,4 +161,4 @@ range-ran {source = source} {p = p} {s = s} w f d x y e h q i =
 
 pub range-readable : {a b v : ℕ} {source t p s t₀ p₀ s₀ t1 p1 s1 t2 : List ℕ} {r : ℕ} → WellFormed source t p s → Scratch t₀ p₀ s₀ → Loaded t p s t₀ p₀ s₀ t1 p1 s1
     → RangeDone a b v t1 t2 r → Readable t2 p1 s1
-range-readable {source = source} {p = p} {s = s} w f d x = did-loaded w f d (x .leave source p s (loaded-readable w f d) (loaded-spans w f d)) .readable
+range-readable {p = p} {s = s} {t2 = t2} w f d x = with-scratch w f d t2 (x .readable p s (loaded-readable w f d))

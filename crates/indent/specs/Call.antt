@@ -24,6 +24,8 @@ use Rattle.memory.specs.Layout.{magicStringOf}
 use Rattle.memory.specs.WellFormed.{Readable, WellFormed}
 use Rattle.memory.specs.Calls.{idle, Ran}
 use Rattle.memory.specs.Laws.{source-of, desk-full}
+use Rattle.memory_used.specs.declared.Outcome.{Outcome}
+use Rattle.memory_used.specs.Above.{Leaves}
 use Rattle.rebuild.specs.Rebuilt.{Finished}
 use Rattle.frame.specs.Loaded.{Loaded}
 use Rattle.frame.specs.Frame.{Scratch, loaded-readable, loaded-desk, ran-before, ran-same, ran-past-limits, ran-finished, refused-1, refused-3, not-refused, may-write-0}
@@ -110,12 +112,12 @@ pub even-options : (exclude : List ℕ) → length exclude % 2 ≡ 0 → options
 even-options exclude h = eq-eqb (length exclude % 2) 0 h
 
 -- an option given or not
-module _ (has : Bool) (indentor : Text) {exclude source t p s t' p' s' : List ℕ} {r : ℕ} where
-  pub with-given : has ≡ true → Ran (indent-with (some indentor) exclude) source t p s t' p' s' r → Ran (indent-with (indentor-of has indentor) exclude) source t p s t' p' s' r
-  with-given e x = subst (λ (b : Bool). Ran (indent-with (indentor-of b indentor) exclude) source t p s t' p' s' r) (sym e) x
+module _ (has : Bool) (indentor : Text) {exclude source t p s t' p' s' : List ℕ} {o : Outcome} where
+  pub with-given : has ≡ true → Leaves (indent-with (some indentor) exclude) source t p s t' p' s' o → Leaves (indent-with (indentor-of has indentor) exclude) source t p s t' p' s' o
+  with-given e x = subst (λ (b : Bool). Leaves (indent-with (indentor-of b indentor) exclude) source t p s t' p' s' o) (sym e) x
 
-  pub with-none : has ≡ false → Ran (indent-with none exclude) source t p s t' p' s' r → Ran (indent-with (indentor-of has indentor) exclude) source t p s t' p' s' r
-  with-none e x = subst (λ (b : Bool). Ran (indent-with (indentor-of b indentor) exclude) source t p s t' p' s' r) (sym e) x
+  pub with-none : has ≡ false → Leaves (indent-with none exclude) source t p s t' p' s' o → Leaves (indent-with (indentor-of has indentor) exclude) source t p s t' p' s' o
+  with-none e x = subst (λ (b : Bool). Leaves (indent-with (indentor-of b indentor) exclude) source t p s t' p' s' o) (sym e) x
 
 module _ {source t p s : List ℕ} (w : WellFormed source t p s) where
   pub odd-refused : (i : Option Text) (exclude : List ℕ) → (length exclude % 2 ≡ 0 → ⊥) → Ran (indent-with i exclude) source t p s t p s 15

@@ -7,9 +7,10 @@ ghost use lib.ListN.{length};
 ghost use Rattle.utf8.specs.Rfc3629.{utf8, between};
 ghost use Rattle.model.specs.Text.{all};
 ghost use Rattle.model.specs.Call.{indent-with, options-valid};
-ghost use Rattle.memory.specs.WellFormed.{WellFormed};
-ghost use Rattle.memory.specs.Calls.{Ran};
+ghost use Rattle.memory_used.specs.Above.{Above, Desk, Leaves};
 ghost use Rattle.indent.specs.Call.{indentor-of, IndentScratch, IndentRan};
+use memory_used::Outcome;
+use memory_used::Used;
 
 // Whether every position of an exclude list stands between characters.
 fn positions_between(source: &[u8], exclude: &[u32]) -> bool
@@ -37,18 +38,20 @@ fn indent_by(
     s: &mut [u8],
     indentor: &[u8],
     exclude: &[u32],
-) -> u32
-    requires { ⌜ WellFormed (now source) (now chunks) (now pieces) (now store) ⌝ }
+    used: Used,
+) -> Outcome
+    requires { ⌜ Desk (now source) (now chunks) (now pieces) (now store) used ⌝ }
     requires { ⌜ IndentScratch (now t) (now p) (now s) ⌝ }
-    ensures { λ r. ⌜ IndentRan (now (indentor .entry)) (now (exclude .entry)) (now (source .entry)) (now (chunks .entry)) (now (pieces .entry)) (now (store .entry))
-        (now (chunks .exit)) (now (pieces .exit)) (now (store .exit)) r ⌝ }
+    ensures { λ o. ⌜ IndentRan (now (indentor .entry)) (now (exclude .entry)) (now (source .entry)) (now (chunks .entry)) (now (pieces .entry)) (now (store .entry))
+        (now (chunks .exit)) (now (pieces .exit)) (now (store .exit)) (o .number)
+        × Above (now (chunks .exit)) (now (pieces .exit)) (now (store .exit)) (o .used) ⌝ }
 {
     frame::load(chunks, pieces, store, t, p, s);
     let r = indent_steps::indent_steps(source, pieces, store, t, p, s, indentor, exclude);
     if r == 13 {
-        return 13;
+        return Outcome { number: 13, used };
     }
-    frame::finish(t, p, s, chunks, pieces, store, r)
+    on_top::finish(t, p, s, chunks, pieces, store, r)
 }
 
 // The call past its tests, by an indentor.
@@ -59,10 +62,12 @@ fn indent_tables(
     store: &mut [u8],
     indentor: &[u8],
     exclude: &[u32],
-) -> u32
-    requires { ⌜ WellFormed (now source) (now chunks) (now pieces) (now store) ⌝ }
-    ensures { λ r. ⌜ IndentRan (now (indentor .entry)) (now (exclude .entry)) (now (source .entry)) (now (chunks .entry)) (now (pieces .entry)) (now (store .entry))
-        (now (chunks .exit)) (now (pieces .exit)) (now (store .exit)) r ⌝ }
+    used: Used,
+) -> Outcome
+    requires { ⌜ Desk (now source) (now chunks) (now pieces) (now store) used ⌝ }
+    ensures { λ o. ⌜ IndentRan (now (indentor .entry)) (now (exclude .entry)) (now (source .entry)) (now (chunks .entry)) (now (pieces .entry)) (now (store .entry))
+        (now (chunks .exit)) (now (pieces .exit)) (now (store .exit)) (o .number)
+        × Above (now (chunks .exit)) (now (pieces .exit)) (now (store .exit)) (o .used) ⌝ }
 {
     let rows = 6192usize;
     let words = 9300usize;
@@ -80,6 +85,7 @@ fn indent_tables(
         &mut s[..size],
         indentor,
         exclude,
+        used,
     )
 }
 
@@ -91,18 +97,19 @@ fn guessed_in(
     store: &mut [u8],
     exclude: &[u32],
     out: &mut [u8],
-) -> u32
-    requires { ⌜ WellFormed (now source) (now chunks) (now pieces) (now store) ⌝ }
+    used: Used,
+) -> Outcome
+    requires { ⌜ Desk (now source) (now chunks) (now pieces) (now store) used ⌝ }
     requires { ⌜ 16384 ≤ length (now out) ⌝ }
     requires { ⌜ options-valid (indent-with none (now exclude)) ≡ true ⌝ }
     requires { ⌜ all (between (now source)) (now exclude) ≡ true ⌝ }
-    ensures { λ r. ⌜ Ran (indent-with none (now (exclude .entry))) (now (source .entry)) (now (chunks .entry)) (now (pieces .entry)) (now (store .entry))
-        (now (chunks .exit)) (now (pieces .exit)) (now (store .exit)) r ⌝ }
+    ensures { λ o. ⌜ Leaves (indent-with none (now (exclude .entry))) (now (source .entry)) (now (chunks .entry)) (now (pieces .entry)) (now (store .entry))
+        (now (chunks .exit)) (now (pieces .exit)) (now (store .exit)) o ⌝ }
 {
     let g = indent_string::guess_indentor(source);
     let n = indent_string::indentor_len(g) as usize;
     indent_string::put_indentor(out, g);
-    indent_tables(source, chunks, pieces, store, &out[..n], exclude)
+    indent_tables(source, chunks, pieces, store, &out[..n], exclude, used)
 }
 
 // Without an indentor: by the guess.
@@ -112,16 +119,17 @@ fn by_guess(
     pieces: &mut [u32],
     store: &mut [u8],
     exclude: &[u32],
-) -> u32
-    requires { ⌜ WellFormed (now source) (now chunks) (now pieces) (now store) ⌝ }
+    used: Used,
+) -> Outcome
+    requires { ⌜ Desk (now source) (now chunks) (now pieces) (now store) used ⌝ }
     requires { ⌜ options-valid (indent-with none (now exclude)) ≡ true ⌝ }
     requires { ⌜ all (between (now source)) (now exclude) ≡ true ⌝ }
-    ensures { λ r. ⌜ Ran (indent-with none (now (exclude .entry))) (now (source .entry)) (now (chunks .entry)) (now (pieces .entry)) (now (store .entry))
-        (now (chunks .exit)) (now (pieces .exit)) (now (store .exit)) r ⌝ }
+    ensures { λ o. ⌜ Leaves (indent-with none (now (exclude .entry))) (now (source .entry)) (now (chunks .entry)) (now (pieces .entry)) (now (store .entry))
+        (now (chunks .exit)) (now (pieces .exit)) (now (store .exit)) o ⌝ }
 {
     let size = 16384usize;
     let mut out = [0u8; 16384];
-    guessed_in(source, chunks, pieces, store, exclude, &mut out[..size])
+    guessed_in(source, chunks, pieces, store, exclude, &mut out[..size], used)
 }
 
 // With an indentor: 1, 3; an empty one leaves everything.
@@ -132,22 +140,23 @@ fn by_given(
     store: &mut [u8],
     indentor: &[u8],
     exclude: &[u32],
-) -> u32
-    requires { ⌜ WellFormed (now source) (now chunks) (now pieces) (now store) ⌝ }
+    used: Used,
+) -> Outcome
+    requires { ⌜ Desk (now source) (now chunks) (now pieces) (now store) used ⌝ }
     requires { ⌜ options-valid (indent-with none (now exclude)) ≡ true ⌝ }
-    ensures { λ r. ⌜ Ran (indent-with (some (now (indentor .entry))) (now (exclude .entry))) (now (source .entry)) (now (chunks .entry)) (now (pieces .entry)) (now (store .entry))
-        (now (chunks .exit)) (now (pieces .exit)) (now (store .exit)) r ⌝ }
+    ensures { λ o. ⌜ Leaves (indent-with (some (now (indentor .entry))) (now (exclude .entry))) (now (source .entry)) (now (chunks .entry)) (now (pieces .entry)) (now (store .entry))
+        (now (chunks .exit)) (now (pieces .exit)) (now (store .exit)) o ⌝ }
 {
     if utf8::valid(indentor) {
         if positions_between(source, exclude) {
             if indentor.len() == 0 {
-                return 0;
+                return Outcome { number: 0, used };
             }
-            return indent_tables(source, chunks, pieces, store, indentor, exclude);
+            return indent_tables(source, chunks, pieces, store, indentor, exclude, used);
         }
-        return 3;
+        return Outcome { number: 3, used };
     }
-    1
+    Outcome { number: 1, used }
 }
 
 // `indent_with`: 15 for an exclude list of odd count, then 1 and 3, then the steps by the indentor given or by the guess.
@@ -159,19 +168,20 @@ pub fn indent_with(
     has_indentor: bool,
     indentor: &[u8],
     exclude: &[u32],
-) -> u32
-    requires { ⌜ WellFormed (now source) (now chunks) (now pieces) (now store) ⌝ }
-    ensures { λ r. ⌜ Ran (indent-with (indentor-of «has_indentor» (now (indentor .entry))) (now (exclude .entry))) (now (source .entry)) (now (chunks .entry)) (now (pieces .entry)) (now (store .entry))
-        (now (chunks .exit)) (now (pieces .exit)) (now (store .exit)) r ⌝ }
+    used: Used,
+) -> Outcome
+    requires { ⌜ Desk (now source) (now chunks) (now pieces) (now store) used ⌝ }
+    ensures { λ o. ⌜ Leaves (indent-with (indentor-of «has_indentor» (now (indentor .entry))) (now (exclude .entry))) (now (source .entry)) (now (chunks .entry)) (now (pieces .entry)) (now (store .entry))
+        (now (chunks .exit)) (now (pieces .exit)) (now (store .exit)) o ⌝ }
 {
     if exclude.len() % 2 != 0 {
-        return 15;
+        return Outcome { number: 15, used };
     }
     if has_indentor {
-        return by_given(source, chunks, pieces, store, indentor, exclude);
+        return by_given(source, chunks, pieces, store, indentor, exclude, used);
     }
     if positions_between(source, exclude) {
-        return by_guess(source, chunks, pieces, store, exclude);
+        return by_guess(source, chunks, pieces, store, exclude, used);
     }
-    3
+    Outcome { number: 3, used }
 }

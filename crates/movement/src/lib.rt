@@ -1,12 +1,13 @@
 // movement.rs: `remove`, and the clearing of a range as a call, which `reset` shares.
 ghost use Prim.Native.Nat.{_<_};
 ghost use Rattle.model.specs.Call.{remove};
-ghost use Rattle.memory.specs.WellFormed.{WellFormed};
-ghost use Rattle.memory.specs.Calls.{Ran};
+ghost use Rattle.memory_used.specs.Above.{Above, Desk, Leaves};
 ghost use Rattle.clear_range.specs.Range.{Marked, RangeRan};
+use memory_used::Outcome;
+use memory_used::Used;
 
 // `remove` and `reset` past their tests: text_at is 0 for an empty replacement, or the mark for none.
-// On the lent rows themselves where two chunks more are within the limit, so that 13 cannot arise; else on scratch rows.
+// On the lent rows themselves where two chunks more are within the limit, so that 13 cannot arise: they use no more than before. Else on scratch rows.
 pub fn range_with(
     source: &[u8],
     chunks: &mut [u32],
@@ -15,15 +16,18 @@ pub fn range_with(
     a: u32,
     b: u32,
     text_at: u32,
-) -> u32
-    requires { ⌜ WellFormed (now source) (now chunks) (now pieces) (now store) ⌝ }
+    used: Used,
+) -> Outcome
+    requires { ⌜ Desk (now source) (now chunks) (now pieces) (now store) used ⌝ }
     requires { ⌜ a < b ⌝ }
     requires { ⌜ Marked «text_at» ⌝ }
-    ensures { λ r. ⌜ RangeRan a b «text_at» (now (source .entry)) (now (chunks .entry)) (now (pieces .entry)) (now (store .entry))
-        (now (chunks .exit)) (now (pieces .exit)) (now (store .exit)) r ⌝ }
+    ensures { λ o. ⌜ RangeRan a b «text_at» (now (source .entry)) (now (chunks .entry)) (now (pieces .entry)) (now (store .entry))
+        (now (chunks .exit)) (now (pieces .exit)) (now (store .exit)) (o .number)
+        × Above (now (chunks .exit)) (now (pieces .exit)) (now (store .exit)) (o .used) ⌝ }
 {
     if in_place::has_rows(chunks, 2) {
-        return clear_range::clear_range(chunks, a, b, text_at);
+        let number = clear_range::clear_range(chunks, a, b, text_at);
+        return Outcome { number, used };
     }
     range_scratch::range_scratch(source, chunks, pieces, store, a, b, text_at)
 }
@@ -36,19 +40,20 @@ pub fn remove(
     store: &mut [u8],
     start: u32,
     end: u32,
-) -> u32
-    requires { ⌜ WellFormed (now source) (now chunks) (now pieces) (now store) ⌝ }
-    ensures { λ r. ⌜ Ran (remove start end) (now (source .entry)) (now (chunks .entry)) (now (pieces .entry)) (now (store .entry))
-        (now (chunks .exit)) (now (pieces .exit)) (now (store .exit)) r ⌝ }
+    used: Used,
+) -> Outcome
+    requires { ⌜ Desk (now source) (now chunks) (now pieces) (now store) used ⌝ }
+    ensures { λ o. ⌜ Leaves (remove start end) (now (source .entry)) (now (chunks .entry)) (now (pieces .entry)) (now (store .entry))
+        (now (chunks .exit)) (now (pieces .exit)) (now (store .exit)) o ⌝ }
 {
     if frame::between_both(source, start, end) {
         if start == end {
-            return 0;
+            return Outcome { number: 0, used };
         }
         if end < start {
-            return 4;
+            return Outcome { number: 4, used };
         }
-        return range_with(source, chunks, pieces, store, start, end, 0);
+        return range_with(source, chunks, pieces, store, start, end, 0, used);
     }
-    3
+    Outcome { number: 3, used }
 }

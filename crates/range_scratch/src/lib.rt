@@ -1,8 +1,10 @@
 // The clearing of a range as a call, on scratch tables.
 ghost use Prim.Native.Nat.{_<_};
 ghost use Rattle.memory.specs.WellFormed.{WellFormed};
+ghost use Rattle.memory_used.specs.Above.{Above};
 ghost use Rattle.frame.specs.Frame.{Scratch};
 ghost use Rattle.clear_range.specs.Range.{Marked, RangeRan};
+use memory_used::Outcome;
 
 // Clears a range of a desk, with scratch tables lent.
 fn range_by(
@@ -16,17 +18,18 @@ fn range_by(
     a: u32,
     b: u32,
     text_at: u32,
-) -> u32
+) -> Outcome
     requires { ⌜ WellFormed (now source) (now chunks) (now pieces) (now store) ⌝ }
     requires { ⌜ Scratch (now t) (now p) (now s) ⌝ }
     requires { ⌜ a < b ⌝ }
     requires { ⌜ Marked «text_at» ⌝ }
-    ensures { λ r. ⌜ RangeRan a b «text_at» (now (source .entry)) (now (chunks .entry)) (now (pieces .entry)) (now (store .entry))
-        (now (chunks .exit)) (now (pieces .exit)) (now (store .exit)) r ⌝ }
+    ensures { λ o. ⌜ RangeRan a b «text_at» (now (source .entry)) (now (chunks .entry)) (now (pieces .entry)) (now (store .entry))
+        (now (chunks .exit)) (now (pieces .exit)) (now (store .exit)) (o .number)
+        × Above (now (chunks .exit)) (now (pieces .exit)) (now (store .exit)) (o .used) ⌝ }
 {
     frame::load(chunks, pieces, store, t, p, s);
     let r = clear_range::clear_range(t, a, b, text_at);
-    frame::finish(t, p, s, chunks, pieces, store, r)
+    on_top::finish(t, p, s, chunks, pieces, store, r)
 }
 
 // The same with scratch tables of its own.
@@ -38,12 +41,13 @@ pub fn range_scratch(
     a: u32,
     b: u32,
     text_at: u32,
-) -> u32
+) -> Outcome
     requires { ⌜ WellFormed (now source) (now chunks) (now pieces) (now store) ⌝ }
     requires { ⌜ a < b ⌝ }
     requires { ⌜ Marked «text_at» ⌝ }
-    ensures { λ r. ⌜ RangeRan a b «text_at» (now (source .entry)) (now (chunks .entry)) (now (pieces .entry)) (now (store .entry))
-        (now (chunks .exit)) (now (pieces .exit)) (now (store .exit)) r ⌝ }
+    ensures { λ o. ⌜ RangeRan a b «text_at» (now (source .entry)) (now (chunks .entry)) (now (pieces .entry)) (now (store .entry))
+        (now (chunks .exit)) (now (pieces .exit)) (now (store .exit)) (o .number)
+        × Above (now (chunks .exit)) (now (pieces .exit)) (now (store .exit)) (o .used) ⌝ }
 {
     let rows = 6192usize;
     let words = 4096usize;

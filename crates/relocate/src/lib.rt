@@ -6,11 +6,12 @@ ghost use lib.Dec.{leb};
 ghost use Rattle.utf8.specs.Rfc3629.{utf8, between};
 ghost use Rattle.model.specs.Text.{all};
 ghost use Rattle.model.specs.Call.{relocate};
-ghost use Rattle.memory.specs.WellFormed.{WellFormed};
-ghost use Rattle.memory.specs.Calls.{Ran};
+ghost use Rattle.memory_used.specs.Above.{Desk, Leaves};
 ghost use Rattle.relocate_scratch.specs.Tested.{Tested};
+use memory_used::Outcome;
+use memory_used::Used;
 
-// `relocate` past its tests: on the lent rows themselves where three chunks more are within the limit, so that 13 cannot arise; else on scratch rows.
+// `relocate` past its tests: on the lent rows themselves where three chunks more are within the limit, so that 13 cannot arise: they use no more than before. Else on scratch rows.
 fn relocate_with(
     source: &[u8],
     chunks: &mut [u32],
@@ -19,14 +20,16 @@ fn relocate_with(
     a: u32,
     b: u32,
     to: u32,
-) -> u32
-    requires { ⌜ WellFormed (now source) (now chunks) (now pieces) (now store) ⌝ }
+    used: Used,
+) -> Outcome
+    requires { ⌜ Desk (now source) (now chunks) (now pieces) (now store) used ⌝ }
     requires { ⌜ Tested a b to (now source) (now chunks) (now pieces) (now store) ⌝ }
-    ensures { λ r. ⌜ Ran (relocate a b to) (now (source .entry)) (now (chunks .entry)) (now (pieces .entry)) (now (store .entry))
-        (now (chunks .exit)) (now (pieces .exit)) (now (store .exit)) r ⌝ }
+    ensures { λ o. ⌜ Leaves (relocate a b to) (now (source .entry)) (now (chunks .entry)) (now (pieces .entry)) (now (store .entry))
+        (now (chunks .exit)) (now (pieces .exit)) (now (store .exit)) o ⌝ }
 {
     if in_place::has_rows(chunks, 3) {
-        return relocate_rows::relocate_rows(chunks, a, b, to);
+        let number = relocate_rows::relocate_rows(chunks, a, b, to);
+        return Outcome { number, used };
     }
     relocate_scratch::relocate_scratch(source, chunks, pieces, store, a, b, to)
 }
@@ -61,27 +64,28 @@ pub fn relocate(
     start: u32,
     end: u32,
     to: u32,
-) -> u32
-    requires { ⌜ WellFormed (now source) (now chunks) (now pieces) (now store) ⌝ }
-    ensures { λ r. ⌜ Ran (relocate start end to) (now (source .entry)) (now (chunks .entry)) (now (pieces .entry)) (now (store .entry))
-        (now (chunks .exit)) (now (pieces .exit)) (now (store .exit)) r ⌝ }
+    used: Used,
+) -> Outcome
+    requires { ⌜ Desk (now source) (now chunks) (now pieces) (now store) used ⌝ }
+    ensures { λ o. ⌜ Leaves (relocate start end to) (now (source .entry)) (now (chunks .entry)) (now (pieces .entry)) (now (store .entry))
+        (now (chunks .exit)) (now (pieces .exit)) (now (store .exit)) o ⌝ }
 {
     if between_three(source, start, end, to) {
         let inside = inside_range(start, end, to);
         let nothing = start == end;
         if inside {
-            return 8;
+            return Outcome { number: 8, used };
         }
         if nothing {
-            return 0;
+            return Outcome { number: 0, used };
         }
         if end < start {
-            return 4;
+            return Outcome { number: 4, used };
         }
         if source.len() < end as usize {
-            return 10;
+            return Outcome { number: 10, used };
         }
-        return relocate_with(source, chunks, pieces, store, start, end, to);
+        return relocate_with(source, chunks, pieces, store, start, end, to, used);
     }
-    3
+    Outcome { number: 3, used }
 }

@@ -214,6 +214,7 @@ module _ (a b to : ℕ) (t t' : List ℕ) (r : ℕ) (d : CutsDone (a ∷ b ∷ t
         leave = λ source p s h v.
             let k = d .leave source p s h v in
             record { readable = k .readable; result = k .result (move-step a b to) ∙ stop r (magicStringOf source t' p s) (move-step a b to) n };
+        readable = d .readable;
         number = ⊎-elim (λ e. absurd (n e)) (λ e. inr (inl e)) (d .number);
         count = omega (arith, d .count);
         kept = d .kept;
@@ -242,6 +243,7 @@ module _ (a b to : ℕ) (t t' : List ℕ) (r : ℕ) (d : CutsDone (a ∷ b ∷ t
               readable = u .readable;
               result = k .result (move-step a b to) ∙ ap (λ (n : ℕ). and-then (err n (magicStringOf source t' p s)) (move-step a b to)) z ∙ u .result;
             };
+        readable = λ p s h. v .leave [] p s (d .readable p s h) .readable;
         number = ⊎-elim (λ e. inl e) (λ e. inr (inr e)) (v .number);
         count = omega (arith, d .count, v .count);
         kept = kept-then (d .kept) (v .kept);

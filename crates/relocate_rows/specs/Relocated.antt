@@ -49,6 +49,7 @@ pub record RangeMoved (a b to : ℕ) (t t' : List ℕ) (r : ℕ) : Type 0 where
 -- the cuts too
 pub record RelocateDone (a b to : ℕ) (t t' : List ℕ) (r : ℕ) : Type 0 where
   pub leave : (source p s : List ℕ) → Readable t p s → Spans source t p s → Did (cuts-then (a ∷ b ∷ to ∷ []) (move-step a b to)) source t p s t' p s r
+  pub readable : (p s : List ℕ) → Readable t p s → Readable t' p s
   pub number : (r ≡ 0) ⊎ ((r ≡ 6) ⊎ (r ≡ 9))
   pub count : countOf t' ≤ countOf t + 3
   pub kept : Kept t t'

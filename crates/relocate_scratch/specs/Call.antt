@@ -18,11 +18,13 @@ use Rattle.memory.specs.Layout.{magicStringOf}
 use Rattle.memory.specs.WellFormed.{Readable, WellFormed}
 use Rattle.memory.specs.Calls.{idle, may-write, Ran}
 use Rattle.memory.specs.Laws.{source-of}
+use Rattle.memory_used.specs.declared.Used.{Used}
+use Rattle.memory_used.specs.Above.{Above}
 use Rattle.closed_forms.specs.SplitAt.{cuts-then}
 use Rattle.rebuild.specs.Rebuilt.{Finished}
 use Rattle.frame.specs.Loaded.{Loaded}
 use Rattle.frame.specs.Frame.{Scratch, Did, did-loaded, loaded-readable, ran-before, ran-same, ran-finished, refused-3, not-refused, may-write-0, may-write-6, may-write-9}
-use Rattle.in_place.specs.InPlace.{ran-rows}
+use Rattle.in_place.specs.InPlace.{ran-rows, above-kept}
 use Rattle.split.specs.Cuts.{formed-spans, loaded-spans}
 use Rattle.relocate_rows.specs.Relocated.{Spanned, Movable, move-step, RelocateDone}
 use Rattle.relocate_scratch.specs.Tested.{Tested}
@@ -78,6 +80,10 @@ module _ {a b to : ℕ} {source t p s : List ℕ} (w : WellFormed source t p s) 
       let q = steps-move a b to m (k .movable .outside) (k .movable .ascends) (omega (arith, k .inside, ap length (source-of source t p s))) in
       let g = x .leave source p s (w .readable) (formed-spans w) in
       ran-rows w (k .placed) (record { readable = g .readable; result = q ∙ g .result }) (writes a b to r (k .movable .ascends) (x .number)) len (x .kept)
+
+-- the bound of what the desk uses stays
+pub relocated-above : {a b to : ℕ} {t p s t' : List ℕ} {r : ℕ} {l : Used} → RelocateDone a b to t t' r → Above t p s l → Above t' p s l
+relocated-above x h = above-kept (x .kept) (x .readable _ _ (h .readable)) h
 
 -- ── past the tests, on scratch rows ──
 module _ {a b to : ℕ} {source t p s t₀ p₀ s₀ t1 p1 s1 : List ℕ} (w : WellFormed source t p s) (f : Scratch t₀ p₀ s₀) (d : Loaded t p s t₀ p₀ s₀ t1 p1 s1)

@@ -1,9 +1,10 @@
 // `relocate` past its tests, on scratch tables.
 ghost use Rattle.model.specs.Call.{relocate};
 ghost use Rattle.memory.specs.WellFormed.{WellFormed};
-ghost use Rattle.memory.specs.Calls.{Ran};
+ghost use Rattle.memory_used.specs.Above.{Leaves};
 ghost use Rattle.frame.specs.Frame.{Scratch};
 ghost use Rattle.relocate_scratch.specs.Tested.{Tested};
+use memory_used::Outcome;
 
 // `relocate` past its tests, with scratch tables lent.
 fn relocate_by(
@@ -17,16 +18,16 @@ fn relocate_by(
     a: u32,
     b: u32,
     to: u32,
-) -> u32
+) -> Outcome
     requires { ⌜ WellFormed (now source) (now chunks) (now pieces) (now store) ⌝ }
     requires { ⌜ Scratch (now t) (now p) (now s) ⌝ }
     requires { ⌜ Tested a b to (now source) (now chunks) (now pieces) (now store) ⌝ }
-    ensures { λ r. ⌜ Ran (relocate a b to) (now (source .entry)) (now (chunks .entry)) (now (pieces .entry)) (now (store .entry))
-        (now (chunks .exit)) (now (pieces .exit)) (now (store .exit)) r ⌝ }
+    ensures { λ o. ⌜ Leaves (relocate a b to) (now (source .entry)) (now (chunks .entry)) (now (pieces .entry)) (now (store .entry))
+        (now (chunks .exit)) (now (pieces .exit)) (now (store .exit)) o ⌝ }
 {
     frame::load(chunks, pieces, store, t, p, s);
     let r = relocate_rows::relocate_rows(t, a, b, to);
-    frame::finish(t, p, s, chunks, pieces, store, r)
+    on_top::finish(t, p, s, chunks, pieces, store, r)
 }
 
 // The same with scratch tables of its own.
@@ -38,11 +39,11 @@ pub fn relocate_scratch(
     a: u32,
     b: u32,
     to: u32,
-) -> u32
+) -> Outcome
     requires { ⌜ WellFormed (now source) (now chunks) (now pieces) (now store) ⌝ }
     requires { ⌜ Tested a b to (now source) (now chunks) (now pieces) (now store) ⌝ }
-    ensures { λ r. ⌜ Ran (relocate a b to) (now (source .entry)) (now (chunks .entry)) (now (pieces .entry)) (now (store .entry))
-        (now (chunks .exit)) (now (pieces .exit)) (now (store .exit)) r ⌝ }
+    ensures { λ o. ⌜ Leaves (relocate a b to) (now (source .entry)) (now (chunks .entry)) (now (pieces .entry)) (now (store .entry))
+        (now (chunks .exit)) (now (pieces .exit)) (now (store .exit)) o ⌝ }
 {
     let rows = 6192usize;
     let words = 4096usize;

@@ -1,7 +1,8 @@
 // reset.rs: `reset`.
 ghost use Rattle.model.specs.Call.{reset};
-ghost use Rattle.memory.specs.WellFormed.{WellFormed};
-ghost use Rattle.memory.specs.Calls.{Ran};
+ghost use Rattle.memory_used.specs.Above.{Desk, Leaves};
+use memory_used::Outcome;
+use memory_used::Used;
 
 // `reset`: 3, zero width is a no-op, 4, 10, then the chunks of the range lose pieces and replacement.
 pub fn reset(
@@ -11,22 +12,23 @@ pub fn reset(
     store: &mut [u8],
     start: u32,
     end: u32,
-) -> u32
-    requires { ⌜ WellFormed (now source) (now chunks) (now pieces) (now store) ⌝ }
-    ensures { λ r. ⌜ Ran (reset start end) (now (source .entry)) (now (chunks .entry)) (now (pieces .entry)) (now (store .entry))
-        (now (chunks .exit)) (now (pieces .exit)) (now (store .exit)) r ⌝ }
+    used: Used,
+) -> Outcome
+    requires { ⌜ Desk (now source) (now chunks) (now pieces) (now store) used ⌝ }
+    ensures { λ o. ⌜ Leaves (reset start end) (now (source .entry)) (now (chunks .entry)) (now (pieces .entry)) (now (store .entry))
+        (now (chunks .exit)) (now (pieces .exit)) (now (store .exit)) o ⌝ }
 {
     if frame::between_both(source, start, end) {
         if start == end {
-            return 0;
+            return Outcome { number: 0, used };
         }
         if end < start {
-            return 4;
+            return Outcome { number: 4, used };
         }
         if source.len() < end as usize {
-            return 10;
+            return Outcome { number: 10, used };
         }
-        return movement::range_with(source, chunks, pieces, store, start, end, texts::NONE);
+        return movement::range_with(source, chunks, pieces, store, start, end, texts::NONE, used);
     }
-    3
+    Outcome { number: 3, used }
 }

@@ -9,12 +9,13 @@ valid-requires : tie.Need-valid-requires
 valid-requires c κs = search needs
 
 positions-between-requires : tie.Need-positions-between-requires
-positions-between-requires c κs = valid-source (c .before .before .before .before .before .before .before .before .pre .0)
+positions-between-requires c κs = valid-source (c .before .before .before .before .before .before .before .before .pre .0 .well-formed)
 
 returns : tie.Need-returns
 returns c =
     let start = c .before .before .before .before .before .before .before .before .before .before .before in
-    given-empty (start .pre .0) (start .args .exclude .now) (start .pre .1) (start .args .indentor .now) (sym (c .before .before .before .before .valid .ensures) ∙ c .before .before .before .if1 .taken) (sym (c .before .before .positions-between .ensures) ∙ c .before .if2 .taken) (c .if3 .taken)
+    let ran = given-empty (start .pre .0 .well-formed) (start .args .exclude .now) (start .pre .1) (start .args .indentor .now) (sym (c .before .before .before .before .valid .ensures) ∙ c .before .before .before .if1 .taken) (sym (c .before .before .positions-between .ensures) ∙ c .before .if2 .taken) (c .if3 .taken) in
+    record { ran = ran; above = start .pre .0 .above }
 
 indent-tables-requires : tie.Need-indent-tables-requires
 indent-tables-requires c κs =
@@ -33,17 +34,20 @@ same-length-3 c = search needs
 returns-2 : tie.Need-returns-2
 returns-2 c =
     let start = c .before .before .before .before .before .before .before .before .before .before .before .before .before .before .before .before .before .before .before .before .before in
-    given-ran (start .pre .0) (start .args .exclude .now) (start .pre .1) (start .args .indentor .now) (sym (c .before .before .before .before .before .before .before .before .before .before .before .before .before .before .valid .ensures) ∙ c .before .before .before .before .before .before .before .before .before .before .before .before .before .if1 .taken) (sym (c .before .before .before .before .before .before .before .before .before .before .before .before .positions-between .ensures) ∙ c .before .before .before .before .before .before .before .before .before .before .before .if2 .taken) (c .before .before .before .before .before .before .before .before .before .before .if3 .left) (c .before .before .before .before .before .before .indent-tables .ensures)
+    let tables = c .before .before .before .before .before .before .indent-tables in
+    record { ran = given-ran (start .pre .0 .well-formed) (start .args .exclude .now) (start .pre .1) (start .args .indentor .now) (sym (c .before .before .before .before .before .before .before .before .before .before .before .before .before .before .valid .ensures) ∙ c .before .before .before .before .before .before .before .before .before .before .before .before .before .if1 .taken) (sym (c .before .before .before .before .before .before .before .before .before .before .before .before .positions-between .ensures) ∙ c .before .before .before .before .before .before .before .before .before .before .before .if2 .taken) (c .before .before .before .before .before .before .before .before .before .before .if3 .left) (tables .ensures .0); above = tables .ensures .1 }
 
 returns-3 : tie.Need-returns-3
 returns-3 c =
     let start = c .before .before .before .before .before .before .before .before .before .before in
-    given-inside (start .pre .0) (start .args .exclude .now) (start .pre .1) (start .args .indentor .now) (sym (c .before .before .before .valid .ensures) ∙ c .before .before .if1 .taken) (sym (c .before .positions-between .ensures) ∙ c .if2 .left)
+    let ran = given-inside (start .pre .0 .well-formed) (start .args .exclude .now) (start .pre .1) (start .args .indentor .now) (sym (c .before .before .before .valid .ensures) ∙ c .before .before .if1 .taken) (sym (c .before .positions-between .ensures) ∙ c .if2 .left) in
+    record { ran = ran; above = start .pre .0 .above }
 
 returns-4 : tie.Need-returns-4
 returns-4 c =
     let start = c .before .before .before .before .before .before .before .before in
-    given-invalid (start .pre .0) (start .args .exclude .now) (start .pre .1) (start .args .indentor .now) (sym (c .before .valid .ensures) ∙ c .if1 .left)
+    let ran = given-invalid (start .pre .0 .well-formed) (start .args .exclude .now) (start .pre .1) (start .args .indentor .now) (sym (c .before .valid .ensures) ∙ c .if1 .left) in
+    record { ran = ran; above = start .pre .0 .above }
 
 pub by-given-spec : {M : Type 1} → statement M
 by-given-spec =

@@ -5,7 +5,7 @@ use Rattle.indent.proofs.guessed_in.Statement.{statement}
 use Rattle.indent.proofs.guessed_in.Tie as tie
 
 guess-indentor-requires : tie.Need-guess-indentor-requires
-guess-indentor-requires c κs = narrow-source (c .before .before .before .before .before .before .pre .0)
+guess-indentor-requires c κs = narrow-source (c .before .before .before .before .before .before .pre .0 .well-formed)
 
 indentor-len-requires : tie.Need-indentor-len-requires
 indentor-len-requires c κs = search needs
@@ -16,7 +16,7 @@ cast-n c = search needs
 put-indentor-requires : tie.Need-put-indentor-requires
 put-indentor-requires c κs =
     let start = c .before .before .before .before .before .before .before .before .before in
-    guess-room (start .args .source .now) (c .before .before .guess-indentor .result) (c .before .before .guess-indentor .ensures) (short-source (start .pre .0)) (start .args .out .now) (start .pre .1 .0)
+    guess-room (start .args .source .now) (c .before .before .guess-indentor .result) (c .before .before .guess-indentor .ensures) (short-source (start .pre .0 .well-formed)) (start .args .out .now) (start .pre .1 .0)
 
 slice-reshare-prefix-indent-tables : tie.Need-slice-reshare-prefix-indent-tables
 slice-reshare-prefix-indent-tables c =
@@ -48,7 +48,8 @@ same-length-4 c = search needs
 returns : tie.Need-returns
 returns c =
     let start = c .before .before .before .before .before .before .before .before .before .before .before .before .before .before .before .before .before .before .before .before .before .before .before in
-    none-ran (start .pre .0) (start .args .exclude .now) (start .pre .1 .1 .0) (start .pre .1 .1 .1) _ (guess-is (start .args .source .now) (c .before .before .before .before .before .before .before .before .before .before .before .before .before .before .before .before .guess-indentor .result) (c .before .before .before .before .before .before .before .before .before .before .before .before .before .before .before .before .guess-indentor .ensures) _ _ (c .before .before .before .before .before .before .before .before .before .before .before .before .before .before .before .indentor-len .result) (c .before .before .before .before .before .before .before .before .before .before .before .before .before .before .before .indentor-len .ensures) (c .before .before .before .before .before .before .before .before .before .before .before .before .before .put-indentor .ensures)) (c .before .before .before .before .before .before .indent-tables .ensures)
+    let tables = c .before .before .before .before .before .before .indent-tables in
+    record { ran = none-ran (start .pre .0 .well-formed) (start .args .exclude .now) (start .pre .1 .1 .0) (start .pre .1 .1 .1) _ (guess-is (start .args .source .now) (c .before .before .before .before .before .before .before .before .before .before .before .before .before .before .before .before .guess-indentor .result) (c .before .before .before .before .before .before .before .before .before .before .before .before .before .before .before .before .guess-indentor .ensures) _ _ (c .before .before .before .before .before .before .before .before .before .before .before .before .before .before .before .indentor-len .result) (c .before .before .before .before .before .before .before .before .before .before .before .before .before .before .before .indentor-len .ensures) (c .before .before .before .before .before .before .before .before .before .before .before .before .before .put-indentor .ensures)) (tables .ensures .0); above = tables .ensures .1 }
 
 pub guessed-in-spec : {M : Type 1} → statement M
 guessed-in-spec =

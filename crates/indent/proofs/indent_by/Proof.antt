@@ -1,5 +1,7 @@
+use mathlib.Core.Path.{_∙_}
 use native.Mathlib.Omega.{arith}
 use Rattle.indent.specs.Call.{steps-ready, indent-readable, indent-past, indent-ran}
+use Rattle.on_top.proofs.Finishing.{formed-usable}
 use borrow.Author.Needs.{needs}
 use Rattle.indent.proofs.indent_by.Statement.{statement}
 use Rattle.indent.proofs.indent_by.Tie as tie
@@ -7,12 +9,12 @@ use Rattle.indent.proofs.indent_by.Tie as tie
 load-requires : tie.Need-load-requires
 load-requires c κs =
     let start = c .before .before .before .before .before .before .before .before .before .before .before .before .before .before .before in
-    (omega (arith, start .pre .0 .sized .chunks, start .pre .1 .scratch .chunks), omega (arith, start .pre .0 .sized .pieces, start .pre .1 .pieces), omega (arith, start .pre .0 .sized .store, start .pre .1 .store))
+    (omega (arith, start .pre .0 .well-formed .sized .chunks, start .pre .1 .scratch .chunks), omega (arith, start .pre .0 .well-formed .sized .pieces, start .pre .1 .pieces), omega (arith, start .pre .0 .well-formed .sized .store, start .pre .1 .store))
 
 indent-steps-requires : tie.Need-indent-steps-requires
 indent-steps-requires c κs =
     let start = c .before .before .before .before .before .before .before .before .before .before .before .before .before .before .before .before .before .before .before .before .before .before .before .before .before .before .before in
-    steps-ready (start .pre .0) (start .pre .1) (c .before .before .before .before .before .before .before .before .before .before .before .load .ensures)
+    steps-ready (start .pre .0 .well-formed) (start .pre .1) (c .before .before .before .before .before .before .before .before .before .before .before .load .ensures)
 
 same-length : tie.Need-same-length
 same-length c = search needs
@@ -35,12 +37,12 @@ same-length-6 c = search needs
 returns : tie.Need-returns
 returns c =
     let start = c .before .before .before .before .before .before .before .before .before .before .before .before .before .before .before .before .before .before .before .before .before .before .before .before .before .before .before .before .before .before .before .before .before .before .before in
-    indent-past (start .pre .0) (start .pre .1) (c .before .before .before .before .before .before .before .before .before .before .before .before .before .before .before .before .before .before .before .load .ensures) (c .before .before .before .before .before .before .before .indent-steps .ensures) (c .if1 .taken)
+    (indent-past (start .pre .0 .well-formed) (start .pre .1) (c .before .before .before .before .before .before .before .before .before .before .before .before .before .before .before .before .before .before .before .load .ensures) (c .before .before .before .before .before .before .before .indent-steps .ensures) (c .if1 .taken), start .pre .0 .above)
 
 finish-requires : tie.Need-finish-requires
 finish-requires c κs =
     let start = c .before .before .before .before .before .before .before .before .before .before .before .before .before .before .before .before .before .before .before .before .before .before .before .before .before .before .before .before .before .before .before .before .before .before .before .before .before .before .before .before .before in
-    (indent-readable (start .pre .0) (start .pre .1) (c .before .before .before .before .before .before .before .before .before .before .before .before .before .before .before .before .before .before .before .before .before .before .before .before .before .load .ensures) (c .before .before .before .before .before .before .before .before .before .before .before .before .before .indent-steps .ensures) (c .before .before .before .before .before .before .if1 .left), start .pre .0 .sized)
+    (indent-readable (start .pre .0 .well-formed) (start .pre .1) (c .before .before .before .before .before .before .before .before .before .before .before .before .before .before .before .before .before .before .before .before .before .before .before .before .before .load .ensures) (c .before .before .before .before .before .before .before .before .before .before .before .before .before .indent-steps .ensures) (c .before .before .before .before .before .before .if1 .left), formed-usable (start .pre .0 .well-formed))
 
 same-length-7 : tie.Need-same-length-7
 same-length-7 c = search needs
@@ -52,10 +54,16 @@ same-length-9 : tie.Need-same-length-9
 same-length-9 c = search needs
 
 same-length-10 : tie.Need-same-length-10
-same-length-10 c = search needs
+same-length-10 c =
+    let load = c .before .before .before .before .before .before .before .before .before .before .before .before .before .before .before .before .before .before .before .before .before .before .before .before .before .before .before .before .before .before .before .before .load in
+    let steps = c .before .before .before .before .before .before .before .before .before .before .before .before .before .before .before .before .before .before .before .before .indent-steps in
+    steps .kept .1 .1 .1 .0 ∙ load .kept .1 .1 .1 .0
 
 same-length-11 : tie.Need-same-length-11
-same-length-11 c = search needs
+same-length-11 c =
+    let load = c .before .before .before .before .before .before .before .before .before .before .before .before .before .before .before .before .before .before .before .before .before .before .before .before .before .before .before .before .before .before .before .before .load in
+    let steps = c .before .before .before .before .before .before .before .before .before .before .before .before .before .before .before .before .before .before .before .before .indent-steps in
+    steps .kept .1 .1 .1 .1 .0 ∙ load .kept .1 .1 .1 .1 .0
 
 same-length-12 : tie.Need-same-length-12
 same-length-12 c = search needs
@@ -63,7 +71,8 @@ same-length-12 c = search needs
 returns-2 : tie.Need-returns-2
 returns-2 c =
     let start = c .before .before .before .before .before .before .before .before .before .before .before .before .before .before .before .before .before .before .before .before .before .before .before .before .before .before .before .before .before .before .before .before .before .before .before .before .before .before .before .before .before .before .before .before .before .before .before .before in
-    indent-ran (start .pre .0) (start .pre .1) (c .before .before .before .before .before .before .before .before .before .before .before .before .before .before .before .before .before .before .before .before .before .before .before .before .before .before .before .before .before .before .before .before .load .ensures) (c .before .before .before .before .before .before .before .before .before .before .before .before .before .before .before .before .before .before .before .before .indent-steps .ensures) (c .before .before .before .before .before .before .before .before .before .before .before .before .before .if1 .left) (c .before .before .before .before .before .before .finish .ensures)
+    let finish = c .before .before .before .before .before .before .finish in
+    (indent-ran (start .pre .0 .well-formed) (start .pre .1) (c .before .before .before .before .before .before .before .before .before .before .before .before .before .before .before .before .before .before .before .before .before .before .before .before .before .before .before .before .before .before .before .before .load .ensures) (c .before .before .before .before .before .before .before .before .before .before .before .before .before .before .before .before .before .before .before .before .indent-steps .ensures) (c .before .before .before .before .before .before .before .before .before .before .before .before .before .if1 .left) (finish .ensures .0), finish .ensures .1)
 
 pub indent-by-spec : {M : Type 1} → statement M
 indent-by-spec =

@@ -8,7 +8,7 @@ use Rattle.indent.proofs.indent_with.Tie as tie
 returns : tie.Need-returns
 returns c =
     let start = c .before .before .before .before .before .before .before in
-    odd-refused (start .pre) _ (start .args .exclude .now) (c .if1 .taken)
+    record { ran = odd-refused (start .pre .well-formed) _ (start .args .exclude .now) (c .if1 .taken); above = start .pre .above }
 
 by-given-requires : tie.Need-by-given-requires
 by-given-requires c κs =
@@ -30,7 +30,7 @@ returns-2 c =
     with-given (start .args .has-indentor) (start .args .indentor .now) (c .before .before .before .before .before .before .before .before .before .before .if2 .taken) (c .before .before .before .before .before .before .by-given .ensures)
 
 positions-between-requires : tie.Need-positions-between-requires
-positions-between-requires c κs = valid-source (c .before .before .before .before .before .before .before .before .pre)
+positions-between-requires c κs = valid-source (c .before .before .before .before .before .before .before .before .pre .well-formed)
 
 by-guess-requires : tie.Need-by-guess-requires
 by-guess-requires c κs =
@@ -54,7 +54,8 @@ returns-3 c =
 returns-4 : tie.Need-returns-4
 returns-4 c =
     let start = c .before .before .before .before .before .before .before .before .before .before in
-    with-none (start .args .has-indentor) (start .args .indentor .now) (c .before .before .if2 .left) (none-inside (start .pre) (start .args .exclude .now) (even-options (start .args .exclude .now) (c .before .before .before .if1 .left)) (sym (c .before .positions-between .ensures) ∙ c .if3 .left))
+    let ran = none-inside (start .pre .well-formed) (start .args .exclude .now) (even-options (start .args .exclude .now) (c .before .before .before .if1 .left)) (sym (c .before .positions-between .ensures) ∙ c .if3 .left) in
+    with-none (start .args .has-indentor) (start .args .indentor .now) (c .before .before .if2 .left) (record { ran = ran; above = start .pre .above })
 
 pub indent-with-spec : {M : Type 1} → statement M
 indent-with-spec =

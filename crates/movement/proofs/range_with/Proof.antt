@@ -1,7 +1,6 @@
-use mathlib.Core.Path.{ap}
 use native.Mathlib.Omega.{arith}
 use Rattle.in_place.specs.InPlace.{lent-roomy}
-use Rattle.clear_range.specs.Range.{range-in-place}
+use Rattle.clear_range.specs.Range.{range-in-place, range-above}
 use borrow.Author.Needs.{needs}
 use Rattle.movement.proofs.range_with.Statement.{statement}
 use Rattle.movement.proofs.range_with.Tie as tie
@@ -13,14 +12,14 @@ use Rattle.range_scratch.proofs.range_scratch.Reads as range-scratch-reads
 has-rows-requires : tie.Need-has-rows-requires
 has-rows-requires c κs =
     let start = c .before .before .before .before .before in
-    (start .pre .0 .sized .some, omega arith)
+    (start .pre .0 .well-formed .sized .some, omega arith)
 
 clear-range-requires : tie.Need-clear-range-requires
 clear-range-requires c κs =
     let start = c .before .before .before .before .before .before .before .before in
     let has-rows = c .before .before .has-rows in
     let if1 = c .before .if1 in
-    (lent-roomy 2 (start .pre .0) (has-rows .ensures (if1 .taken)), start .pre .1)
+    (lent-roomy 2 (start .pre .0 .well-formed) (has-rows .ensures (if1 .taken)), start .pre .1)
 
 same-length : tie.Need-same-length
 same-length c = search needs
@@ -28,10 +27,9 @@ same-length c = search needs
 returns : tie.Need-returns
 returns c =
     let start = c .before .before .before .before .before .before .before .before .before .before .before in
-    let has-rows = c .before .before .before .before .before .has-rows in
-    let if1 = c .before .before .before .before .if1 in
     let clear-range = c .before .before .clear-range in
-    range-in-place (start .pre .0) (clear-range .ensures) (clear-range .kept .0)
+    let h = start .pre .0 in
+    (range-in-place (h .well-formed) (clear-range .ensures) (clear-range .kept .0), range-above (clear-range .ensures) (h .above))
 
 range-scratch-requires : tie.Need-range-scratch-requires
 range-scratch-requires c κs = search needs

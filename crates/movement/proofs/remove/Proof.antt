@@ -14,7 +14,7 @@ use Rattle.movement.proofs.range_with.Reads as range-with-reads
 between-both-requires : tie.Need-between-both-requires
 between-both-requires c κs =
     let start = c .before .before .before .before in
-    valid-source (start .pre)
+    valid-source (start .pre .well-formed)
 
 returns : tie.Need-returns
 returns c =
@@ -22,7 +22,7 @@ returns c =
     let between-both = c .before .before .between-both in
     let if1 = c .before .if1 in
     let if2 = c .if2 in
-    remove-nothing _ _ (start .pre) (sym (between-both .ensures) ∙ if1 .taken) (if2 .taken)
+    record { ran = remove-nothing _ _ (start .pre .well-formed) (sym (between-both .ensures) ∙ if1 .taken) (if2 .taken); above = start .pre .above }
 
 returns-2 : tie.Need-returns-2
 returns-2 c =
@@ -30,7 +30,7 @@ returns-2 c =
     let between-both = c .before .before .before .between-both in
     let if1 = c .before .before .if1 in
     let if3 = c .if3 in
-    remove-reversed _ _ (start .pre) (sym (between-both .ensures) ∙ if1 .taken) (if3 .taken)
+    record { ran = remove-reversed _ _ (start .pre .well-formed) (sym (between-both .ensures) ∙ if1 .taken) (if3 .taken); above = start .pre .above }
 
 range-with-requires : tie.Need-range-with-requires
 range-with-requires c κs =
@@ -56,14 +56,14 @@ returns-3 c =
     let if2 = c .before .before .before .before .before .before .before .before .before .before .before .if2 in
     let if3 = c .before .before .before .before .before .before .before .before .before .before .if3 in
     let range-with = c .before .before .before .before .before .before .range-with in
-    remove-range _ _ (start .pre) (sym (between-both .ensures) ∙ if1 .taken) (omega (arith, if2 .left, if3 .left)) (range-with .ensures)
+    record { ran = remove-range _ _ (start .pre .well-formed) (sym (between-both .ensures) ∙ if1 .taken) (omega (arith, if2 .left, if3 .left)) (range-with .ensures .0); above = range-with .ensures .1 }
 
 returns-4 : tie.Need-returns-4
 returns-4 c =
     let start = c .before .before .before .before .before .before in
     let between-both = c .before .between-both in
     let if1 = c .if1 in
-    remove-outside _ _ (start .pre) (sym (between-both .ensures) ∙ if1 .left)
+    record { ran = remove-outside _ _ (start .pre .well-formed) (sym (between-both .ensures) ∙ if1 .left); above = start .pre .above }
 
 pub remove-spec : {M : Type 1} → statement M
 remove-spec =

@@ -1,12 +1,13 @@
 use native.Mathlib.Omega.{arith}
 use Rattle.frame.specs.Frame.{loaded-roomy}
+use Rattle.on_top.proofs.Finishing.{formed-usable}
 use Rattle.clear_range.specs.Range.{range-readable, range-ran}
 use borrow.Author.Needs.{needs}
 use Rattle.range_scratch.proofs.range_by.Statement.{statement}
 use Rattle.range_scratch.proofs.range_by.Tie as tie
 use Rattle.range_scratch.proofs.range_by.Reads as reads
 use Rattle.range_scratch.proofs.range_by.Lts as lts
-use Rattle.frame.proofs.finish.Reads as finish-reads
+use Rattle.on_top.proofs.finish.Reads as finish-reads
 use Rattle.frame.proofs.load.Reads as load-reads
 use Rattle.clear_range.proofs.clear_range.Reads as clear-range-reads
 
@@ -27,7 +28,7 @@ finish-requires c κs =
     let start = c .before .before .before .before .before .before .before .before .before .before .before .before .before .before .before .before .before .before .before .before .before .before .before .before .before .before .before .before .before .before in
     let load = c .before .before .before .before .before .before .before .before .before .before .before .before .before .before .before .before .load in
     let clear-range = c .before .before .before .before .before .before .before .before .clear-range in
-    (range-readable (start .pre .0) (start .pre .1 .0) (load .ensures) (clear-range .ensures), start .pre .0 .sized)
+    (range-readable (start .pre .0) (start .pre .1 .0) (load .ensures) (clear-range .ensures), formed-usable (start .pre .0))
 
 same-length : tie.Need-same-length
 same-length c = search needs
@@ -53,7 +54,7 @@ returns c =
     let load = c .before .before .before .before .before .before .before .before .before .before .before .before .before .before .before .before .before .before .before .before .before .before .before .load in
     let clear-range = c .before .before .before .before .before .before .before .before .before .before .before .before .before .before .before .clear-range in
     let finish = c .before .before .before .before .before .before .finish in
-    range-ran (start .pre .0) (start .pre .1 .0) (load .ensures) (clear-range .ensures) (finish .ensures)
+    (range-ran (start .pre .0) (start .pre .1 .0) (load .ensures) (clear-range .ensures) (finish .ensures .0), finish .ensures .1)
 
 pub range-by-spec : {M : Type 1} → statement M
 range-by-spec =

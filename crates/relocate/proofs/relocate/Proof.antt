@@ -14,7 +14,7 @@ use Rattle.relocate.proofs.relocate_with.Reads as relocate-with-reads
 
 between-three-requires : tie.Need-between-three-requires
 between-three-requires c κs =
-    valid-source (c .before .before .before .before .pre)
+    valid-source (c .before .before .before .before .pre .well-formed)
 
 inside-range-requires : tie.Need-inside-range-requires
 inside-range-requires c κs = search needs
@@ -23,31 +23,35 @@ returns : tie.Need-returns
 returns c =
     let start = c .before .before .before .before .before .before .before .before in
     let placed = sym (c .before .before .before .between-three .ensures) ∙ c .before .before .if1 .taken in
-    relocate-inside _ _ _ (start .pre) placed (sym (c .before .inside-range .ensures) ∙ c .if2 .taken)
+    let ran = relocate-inside _ _ _ (start .pre .well-formed) placed (sym (c .before .inside-range .ensures) ∙ c .if2 .taken) in
+    record { ran = ran; above = start .pre .above }
 
 returns-2 : tie.Need-returns-2
 returns-2 c =
     let start = c .before .before .before .before .before .before .before .before .before in
     let placed = sym (c .before .before .before .before .between-three .ensures) ∙ c .before .before .before .if1 .taken in
-    relocate-nothing _ _ _ (start .pre) placed (sym (c .before .before .inside-range .ensures) ∙ c .before .if2 .left) (eqb-true _ _ (c .if3 .taken))
+    let ran = relocate-nothing _ _ _ (start .pre .well-formed) placed (sym (c .before .before .inside-range .ensures) ∙ c .before .if2 .left) (eqb-true _ _ (c .if3 .taken)) in
+    record { ran = ran; above = start .pre .above }
 
 returns-3 : tie.Need-returns-3
 returns-3 c =
     let start = c .before .before .before .before .before .before .before .before .before .before in
     let placed = sym (c .before .before .before .before .before .between-three .ensures) ∙ c .before .before .before .before .if1 .taken in
-    relocate-reversed _ _ _ (start .pre) placed (sym (c .before .before .before .inside-range .ensures) ∙ c .before .before .if2 .left) (c .if4 .taken)
+    let ran = relocate-reversed _ _ _ (start .pre .well-formed) placed (sym (c .before .before .before .inside-range .ensures) ∙ c .before .before .if2 .left) (c .if4 .taken) in
+    record { ran = ran; above = start .pre .above }
 
 returns-4 : tie.Need-returns-4
 returns-4 c =
     let start = c .before .before .before .before .before .before .before .before .before .before .before in
     let placed = sym (c .before .before .before .before .before .before .between-three .ensures) ∙ c .before .before .before .before .before .if1 .taken in
-    relocate-past _ _ _ (start .pre) placed (sym (c .before .before .before .before .inside-range .ensures) ∙ c .before .before .before .if2 .left) (omega (arith, eqb-false (start .args .start) (start .args .end) (c .before .before .if3 .left), c .before .if4 .left)) (c .if5 .taken)
+    let ran = relocate-past _ _ _ (start .pre .well-formed) placed (sym (c .before .before .before .before .inside-range .ensures) ∙ c .before .before .before .if2 .left) (omega (arith, eqb-false (start .args .start) (start .args .end) (c .before .before .if3 .left), c .before .if4 .left)) (c .if5 .taken) in
+    record { ran = ran; above = start .pre .above }
 
 relocate-with-requires : tie.Need-relocate-with-requires
 relocate-with-requires c κs =
     let start = c .before .before .before .before .before .before .before .before .before .before .before .before .before .before in
     let placed = sym (c .before .before .before .before .before .before .before .before .before .between-three .ensures) ∙ c .before .before .before .before .before .before .before .before .if1 .taken in
-    (start .pre, relocate-tested _ _ _ (start .pre) placed (sym (c .before .before .before .before .before .before .before .inside-range .ensures) ∙ c .before .before .before .before .before .before .if2 .left) (omega (arith, eqb-false (start .args .start) (start .args .end) (c .before .before .before .before .before .if3 .left), c .before .before .before .before .if4 .left)) (omega (arith, c .before .before .before .if5 .left)))
+    (start .pre, relocate-tested _ _ _ (start .pre .well-formed) placed (sym (c .before .before .before .before .before .before .before .inside-range .ensures) ∙ c .before .before .before .before .before .before .if2 .left) (omega (arith, eqb-false (start .args .start) (start .args .end) (c .before .before .before .before .before .if3 .left), c .before .before .before .before .if4 .left)) (omega (arith, c .before .before .before .if5 .left)))
 
 same-length : tie.Need-same-length
 same-length c = search needs
@@ -64,7 +68,8 @@ returns-5 c = search needs
 returns-6 : tie.Need-returns-6
 returns-6 c =
     let start = c .before .before .before .before .before .before in
-    relocate-outside _ _ _ (start .pre) (sym (c .before .between-three .ensures) ∙ c .if1 .left)
+    let ran = relocate-outside _ _ _ (start .pre .well-formed) (sym (c .before .between-three .ensures) ∙ c .if1 .left) in
+    record { ran = ran; above = start .pre .above }
 
 pub relocate-spec : {M : Type 1} → statement M
 relocate-spec =

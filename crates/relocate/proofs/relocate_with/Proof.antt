@@ -1,7 +1,6 @@
-use mathlib.Core.Path.{ap}
 use native.Mathlib.Omega.{arith}
 use Rattle.in_place.specs.InPlace.{lent-roomy}
-use Rattle.relocate_scratch.specs.Call.{lent-spanned, relocated-in-place}
+use Rattle.relocate_scratch.specs.Call.{lent-spanned, relocated-in-place, relocated-above}
 use borrow.Author.Needs.{needs}
 use Rattle.relocate.proofs.relocate_with.Statement.{statement}
 use Rattle.relocate.proofs.relocate_with.Tie as tie
@@ -13,14 +12,14 @@ use Rattle.relocate_rows.proofs.relocate_rows.Reads as relocate-rows-reads
 has-rows-requires : tie.Need-has-rows-requires
 has-rows-requires c κs =
     let start = c .before .before .before .before .before in
-    (start .pre .0 .sized .some, omega arith)
+    (start .pre .0 .well-formed .sized .some, omega arith)
 
 relocate-rows-requires : tie.Need-relocate-rows-requires
 relocate-rows-requires c κs =
     let start = c .before .before .before .before .before .before .before .before in
     let has-rows = c .before .before .has-rows in
     let if1 = c .before .if1 in
-    (lent-roomy 3 (start .pre .0) (has-rows .ensures (if1 .taken)), (lent-spanned (start .pre .0) (start .pre .1), start .pre .1 .movable))
+    (lent-roomy 3 (start .pre .0 .well-formed) (has-rows .ensures (if1 .taken)), (lent-spanned (start .pre .0 .well-formed) (start .pre .1), start .pre .1 .movable))
 
 same-length : tie.Need-same-length
 same-length c = search needs
@@ -28,10 +27,12 @@ same-length c = search needs
 returns : tie.Need-returns
 returns c =
     let start = c .before .before .before .before .before .before .before .before .before .before .before in
-    let has-rows = c .before .before .before .before .before .has-rows in
-    let if1 = c .before .before .before .before .if1 in
     let relocate-rows = c .before .before .relocate-rows in
-    relocated-in-place (start .pre .0) (start .pre .1) (relocate-rows .ensures) (relocate-rows .kept .0)
+    let h = start .pre .0 in
+    record {
+      ran = relocated-in-place (h .well-formed) (start .pre .1) (relocate-rows .ensures) (relocate-rows .kept .0);
+      above = relocated-above (relocate-rows .ensures) (h .above);
+    }
 
 relocate-scratch-requires : tie.Need-relocate-scratch-requires
 relocate-scratch-requires c κs = search needs

@@ -1,12 +1,13 @@
 use native.Mathlib.Omega.{arith}
 use Rattle.frame.specs.Frame.{loaded-roomy}
+use Rattle.on_top.proofs.Finishing.{formed-usable}
 use Rattle.relocate_scratch.specs.Call.{loaded-spanned, relocated-readable, relocated}
 use borrow.Author.Needs.{needs}
 use Rattle.relocate_scratch.proofs.relocate_by.Statement.{statement}
 use Rattle.relocate_scratch.proofs.relocate_by.Tie as tie
 use Rattle.relocate_scratch.proofs.relocate_by.Reads as reads
 use Rattle.relocate_scratch.proofs.relocate_by.Lts as lts
-use Rattle.frame.proofs.finish.Reads as finish-reads
+use Rattle.on_top.proofs.finish.Reads as finish-reads
 use Rattle.frame.proofs.load.Reads as load-reads
 use Rattle.relocate_rows.proofs.relocate_rows.Reads as relocate-rows-reads
 
@@ -25,7 +26,7 @@ finish-requires : tie.Need-finish-requires
 finish-requires c κs =
     let start = c .before .before .before .before .before .before .before .before .before .before .before .before .before .before .before .before .before .before .before .before .before .before .before .before .before .before .before .before .before .before in
     let load = c .before .before .before .before .before .before .before .before .before .before .before .before .before .before .before .before .load in
-    (relocated-readable (start .pre .0) (start .pre .1 .0) (load .ensures) (start .pre .1 .1) (c .before .before .before .before .before .before .before .before .relocate-rows .ensures), start .pre .0 .sized)
+    (relocated-readable (start .pre .0) (start .pre .1 .0) (load .ensures) (start .pre .1 .1) (c .before .before .before .before .before .before .before .before .relocate-rows .ensures), formed-usable (start .pre .0))
 
 same-length : tie.Need-same-length
 same-length c = search needs
@@ -49,7 +50,12 @@ returns : tie.Need-returns
 returns c =
     let start = c .before .before .before .before .before .before .before .before .before .before .before .before .before .before .before .before .before .before .before .before .before .before .before .before .before .before .before .before .before .before .before .before .before .before .before .before .before in
     let load = c .before .before .before .before .before .before .before .before .before .before .before .before .before .before .before .before .before .before .before .before .before .before .before .load in
-    relocated (start .pre .0) (start .pre .1 .0) (load .ensures) (start .pre .1 .1) (c .before .before .before .before .before .before .before .before .before .before .before .before .before .before .before .relocate-rows .ensures) (c .before .before .before .before .before .before .finish .ensures)
+    let relocate-rows = c .before .before .before .before .before .before .before .before .before .before .before .before .before .before .before .relocate-rows in
+    let finish = c .before .before .before .before .before .before .finish in
+    record {
+      ran = relocated (start .pre .0) (start .pre .1 .0) (load .ensures) (start .pre .1 .1) (relocate-rows .ensures) (finish .ensures .0);
+      above = finish .ensures .1;
+    }
 
 pub relocate-by-spec : {M : Type 1} → statement M
 relocate-by-spec =

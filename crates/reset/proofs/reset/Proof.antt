@@ -14,7 +14,7 @@ use Rattle.movement.proofs.range_with.Reads as range-with-reads
 between-both-requires : tie.Need-between-both-requires
 between-both-requires c κs =
     let start = c .before .before .before .before in
-    valid-source (start .pre)
+    valid-source (start .pre .well-formed)
 
 returns : tie.Need-returns
 returns c =
@@ -22,7 +22,7 @@ returns c =
     let between-both = c .before .before .between-both in
     let if1 = c .before .if1 in
     let if2 = c .if2 in
-    reset-nothing _ _ (start .pre) (sym (between-both .ensures) ∙ if1 .taken) (if2 .taken)
+    record { ran = reset-nothing _ _ (start .pre .well-formed) (sym (between-both .ensures) ∙ if1 .taken) (if2 .taken); above = start .pre .above }
 
 returns-2 : tie.Need-returns-2
 returns-2 c =
@@ -30,7 +30,7 @@ returns-2 c =
     let between-both = c .before .before .before .between-both in
     let if1 = c .before .before .if1 in
     let if3 = c .if3 in
-    reset-reversed _ _ (start .pre) (sym (between-both .ensures) ∙ if1 .taken) (if3 .taken)
+    record { ran = reset-reversed _ _ (start .pre .well-formed) (sym (between-both .ensures) ∙ if1 .taken) (if3 .taken); above = start .pre .above }
 
 returns-3 : tie.Need-returns-3
 returns-3 c =
@@ -40,7 +40,7 @@ returns-3 c =
     let if2 = c .before .before .if2 in
     let if3 = c .before .if3 in
     let if4 = c .if4 in
-    reset-past _ _ (start .pre) (sym (between-both .ensures) ∙ if1 .taken) (omega (arith, if2 .left, if3 .left)) (if4 .taken)
+    record { ran = reset-past _ _ (start .pre .well-formed) (sym (between-both .ensures) ∙ if1 .taken) (omega (arith, if2 .left, if3 .left)) (if4 .taken); above = start .pre .above }
 
 range-with-requires : tie.Need-range-with-requires
 range-with-requires c κs =
@@ -67,14 +67,14 @@ returns-4 c =
     let if3 = c .before .before .before .before .before .before .before .before .before .before .before .if3 in
     let if4 = c .before .before .before .before .before .before .before .before .before .before .if4 in
     let range-with = c .before .before .before .before .before .before .range-with in
-    reset-range _ _ (start .pre) (sym (between-both .ensures) ∙ if1 .taken) (omega (arith, if2 .left, if3 .left)) (if4 .left) (range-with .ensures)
+    record { ran = reset-range _ _ (start .pre .well-formed) (sym (between-both .ensures) ∙ if1 .taken) (omega (arith, if2 .left, if3 .left)) (if4 .left) (range-with .ensures .0); above = range-with .ensures .1 }
 
 returns-5 : tie.Need-returns-5
 returns-5 c =
     let start = c .before .before .before .before .before .before in
     let between-both = c .before .between-both in
     let if1 = c .if1 in
-    reset-outside _ _ (start .pre) (sym (between-both .ensures) ∙ if1 .left)
+    record { ran = reset-outside _ _ (start .pre .well-formed) (sym (between-both .ensures) ∙ if1 .left); above = start .pre .above }
 
 pub reset-spec : {M : Type 1} → statement M
 reset-spec =
