@@ -13,7 +13,7 @@ use Rattle.model.specs.MagicString.{MagicString}
 use Rattle.model.specs.Limits.{within, piece-count, byte-count, replacement-bytes}
 use Rattle.model.specs.Call.{update-with, refused-before}
 use Rattle.memory.specs.Layout.{NONE, Place, replacementOf, magicStringOf}
-use Rattle.memory.specs.WellFormed.{limitsOf, Lengths, Readable, WellFormed, Disjoint, among, runUses, replacementUses}
+use Rattle.memory.specs.WellFormed.{limitsOf, Readable, WellFormed, Disjoint, among, runUses, replacementUses}
 use Rattle.memory.specs.Calls.{Ran}
 use Rattle.memory.specs.Laws.{chunk-count, source-of, keeps-within}
 use Rattle.uses.specs.Counted.{nothing, counts-rows, counts-store, sum-lists}
@@ -160,9 +160,9 @@ module _ {a b : ℕ} {text : List ℕ} {o : Bool} {n m : ℕ} {source t P S t' S
         (replaced-within (omega (arith, x .count, rm .chunks)))
 
     -- the bound that the call hands back
-    pub update-top-above : {out : Outcome} → length S' ≡ length S → Settled r l (l .byte + length text) out → Above t' P S' (out .used)
-    update-top-above ls q =
+    pub update-top-above : {out : Outcome} {end : ℕ} → length S' ≡ length S → end ≡ l .byte + length text → Settled r l end out → Above t' P S' (out .used)
+    update-top-above {end = end} ls ee q =
         elim (ℕ-discrete r 0) [
-          | yes e ↦ rw (q .came e) (stored-above ls (l .byte + length text) (omega (arith, ap length (stored-text r text e))))
+          | yes e ↦ rw (q .came e) (stored-above ls end (omega (arith, ap length (stored-text r text e))))
           | no e ↦ rw (q .refused e) (stored-above ls (l .byte) (omega (arith, ap length (stored-none r text e))))
         ]

@@ -1,19 +1,19 @@
 -- `update_with` as a call.
 use mathlib.Core.Path.{_≡_, refl, sym, ap, _∙_, subst}
-use mathlib.Core.Bool.{Bool, true, false, _&&_, cond}
-use mathlib.Core.List.{List, [], _∷_, _++_, map}
-use mathlib.Core.Logic.{_⊎_, inl, inr, ⊎-elim}
-use Prim.Native.Nat.{ℕ, _+_, _*_, _-_, _≤_, _<_}
+use mathlib.Core.Bool.{Bool, true, false, cond}
+use mathlib.Core.List.{List, [], _∷_, _++_}
+use mathlib.Core.Logic.{⊎-elim}
+use Prim.Native.Nat.{ℕ, _+_, _-_, _≤_, _<_}
 use native.Mathlib.Omega.{arith}
-use lib.Dec.{eqb, ltb}
+use lib.Dec.{eqb}
 use lib.ListN.{length, drop}
 use borrow.Author.Tests.{ne-eqb, le-ltb, lt-ltb}
-use Rattle.table.specs.Order.{entries, countOf}
+use Rattle.table.specs.Order.{countOf}
 use Rattle.model.specs.MagicString.{MagicString, Result, ok, err, and-then, with-chunks, at-start}
 use Rattle.model.specs.Chunk.{edit}
 use Rattle.model.specs.Limits.{full, within}
 use Rattle.model.specs.Update.{update-chunks}
-use Rattle.model.specs.Call.{Edit, update-with, steps, refused-before}
+use Rattle.model.specs.Call.{update-with, steps, refused-before}
 use Rattle.memory.specs.Layout.{magicStringOf}
 use Rattle.memory.specs.WellFormed.{Readable, WellFormed}
 use Rattle.memory.specs.Calls.{may-write, idle, Ran}
@@ -21,17 +21,16 @@ use Rattle.memory.specs.Laws.{source-of}
 use Rattle.memory_used.specs.declared.Used.{Used}
 use Rattle.memory_used.specs.declared.Outcome.{Outcome}
 use Rattle.texts.specs.Over.{over, over-nil, over-behind}
-use Rattle.closed_forms.specs.SplitAt.{cuts-then}
 use Rattle.rows.specs.declared.Found.the-variants.{At, Nothing}
 use Rattle.rebuild.specs.Rebuilt.{Finished}
 use Rattle.frame.specs.Front.{desk-front}
 use Rattle.frame.specs.Loaded.{Loaded}
 use Rattle.frame.specs.Frame.{Scratch, Did, loaded-readable, loaded-desk, ran-finished, ran-past-limits, may-write-0, may-write-6, may-write-7}
-use Rattle.split.specs.Cuts.{Spans, CutsDone, CutsLeave, loaded-spans, stop}
+use Rattle.split.specs.Cuts.{Spans, CutsDone, loaded-spans, stop}
 use Rattle.insert_row.specs.Calls.{past-bytes}
 use Rattle.rows.specs.Insert.{Placed}
-use Rattle.uses.specs.Kept.{Kept, kept-then}
-use Rattle.update_rows.specs.Walk.{walkFrom, Walked}
+use Rattle.uses.specs.Kept.{kept-then}
+use Rattle.update_rows.specs.Walk.{Walked}
 use Rattle.update_rows.specs.Replaced.{Replaced, kept-replaced, replaced-then, walked-kept, walked-count, edited-replaced, edited-count}
 use Rattle.update_rows.specs.Steps.{update-step, update-past, update-is, FirstEdited, edit-readable, edit-desk, edited-big, walked-readable, walk-refused, walk-done}
 

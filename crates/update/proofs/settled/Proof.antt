@@ -1,8 +1,6 @@
 use mathlib.Core.Path.{refl}
 use Rattle.update.proofs.settled.Statement.{statement}
 use Rattle.update.proofs.settled.Tie as tie
-use Rattle.update.proofs.settled.Reads as reads
-use Rattle.update.proofs.settled.Lts as lts
 
 returns : tie.Need-returns
 returns c = record { number-is = refl; came = λ e. refl; refused = λ e. absurd (e (c .if1 .taken)) }

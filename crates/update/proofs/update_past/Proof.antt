@@ -8,13 +8,6 @@ use Rattle.update.proofs.OnTop.{update-top-ran, update-top-above}
 use borrow.Author.Needs.{needs}
 use Rattle.update.proofs.update_past.Statement.{statement}
 use Rattle.update.proofs.update_past.Tie as tie
-use Rattle.update.proofs.update_past.Reads as reads
-use Rattle.update.proofs.update_past.Lts as lts
-use Rattle.on_top.proofs.has_room.Reads as has-room-reads
-use Rattle.table.proofs.get_row.Reads as get-row-reads
-use Rattle.update.proofs.settled.Reads as settled-reads
-use Rattle.update.proofs.update_scratch.Reads as update-scratch-reads
-use Rattle.update.proofs.update_steps.Reads as update-steps-reads
 
 get-row-requires : tie.Need-get-row-requires
 get-row-requires c κs = search needs
@@ -77,7 +70,7 @@ returns c =
     let ls = update-steps .kept .1 .1 .0 in
     record {
       ran = rw (settled .ensures .number-is) (update-top-ran (d .well-formed) (d .above) rm x refl (start .pre .1 .0) e (start .pre .1 .1) lt ls);
-      above = update-top-above (d .well-formed) (d .above) rm x refl ls (settled .ensures);
+      above = update-top-above (d .well-formed) (d .above) rm x refl ls (omega arith) (settled .ensures);
     }
 
 update-scratch-requires : tie.Need-update-scratch-requires

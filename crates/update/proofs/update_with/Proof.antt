@@ -1,14 +1,10 @@
-use mathlib.Core.Path.{_≡_, refl, sym, _∙_}
+use mathlib.Core.Path.{sym, _∙_}
 use native.Mathlib.Omega.{arith}
 use Rattle.memory.specs.Laws.{valid-source}
 use Rattle.update.proofs.UpdateTests.{update-invalid, update-outside, update-asked, update-no-width, update-reversed}
 use borrow.Author.Needs.{needs}
 use Rattle.update.proofs.update_with.Statement.{statement}
 use Rattle.update.proofs.update_with.Tie as tie
-use Rattle.update.proofs.update_with.Reads as reads
-use Rattle.update.proofs.update_with.Lts as lts
-use Rattle.frame.proofs.between_both.Reads as between-both-reads
-use Rattle.update.proofs.update_past.Reads as update-past-reads
 
 valid-requires : tie.Need-valid-requires
 valid-requires c κs = search needs
