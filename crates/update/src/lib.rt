@@ -195,7 +195,17 @@ pub fn update_with(
             if end < start {
                 return Outcome { number: 4, used };
             }
-            return update_past(source, chunks, pieces, store, start, end, text, overwrite, used);
+            return update_past(
+                source,
+                chunks,
+                pieces,
+                store,
+                start,
+                end,
+                text,
+                overwrite,
+                used,
+            );
         }
         return Outcome { number: 3, used };
     }

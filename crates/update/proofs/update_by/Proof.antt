@@ -20,8 +20,7 @@ update-steps-requires c κs =
     let start = loaded .before .before .before .before .before .before .before .before .before .before .before .before .before .before .before in
     let w = start .pre .0 in
     let f = start .pre .1 .0 in
-    let y = loaded-roomy w (f .scratch) (loaded .load .ensures) in
-    (
+    let y = loaded-roomy w (f .scratch) (loaded .load .ensures) in (
       record { linked = y .linked; room = omega (arith, y .room); narrow = y .narrow },
       (w .sized .store, λ k. omega (arith, f .store, loaded .load .kept .1 .1 .1 .1 .1 .0, w .sized .store)),
     )

@@ -31,8 +31,7 @@ update-steps-requires c κs =
     let has-room = c .before .before .before .has-room in
     let if1 = c .before .before .if1 in
     let w = start .pre .0 .well-formed in
-    let rm = has-room .ensures .0 (if1 .taken) in
-    (
+    let rm = has-room .ensures .0 (if1 .taken) in (
       lent-roomy 2 w (omega (arith, rm .chunks, ap (λ (r : Row). r .start) (get-row .ensures), w .sized .some)),
       (omega (arith, start .pre .0 .above .byte, w .sized .store), λ _. rm .places),
     )
