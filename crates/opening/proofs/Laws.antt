@@ -18,7 +18,7 @@ use Rattle.model.specs.MagicString.{new}
 use Rattle.model.specs.Limits.{piece-count}
 use Rattle.model.specs.Call.{opened}
 use Rattle.memory.specs.Layout.{NONE, runOf, replacementOf, chunkOf, magicStringOf}
-use Rattle.memory.specs.WellFormed.{Sized, Full, ReplacementIn, RunsIn, EntryIn, Readable, pieceUses, runUses, byteUses, WellFormed}
+use Rattle.memory.specs.WellFormed.{limitsOf, Sized, Full, ReplacementIn, RunsIn, EntryIn, Readable, pieceUses, runUses, byteUses, WellFormed}
 use Rattle.memory.specs.Calls.{Opened}
 use Rattle.memory.specs.Laws.{sized-as, among-none, no-run, no-run-in, no-uses, desk-same, all-same}
 use Rattle.memory_used.specs.declared.Used.{Used}
@@ -200,37 +200,28 @@ module _ (t₀ t source p s : List ℕ) (f : Fresh t₀ t (length source)) where
       })
 
 -- ── the answers ──
-module _ (source t p s : List ℕ) (used : Used) where
-  pub refused-13 : 16384 < length source → OpenedWith source t p s t (record { number = 13; used = used })
-  unfolding opened
-  refused-13 h =
-      record {
-        number-is = rw (lt-leb (length source) 16384 h);
-        desk-is = λ e. absurd (omega arith);
-        desk = λ e. absurd (omega arith);
-        refused = λ e. refl;
-      }
+module _ (source t p s : List ℕ) {o : Outcome} where
+  refused-with : (o .number ≡ 0 → ⊥) → o .number ≡ opened (limitsOf t p s) source (new []) .number → OpenedWith source t p s t o
+  refused-with h e = record { number-is = e; desk-is = λ z. absurd (h z); desk = λ z. absurd (h z); refused = λ _. refl }
 
-  pub refused-1 : length source ≤ 16384 → utf8 source ≡ false → OpenedWith source t p s t (record { number = 1; used = used })
+  pub refused-13 : o .number ≡ 13 → 16384 < length source → OpenedWith source t p s t o
   unfolding opened
-  refused-1 h u =
-      record {
-        number-is = rw (le-leb (length source) 16384 h, u);
-        desk-is = λ e. absurd (omega arith);
-        desk = λ e. absurd (omega arith);
-        refused = λ e. refl;
-      }
+  refused-13 e h = refused-with (λ z. omega arith) (rw (lt-leb (length source) 16384 h) e)
 
-  pub opened-0 : (t′ : List ℕ) → Sized t p s → length source ≤ 16384 → utf8 source ≡ true → Fresh t t′ (length source) → used .pieces ≤ length p / 4 → used .row * 2 ≤ length p → used .byte ≤ length s
-      → OpenedWith source t p s t′ (record { number = 0; used = used })
+  pub refused-1 : o .number ≡ 1 → length source ≤ 16384 → utf8 source ≡ false → OpenedWith source t p s t o
   unfolding opened
-  opened-0 t′ z h u f few row byte =
+  refused-1 e h u = refused-with (λ z. omega arith) (rw (le-leb (length source) 16384 h, u) e)
+
+  pub opened-0 : (t′ : List ℕ) → o .number ≡ 0 → Sized t p s → length source ≤ 16384 → utf8 source ≡ true → Fresh t t′ (length source)
+      → o .used .pieces ≤ length p / 4 → o .used .row * 2 ≤ length p → o .used .byte ≤ length s → OpenedWith source t p s t′ o
+  unfolding opened
+  opened-0 t′ e z h u f few row byte =
       let z′ : Sized t′ p s = sized-as (record { chunks = f .same; pieces = refl; store = refl }) z in
       record {
-        number-is = rw (le-leb (length source) 16384 h, u);
-        desk-is = λ e. fresh-desk t t′ source p s f;
-        desk = λ e. record { well-formed = fresh-formed t t′ source p s f z′ h u; above = fresh-above t t′ source p s f (z′ .some) used few row byte };
-        refused = λ e. absurd (e refl);
+        number-is = rw (le-leb (length source) 16384 h, u) e;
+        desk-is = λ _. fresh-desk t t′ source p s f;
+        desk = λ _. record { well-formed = fresh-formed t t′ source p s f z′ h u; above = fresh-above t t′ source p s f (z′ .some) (o .used) few row byte };
+        refused = λ n. absurd (n e);
       }
 
 -- ── in tables of the full sizes, or of others ──
