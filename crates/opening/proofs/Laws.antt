@@ -2,11 +2,12 @@
 use mathlib.Core.Path.{_≡_, refl, ap, sym, subst, _∙_}
 use mathlib.Core.Bool.{true, false}
 use mathlib.Core.List.{List, [], _∷_, map}
-use Prim.Native.Nat.{ℕ, zero, suc, _+_, _/_, _≤_, _<_}
+use Prim.Native.Nat.{ℕ, zero, suc, _+_, _*_, _/_, _≤_, _<_}
 use native.Mathlib.Omega.{arith}
 use borrow.Author.Tests.{le-leb, lt-leb}
-use lib.ListN.{length}
+use lib.ListN.{length, take}
 use Rattle.utf8.specs.Rfc3629.{utf8, between}
+use Rattle.utf8.specs.Chars.{nil, cons}
 use Rattle.utf8.specs.Boundaries.{between-zero, between-past}
 use Rattle.table.specs.declared.Row.{Row}
 use Rattle.table.specs.Table.{rowAt, Put}
@@ -14,16 +15,21 @@ use Rattle.table.specs.Ring.{follow, ring-of}
 use Rattle.table.specs.Order.{Entry, entryOf, entryAt, nextOf, prevOf, countOf, order, Linked}
 use Rattle.model.specs.Chunk.{Chunk, new-chunk}
 use Rattle.model.specs.MagicString.{new}
+use Rattle.model.specs.Limits.{piece-count}
 use Rattle.model.specs.Call.{opened}
 use Rattle.memory.specs.Layout.{NONE, runOf, replacementOf, chunkOf, magicStringOf}
-use Rattle.memory.specs.WellFormed.{Sized, Full, Lengths, pieceUses, runUses, byteUses, WellFormed}
+use Rattle.memory.specs.WellFormed.{limitsOf, Sized, Full, ReplacementIn, RunsIn, EntryIn, Readable, pieceUses, runUses, byteUses, WellFormed}
 use Rattle.memory.specs.Calls.{Opened}
-use Rattle.memory.specs.Laws.{full-sized, sized-as, among-none, no-run, no-uses, desk-same, all-same}
+use Rattle.memory.specs.Laws.{sized-as, among-none, no-run, no-run-in, no-uses, desk-same, all-same}
+use Rattle.memory_used.specs.declared.Used.{Used}
+use Rattle.memory_used.specs.declared.Outcome.{Outcome}
+use Rattle.memory_used.specs.Above.{Above}
 use Rattle.counts.specs.Sums.{indicator-in}
 use Rattle.spans.specs.Spans.{Spans, Edged, Edges, startsOf, endsOf}
 use Rattle.marks.specs.Marks.{RowsIn, BothIn, RunsApart, pieceCount, pieceTotal, RunTexts, BothTexts, ReplacementText, EntryTexts, TextsApart}
 use Rattle.well_formed.specs.Bridge.{rows-formed}
 use Rattle.opening.specs.Fresh.{deskRow, chunkRow, Fresh}
+use Rattle.opening.specs.OpenedWith.{OpenedWith}
 
 -- two rows written one after the other
 pub fresh-of : {t t₁ t₂ : List ℕ} {len : ℕ} → Put t t₁ 0 deskRow → Put t₁ t₂ 1 (chunkRow len) → length t₁ ≡ length t → length t₂ ≡ length t₁ → Fresh t t₂ len
@@ -102,6 +108,30 @@ module _ (t₀ t source p s : List ℕ) (f : Fresh t₀ t (length source)) where
       (record { fwd = next-is; bwd = pc }, record { fwd = nc; bwd = pd }) ((omega arith, omega arith), tt) in
       record { ring = rw count-is (g .1); room = omega (arith, count-is) }
 
+  -- no row names a piece or a byte, so nothing more is asked of the tables
+  fresh-readable : (q k : List ℕ) → 24 ≤ length t → Readable t q k
+  unfolding ReplacementIn
+  fresh-readable q k h =
+      let none : (a e : ℕ) → EntryIn q k (bareEntry a e) =
+      λ a e. record { runs = record { intro = no-run-in q k 0; outro = no-run-in q k 0 }; replacement = λ n. absurd (n refl) } in
+      record {
+        linked = fresh-linked h;
+        desk = subst (RunsIn q k) (sym desk-entry) (none 1 0 .runs);
+        chunks = rw order-is (cons (subst (EntryIn q k) (sym chunk-entry) (none 0 (length source))) nil);
+      }
+
+  -- any bound inside the tables is one of what the desk uses
+  pub fresh-above : 24 ≤ length t → (l : Used) → l .pieces ≤ length p / 4 → l .row * 2 ≤ length p → l .byte ≤ length s → Above t p s l
+  unfolding magicStringOf
+  fresh-above h l few row byte =
+      record {
+        pieces = omega (arith, ap piece-count fresh-desk);
+        few = few;
+        readable = fresh-readable (take (l .row * 2) p) (take (l .byte) s) h;
+        row = row;
+        byte = byte;
+      }
+
   fresh-spans : Spans t 1 (length source)
   fresh-spans =
       let a : startsOf t 0 ≡ 0 = ap (λ (e : Entry). e .start) chunk-entry in
@@ -170,47 +200,47 @@ module _ (t₀ t source p s : List ℕ) (f : Fresh t₀ t (length source)) where
       })
 
 -- ── the answers ──
-module _ (source t p s : List ℕ) where
-  pub refused-2 : (Full t p s → ⊥) → Opened source t p s t p s 2
-  refused-2 h =
+module _ (source t p s : List ℕ) {o : Outcome} where
+  refused-with : (o .number ≡ 0 → ⊥) → o .number ≡ opened (limitsOf t p s) source (new []) .number → OpenedWith source t p s t o
+  refused-with h e = record { number-is = e; desk-is = λ z. absurd (h z); desk = λ z. absurd (h z); refused = λ _. refl }
+
+  pub refused-13 : o .number ≡ 13 → 16384 < length source → OpenedWith source t p s t o
+  unfolding opened
+  refused-13 e h = refused-with (λ z. omega arith) (rw (lt-leb (length source) 16384 h) e)
+
+  pub refused-1 : o .number ≡ 1 → length source ≤ 16384 → utf8 source ≡ false → OpenedWith source t p s t o
+  unfolding opened
+  refused-1 e h u = refused-with (λ z. omega arith) (rw (le-leb (length source) 16384 h, u) e)
+
+  pub opened-0 : (t′ : List ℕ) → o .number ≡ 0 → Sized t p s → length source ≤ 16384 → utf8 source ≡ true → Fresh t t′ (length source)
+      → o .used .pieces ≤ length p / 4 → o .used .row * 2 ≤ length p → o .used .byte ≤ length s → OpenedWith source t p s t′ o
+  unfolding opened
+  opened-0 t′ e z h u f few row byte =
+      let z′ : Sized t′ p s = sized-as (record { chunks = f .same; pieces = refl; store = refl }) z in
       record {
-        not-sized = λ x. refl;
-        number-is = λ z. absurd (h z);
-        desk-is = λ e. absurd (omega arith);
-        well-formed = λ e. absurd (omega arith);
-        refused = λ e. all-same t p s;
+        number-is = rw (le-leb (length source) 16384 h, u) e;
+        desk-is = λ _. fresh-desk t t′ source p s f;
+        desk = λ _. record { well-formed = fresh-formed t t′ source p s f z′ h u; above = fresh-above t t′ source p s f (z′ .some) (o .used) few row byte };
+        refused = λ n. absurd (n e);
       }
 
-  pub refused-13 : Full t p s → 16384 < length source → Opened source t p s t p s 13
-  unfolding opened
-  refused-13 z h =
-      record {
-        not-sized = λ x. absurd (x z);
-        number-is = λ x. rw (lt-leb (length source) 16384 h);
-        desk-is = λ e. absurd (omega arith);
-        well-formed = λ e. absurd (omega arith);
-        refused = λ e. all-same t p s;
-      }
+-- ── in tables of the full sizes, or of others ──
+pub others-2 : (source t p s : List ℕ) → (Full t p s → ⊥) → Opened source t p s t p s 2
+others-2 source t p s h =
+    record {
+      not-sized = λ x. refl;
+      number-is = λ z. absurd (h z);
+      desk-is = λ e. absurd (omega arith);
+      well-formed = λ e. absurd (omega arith);
+      refused = λ e. all-same t p s;
+    }
 
-  pub refused-1 : Full t p s → length source ≤ 16384 → utf8 source ≡ false → Opened source t p s t p s 1
-  unfolding opened
-  refused-1 z h u =
-      record {
-        not-sized = λ x. absurd (x z);
-        number-is = λ x. rw (le-leb (length source) 16384 h, u);
-        desk-is = λ e. absurd (omega arith);
-        well-formed = λ e. absurd (omega arith);
-        refused = λ e. all-same t p s;
-      }
-
-  pub opened-0 : (t′ : List ℕ) → Full t p s → length source ≤ 16384 → utf8 source ≡ true → Fresh t t′ (length source) → Opened source t p s t′ p s 0
-  unfolding opened
-  opened-0 t′ z h u f =
-      let z′ : Sized t′ p s = sized-as (record { chunks = f .same; pieces = refl; store = refl }) (full-sized z) in
-      record {
-        not-sized = λ x. absurd (x z);
-        number-is = λ x. rw (le-leb (length source) 16384 h, u);
-        desk-is = λ e. fresh-desk t t′ source p s f;
-        well-formed = λ e. fresh-formed t t′ source p s f z′ h u;
-        refused = λ e. absurd (e refl);
-      }
+pub opened-full : {source t p s t′ : List ℕ} {o : Outcome} → Full t p s → OpenedWith source t p s t′ o → Opened source t p s t′ p s (o .number)
+opened-full z w =
+    record {
+      not-sized = λ x. absurd (x z);
+      number-is = λ _. w .number-is;
+      desk-is = w .desk-is;
+      well-formed = λ e. w .desk e .well-formed;
+      refused = λ e. record { chunks = w .refused e; pieces = refl; store = refl };
+    }

@@ -1,9 +1,12 @@
 // Opening a desk: `MagicString::new` on lent memory.
-ghost use mathlib.Core.Path.{_≡_};
 ghost use Prim.Native.Nat.{_≤_};
 ghost use lib.ListN.{length};
+ghost use Rattle.memory.specs.WellFormed.{Sized};
 ghost use Rattle.memory.specs.Calls.{Opened};
-ghost use Rattle.opening.specs.Fresh.{deskRow, chunkRow, Fresh};
+ghost use Rattle.opening.specs.Fresh.{Fresh};
+ghost use Rattle.opening.specs.OpenedWith.{OpenedWith};
+use memory_used::Outcome;
+use memory_used::Used;
 
 // Writes the two rows of a desk as it is opened: one chunk over a source of len bytes.
 pub fn fresh(chunks: &mut [u32], len: u32)
@@ -48,7 +51,29 @@ pub fn fresh(chunks: &mut [u32], len: u32)
     );
 }
 
-// Opens a desk over the source, whatever the tables held: 2 for tables of other lengths, 13 for a source that is too long, 1 for one that is not UTF-8, else 0.
+// Opens a desk over the source in tables of any size that a desk may have, whatever they held: 13 for a source that is too long, 1 for one that is not UTF-8, else 0.
+// A new desk uses no piece and no byte of the store.
+pub fn open_with(source: &[u8], chunks: &mut [u32], pieces: &[u32], store: &[u8]) -> Outcome
+    requires { ⌜ Sized (now chunks) (now pieces) (now store) ⌝ }
+    ensures { λ o. ⌜ OpenedWith (now (source .entry)) (now (chunks .entry)) (now (pieces .entry)) (now (store .entry)) (now (chunks .exit)) o ⌝ }
+{
+    let used = Used {
+        pieces: 0,
+        row: 0,
+        byte: 0,
+    };
+    let len = source.len();
+    if len > 16384 {
+        return Outcome { number: 13, used };
+    }
+    if utf8::valid(source) {
+        fresh(chunks, len as u32);
+        return Outcome { number: 0, used };
+    }
+    Outcome { number: 1, used }
+}
+
+// The same in tables of the full sizes: 2 for any others.
 pub fn open(source: &[u8], chunks: &mut [u32], pieces: &mut [u32], store: &mut [u8]) -> u32
     ensures { λ r. ⌜ Opened (now (source .entry)) (now (chunks .entry)) (now (pieces .entry)) (now (store .entry)) (now (chunks .exit)) (now (pieces .exit)) (now (store .exit)) r ⌝ }
 {
@@ -61,13 +86,6 @@ pub fn open(source: &[u8], chunks: &mut [u32], pieces: &mut [u32], store: &mut [
     if store.len() != 32768 {
         return 2;
     }
-    let len = source.len();
-    if len > 16384 {
-        return 13;
-    }
-    if utf8::valid(source) {
-        fresh(chunks, len as u32);
-        return 0;
-    }
-    1
+    let o = open_with(source, chunks, pieces, store);
+    o.number
 }

@@ -1,1 +1,2 @@
 pub mod UpdateTests
+pub mod OnTop

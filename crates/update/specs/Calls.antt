@@ -1,49 +1,57 @@
 -- `update_with` as a call.
 use mathlib.Core.Path.{_≡_, refl, sym, ap, _∙_, subst}
-use mathlib.Core.Bool.{Bool, true, false, _&&_, cond}
-use mathlib.Core.List.{List, [], _∷_, _++_, map}
-use mathlib.Core.Logic.{_⊎_, inl, inr, ⊎-elim}
-use Prim.Native.Nat.{ℕ, _+_, _*_, _-_, _≤_, _<_}
+use mathlib.Core.Bool.{Bool, true, false, cond}
+use mathlib.Core.List.{List, [], _∷_, _++_}
+use mathlib.Core.Logic.{⊎-elim}
+use Prim.Native.Nat.{ℕ, _+_, _-_, _≤_, _<_}
 use native.Mathlib.Omega.{arith}
-use lib.Dec.{ltb}
-use lib.ListN.{length, drop, take, length-append, length-drop}
-use borrow.Author.Tests.{le-ltb, lt-ltb}
-use Rattle.table.specs.Order.{entries, countOf}
+use lib.Dec.{eqb}
+use lib.ListN.{length, drop}
+use borrow.Author.Tests.{ne-eqb, le-ltb, lt-ltb}
+use Rattle.table.specs.Order.{countOf}
 use Rattle.model.specs.MagicString.{MagicString, Result, ok, err, and-then, with-chunks, at-start}
 use Rattle.model.specs.Chunk.{edit}
 use Rattle.model.specs.Limits.{full, within}
 use Rattle.model.specs.Update.{update-chunks}
-use Rattle.model.specs.Call.{Edit, update-with, steps, refused-before}
+use Rattle.model.specs.Call.{update-with, steps, refused-before}
 use Rattle.memory.specs.Layout.{magicStringOf}
 use Rattle.memory.specs.WellFormed.{Readable, WellFormed}
 use Rattle.memory.specs.Calls.{may-write, idle, Ran}
 use Rattle.memory.specs.Laws.{source-of}
-use Rattle.texts.specs.Over.{over, take-over, over-behind}
-use Rattle.closed_forms.specs.SplitAt.{cuts-then}
+use Rattle.memory_used.specs.declared.Used.{Used}
+use Rattle.memory_used.specs.declared.Outcome.{Outcome}
+use Rattle.texts.specs.Over.{over, over-nil, over-behind}
 use Rattle.rows.specs.declared.Found.the-variants.{At, Nothing}
 use Rattle.rebuild.specs.Rebuilt.{Finished}
 use Rattle.frame.specs.Front.{desk-front}
 use Rattle.frame.specs.Loaded.{Loaded}
 use Rattle.frame.specs.Frame.{Scratch, Did, loaded-readable, loaded-desk, ran-finished, ran-past-limits, may-write-0, may-write-6, may-write-7}
-use Rattle.split.specs.Cuts.{Spans, CutsDone, CutsLeave, loaded-spans, stop}
+use Rattle.split.specs.Cuts.{Spans, CutsDone, loaded-spans, stop}
 use Rattle.insert_row.specs.Calls.{past-bytes}
 use Rattle.rows.specs.Insert.{Placed}
-use Rattle.uses.specs.Kept.{Kept, kept-then}
-use Rattle.update_rows.specs.Walk.{walkFrom, Walked}
+use Rattle.uses.specs.Kept.{kept-then}
+use Rattle.update_rows.specs.Walk.{Walked}
 use Rattle.update_rows.specs.Replaced.{Replaced, kept-replaced, replaced-then, walked-kept, walked-count, edited-replaced, edited-count}
 use Rattle.update_rows.specs.Steps.{update-step, update-past, update-is, FirstEdited, edit-readable, edit-desk, edited-big, walked-readable, walk-refused, walk-done}
 
--- all texts in use stand in s, the front of the store s1, and the new one goes to the byte behind it; y stands behind the pieces in use
+-- what the steps add to the store: the text where their number is 0, else nothing
+abbrev pub stored : ℕ → List ℕ → List ℕ
+stored r text = cond (eqb r 0) text []
+
+pub stored-none : (r : ℕ) (text : List ℕ) → (r ≡ 0 → ⊥) → stored r text ≡ []
+stored-none r text h = rw (ne-eqb r 0 h)
+
+-- all texts in use stand in s, and what is stored goes to the byte behind it; y and z stand behind all that is in use
 pub record UpdateSteps (a b : ℕ) (text : List ℕ) (o : Bool) (n at : ℕ) (t s1 t' s1' : List ℕ) (r : ℕ) : Type 0 where
-  pub leave : (r ≡ 13 → ⊥) → (source p s y z : List ℕ) → length source ≡ n → Readable t p s → Spans source t p s → s1 ≡ s ++ z → length s ≡ at
-      → Did (update-past a b text o) source t p s t' (p ++ y) s1' r
+  pub leave : (r ≡ 13 → ⊥) → (source p s y z : List ℕ) → length source ≡ n → Readable t p s → Spans source t p s → length s ≡ at
+      → Did (update-past a b text o) source t p s t' (p ++ y) (s ++ (stored r text ++ z)) r
   pub long : r ≡ 13 → (source p s : List ℕ) → length source ≡ n → Readable t p s → Spans source t p s
       → within full (update-past a b text o (magicStringOf source t p s) .desk) ≡ false
   pub writes : (r ≡ 13 → ⊥) → may-write (update-with a b text o) r ≡ true
   pub short : length text ≤ 32768 → r ≡ 13 → ⊥
   pub replaced : Replaced t t' (at, length text)
   pub count : countOf t' ≤ countOf t + 2
-  pub below : at ≤ length s1 → take at s1' ≡ take at s1
+  pub store : s1' ≡ over s1 at (stored r text)
 
 may-write-10 : (a b : ℕ) (text : List ℕ) (o : Bool) → may-write (update-with a b text o) 10 ≡ true
 unfolding may-write
@@ -53,25 +61,26 @@ busy : (a b : ℕ) (text : List ℕ) (o : Bool) → idle (update-with a b text o
 unfolding idle
 busy a b text o = refl
 
--- steps that leave the scratch store as it was
-kept : {f : MagicString → Result} {source t p s t' : List ℕ} {r : ℕ} (y z : List ℕ) {s1 : List ℕ} → s1 ≡ s ++ z → Did f source t p s t' p s r → Did f source t p s t' (p ++ y) s1 r
-kept {source = source} {p = p} {s = s} {t' = t'} {r = r} y z e d =
+-- steps that store nothing
+kept : {f : MagicString → Result} {source t p s t' : List ℕ} {r : ℕ} (y z : List ℕ) → Did f source t p s t' p s r → Did f source t p s t' (p ++ y) (s ++ z) r
+kept {source = source} {p = p} {s = s} {t' = t'} {r = r} y z d =
     let g = desk-front p s y z t' (d .readable) in
-    rw e (record { readable = g .0; result = d .result ∙ ap (err r) (sym (g .1 source)) })
+    record { readable = g .0; result = d .result ∙ ap (err r) (sym (g .1 source)) }
 
 module _ (a b : ℕ) (text : List ℕ) (o : Bool) (n at : ℕ) (t t1 s1 : List ℕ) (r : ℕ) (c : CutsDone (a ∷ b ∷ []) t t1 r) where
   pub update-refused : (r ≡ 0 → ⊥) → UpdateSteps a b text o n at t s1 t1 s1 r
   update-refused h =
       record {
-        leave = λ _ source p s y z ln rd sp e ls.
+        leave = λ _ source p s y z ln rd sp ls.
             let k = c .leave source p s rd sp in
-            kept y z e (record { readable = k .readable; result = k .result (update-step a b text o) ∙ stop r (magicStringOf source t1 p s) (update-step a b text o) h });
+            rw (stored-none r text h)
+            (kept y z (record { readable = k .readable; result = k .result (update-step a b text o) ∙ stop r (magicStringOf source t1 p s) (update-step a b text o) h }));
         long = λ z. absurd (⊎-elim {C = ⊥} (λ (w : r ≡ 0). h w) (λ (w : r ≡ 6). omega arith) (c .number));
         writes = λ _. ⊎-elim {C = may-write (update-with a b text o) r ≡ true} (λ (w : r ≡ 0). absurd (h w)) (λ (w : r ≡ 6). rw w (may-write-6 (update-with a b text o))) (c .number);
         short = λ _ z. ⊎-elim {C = ⊥} (λ (w : r ≡ 0). h w) (λ (w : r ≡ 6). omega arith) (c .number);
         replaced = kept-replaced (at, length text) (c .kept);
         count = c .count;
-        below = λ _. refl;
+        store = over-nil s1 at ∙ ap (over s1 at) (sym (stored-none r text h));
       }
 
   module _ (z0 : r ≡ 0) where
@@ -85,8 +94,8 @@ module _ (a b : ℕ) (text : List ℕ) (o : Bool) (n at : ℕ) (t t1 s1 : List �
     pub update-past-end : n < b → UpdateSteps a b text o n at t s1 t1 s1 10
     update-past-end h =
         record {
-          leave = λ _ source p s y z ln rd sp e ls.
-              kept y z e
+          leave = λ _ source p s y z ln rd sp ls.
+              kept y z
               (record {
                 readable = c .readable p s rd;
                 result = cut source p s rd sp ∙ rw (lt-ltb (length (magicStringOf source t1 p s .source)) b (omega (arith, size source p s ln)));
@@ -96,7 +105,7 @@ module _ (a b : ℕ) (text : List ℕ) (o : Bool) (n at : ℕ) (t t1 s1 : List �
           short = λ _ z. omega arith;
           replaced = kept-replaced (at, length text) (c .kept);
           count = c .count;
-          below = λ _. refl;
+          store = over-nil s1 at;
         }
 
     module _ (h : b ≤ n) where
@@ -106,9 +115,9 @@ module _ (a b : ℕ) (text : List ℕ) (o : Bool) (n at : ℕ) (t t1 s1 : List �
       pub update-broken : (t2 : List ℕ) → Walked a b t1 t2 Nothing → UpdateSteps a b text o n at t s1 t2 s1 7
       update-broken t2 d =
           record {
-            leave = λ _ source p s y z ln rd sp e ls.
+            leave = λ _ source p s y z ln rd sp ls.
                 let rd1 = c .readable p s rd in
-                kept y z e
+                kept y z
                 (record {
                   readable = walked-readable a b text o source p s t1 t2 rd1 d;
                   result = inside source p s ln rd sp ∙ walk-refused a b text o source p s t1 t2 rd1 d (d .ended);
@@ -118,7 +127,7 @@ module _ (a b : ℕ) (text : List ℕ) (o : Bool) (n at : ℕ) (t t1 s1 : List �
             short = λ _ z. omega arith;
             replaced = kept-replaced (at, length text) (kept-then (c .kept) (walked-kept d));
             count = omega (arith, c .count, walked-count d);
-            below = λ _. refl;
+            store = over-nil s1 at;
           }
 
       module _ (t2 : List ℕ) (i : ℕ) (d : Walked a b t1 t2 (At i)) where
@@ -137,32 +146,43 @@ module _ (a b : ℕ) (text : List ℕ) (o : Bool) (n at : ℕ) (t t1 s1 : List �
               short = λ k _. omega arith;
               replaced = kept-replaced (at, length text) (kept-then (c .kept) (walked-kept d));
               count = omega (arith, c .count, walked-count d);
-              below = λ _. refl;
+              store = over-nil s1 at;
             }
 
         pub update-done : (t3 s3 : List ℕ) → at ≤ 32768 → FirstEdited o at text t2 s1 t3 s3 i → length t3 ≡ length t2 → UpdateSteps a b text o n at t s1 t3 s3 0
         update-done t3 s3 few f len =
             record {
-              leave = λ _ source p s y z ln rd sp e ls.
+              leave = λ _ source p s y z ln rd sp ls.
                   let rd2 = walked-readable a b text o source p s t1 t2 (c .readable p s rd) d in
-                  let q : s3 ≡ s ++ (text ++ drop (length text) z) = f .store ∙ ap (λ (l : List ℕ). over l at text) e ∙ over-behind s z text at (sym ls) in
-                  rw q
-                  (record {
-                    readable = edit-readable a o at text p s y (drop (length text) z) t2 t3 i (f .row) (d .ended .1) rd2 few ls (f .edited) (f .put) len;
-                    result = came source p s ln rd sp ∙ ap ok (sym (edit-desk a o at text p s y (drop (length text) z) t2 t3 i (f .row) (d .ended .1) rd2 few ls (f .edited) (f .put) len source));
-                  });
+                  record {
+                    readable = edit-readable a o at text p s y z t2 t3 i (f .row) (d .ended .1) rd2 few ls (f .edited) (f .put) len;
+                    result = came source p s ln rd sp ∙ ap ok (sym (edit-desk a o at text p s y z t2 t3 i (f .row) (d .ended .1) rd2 few ls (f .edited) (f .put) len source));
+                  };
               long = λ z. absurd (omega arith);
               writes = λ _. may-write-0 (update-with a b text o) (busy a b text o);
               short = λ _ z. omega arith;
               replaced = replaced-then (kept-then (c .kept) (walked-kept d)) (edited-replaced first f (d .linked) len);
               count = omega (arith, c .count, walked-count d, edited-count first f (d .linked) len);
-              below = λ h. ap (take at) (f .store) ∙ take-over s1 at text h;
+              store = f .store;
             }
           where
             first : Placed t2 i
             first = let w = d .ended .1 in record { us = w .us; bs = w .bs; place = w .place }
 
+-- what they leave in a store that began with all texts in use
+pub steps-did : {a b : ℕ} {text : List ℕ} {o : Bool} {n at : ℕ} {t s1 t' s1' : List ℕ} {r : ℕ} → UpdateSteps a b text o n at t s1 t' s1' r → (r ≡ 13 → ⊥)
+    → (source p s y z : List ℕ) → length source ≡ n → Readable t p s → Spans source t p s → s1 ≡ s ++ z → length s ≡ at → Did (update-past a b text o) source t p s t' (p ++ y) s1' r
+steps-did {text = text} {at = at} {r = r} x k source p s y z ln rd sp e ls =
+    let q = x .store ∙ ap (λ (l : List ℕ). over l at (stored r text)) e ∙ over-behind s z (stored r text) at (sym ls) in
+    rw q (x .leave k source p s y (drop (length (stored r text)) z) ln rd sp ls)
+
 -- ── the call ──
+-- steps on the lent tables: their number, and a bound that ends behind a text that they stored
+pub record Settled (number : ℕ) (l : Used) (end : ℕ) (o : Outcome) : Type 0 where
+  pub number-is : o .number ≡ number
+  pub came : number ≡ 0 → o .used ≡ record { pieces = l .pieces; row = l .row; byte = end }
+  pub refused : (number ≡ 0 → ⊥) → o .used ≡ l
+
 pub record UpdateScratch (t p s : List ℕ) : Type 0 where
   pub scratch : Scratch t p s
   pub store : length s ≡ 65536
@@ -173,7 +193,7 @@ module _ {a b : ℕ} {text : List ℕ} {o : Bool} {n : ℕ} {source t p s t₀ p
   did : (r ≡ 13 → ⊥) → Did (update-past a b text o) source t1 p s t2 p1 s2 r
   did k =
       subst (λ (l : List ℕ). Did (update-past a b text o) source t1 p s t2 l s2 r) (sym (d .pieces))
-      (x .leave k source p s (drop (length p) p₀) (drop (length s) s₀) ln (loaded-readable w (f .scratch) d) (loaded-spans w (f .scratch) d) (d .store) refl)
+      (steps-did x k source p s (drop (length p) p₀) (drop (length s) s₀) ln (loaded-readable w (f .scratch) d) (loaded-spans w (f .scratch) d) (d .store) refl)
 
   pub update-readable : (r ≡ 13 → ⊥) → Readable t2 p1 s2
   update-readable k = did k .readable

@@ -5,9 +5,11 @@ ghost use lib.ListN.{length};
 ghost use Rattle.model.specs.Call.{update-with, refused-before};
 ghost use Rattle.memory.specs.Layout.{magicStringOf};
 ghost use Rattle.memory.specs.WellFormed.{WellFormed};
-ghost use Rattle.memory.specs.Calls.{Ran};
+ghost use Rattle.memory_used.specs.Above.{Desk, Leaves};
 ghost use Rattle.frame.specs.Frame.{Roomy};
-ghost use Rattle.update.specs.Calls.{UpdateSteps, UpdateScratch};
+ghost use Rattle.update.specs.Calls.{UpdateSteps, Settled, UpdateScratch};
+use memory_used::Outcome;
+use memory_used::Used;
 use rows::Found;
 
 // The steps past 5 and 4: two cuts, 10, the walk and its 7, and the edit, with the text at `byte`; 13 where the text alone is longer than the store.
@@ -56,20 +58,20 @@ fn update_by(
     end: u32,
     text: &[u8],
     overwrite: bool,
-) -> u32
+) -> Outcome
     requires { ⌜ WellFormed (now source) (now chunks) (now pieces) (now store) ⌝ }
     requires { ⌜ UpdateScratch (now t) (now p) (now s) ⌝ }
     requires { ⌜ start < end ⌝ }
     requires { ⌜ refused-before (magicStringOf (now source) (now chunks) (now pieces) (now store)) (update-with start end (now text) overwrite) ≡ 0 ⌝ }
-    ensures { λ r. ⌜ Ran (update-with start end (now (text .entry)) overwrite) (now (source .entry)) (now (chunks .entry)) (now (pieces .entry)) (now (store .entry))
-        (now (chunks .exit)) (now (pieces .exit)) (now (store .exit)) r ⌝ }
+    ensures { λ o. ⌜ Leaves (update-with start end (now (text .entry)) overwrite) (now (source .entry)) (now (chunks .entry)) (now (pieces .entry)) (now (store .entry))
+        (now (chunks .exit)) (now (pieces .exit)) (now (store .exit)) o ⌝ }
 {
     frame::load(chunks, pieces, store, t, p, s);
     let r = update_steps(text, t, s, source.len(), start, end, overwrite, store.len());
     if r == 13 {
-        return r;
+        return on_top::counted(chunks, pieces, store, r);
     }
-    frame::finish(t, p, s, chunks, pieces, store, r)
+    on_top::finish(t, p, s, chunks, pieces, store, r)
 }
 
 // The same with scratch tables of its own.
@@ -82,12 +84,12 @@ fn update_scratch(
     end: u32,
     text: &[u8],
     overwrite: bool,
-) -> u32
+) -> Outcome
     requires { ⌜ WellFormed (now source) (now chunks) (now pieces) (now store) ⌝ }
     requires { ⌜ start < end ⌝ }
     requires { ⌜ refused-before (magicStringOf (now source) (now chunks) (now pieces) (now store)) (update-with start end (now text) overwrite) ≡ 0 ⌝ }
-    ensures { λ r. ⌜ Ran (update-with start end (now (text .entry)) overwrite) (now (source .entry)) (now (chunks .entry)) (now (pieces .entry)) (now (store .entry))
-        (now (chunks .exit)) (now (pieces .exit)) (now (store .exit)) r ⌝ }
+    ensures { λ o. ⌜ Leaves (update-with start end (now (text .entry)) overwrite) (now (source .entry)) (now (chunks .entry)) (now (pieces .entry)) (now (store .entry))
+        (now (chunks .exit)) (now (pieces .exit)) (now (store .exit)) o ⌝ }
 {
     let rows = 6192usize;
     let words = 4096usize;
@@ -110,6 +112,23 @@ fn update_scratch(
     )
 }
 
+// The outcome of steps on the lent tables: a text that they stored ends at `end`.
+fn settled(number: u32, used: Used, end: usize) -> Outcome
+    ensures { λ o. ⌜ Settled number used end o ⌝ }
+{
+    if number == 0 {
+        return Outcome {
+            number,
+            used: Used {
+                pieces: used.pieces,
+                row: used.row,
+                byte: end,
+            },
+        };
+    }
+    Outcome { number, used }
+}
+
 // `update_with` past 5 and 4: on the lent tables themselves where 13 cannot arise and there is room above all texts in use; else on scratch tables.
 fn update_past(
     source: &[u8],
@@ -120,24 +139,24 @@ fn update_past(
     end: u32,
     text: &[u8],
     overwrite: bool,
-) -> u32
-    requires { ⌜ WellFormed (now source) (now chunks) (now pieces) (now store) ⌝ }
+    used: Used,
+) -> Outcome
+    requires { ⌜ Desk (now source) (now chunks) (now pieces) (now store) used ⌝ }
     requires { ⌜ start < end ⌝ }
     requires { ⌜ refused-before (magicStringOf (now source) (now chunks) (now pieces) (now store)) (update-with start end (now text) overwrite) ≡ 0 ⌝ }
-    ensures { λ r. ⌜ Ran (update-with start end (now (text .entry)) overwrite) (now (source .entry)) (now (chunks .entry)) (now (pieces .entry)) (now (store .entry))
-        (now (chunks .exit)) (now (pieces .exit)) (now (store .exit)) r ⌝ }
+    ensures { λ o. ⌜ Leaves (update-with start end (now (text .entry)) overwrite) (now (source .entry)) (now (chunks .entry)) (now (pieces .entry)) (now (store .entry))
+        (now (chunks .exit)) (now (pieces .exit)) (now (store .exit)) o ⌝ }
 {
-    let l = on_top::live(chunks, pieces, store);
     let z = table::get_row(chunks, 0);
     if on_top::has_room(
-        l,
+        used,
         z.start + 2,
         text.len(),
         chunks.len(),
         pieces.len(),
         store.len(),
     ) {
-        return update_steps(
+        let number = update_steps(
             text,
             chunks,
             store,
@@ -145,8 +164,9 @@ fn update_past(
             start,
             end,
             overwrite,
-            l.byte,
+            used.byte,
         );
+        return settled(number, used, used.byte + text.len());
     }
     update_scratch(source, chunks, pieces, store, start, end, text, overwrite)
 }
@@ -161,22 +181,33 @@ pub fn update_with(
     end: u32,
     text: &[u8],
     overwrite: bool,
-) -> u32
-    requires { ⌜ WellFormed (now source) (now chunks) (now pieces) (now store) ⌝ }
-    ensures { λ r. ⌜ Ran (update-with start end (now (text .entry)) overwrite) (now (source .entry)) (now (chunks .entry)) (now (pieces .entry)) (now (store .entry))
-        (now (chunks .exit)) (now (pieces .exit)) (now (store .exit)) r ⌝ }
+    used: Used,
+) -> Outcome
+    requires { ⌜ Desk (now source) (now chunks) (now pieces) (now store) used ⌝ }
+    ensures { λ o. ⌜ Leaves (update-with start end (now (text .entry)) overwrite) (now (source .entry)) (now (chunks .entry)) (now (pieces .entry)) (now (store .entry))
+        (now (chunks .exit)) (now (pieces .exit)) (now (store .exit)) o ⌝ }
 {
     if utf8::valid(text) {
         if frame::between_both(source, start, end) {
             if start == end {
-                return 5;
+                return Outcome { number: 5, used };
             }
             if end < start {
-                return 4;
+                return Outcome { number: 4, used };
             }
-            return update_past(source, chunks, pieces, store, start, end, text, overwrite);
+            return update_past(
+                source,
+                chunks,
+                pieces,
+                store,
+                start,
+                end,
+                text,
+                overwrite,
+                used,
+            );
         }
-        return 3;
+        return Outcome { number: 3, used };
     }
-    1
+    Outcome { number: 1, used }
 }

@@ -1,27 +1,35 @@
 use mathlib.Core.Path.{refl}
 use native.Mathlib.Omega.{arith}
 use Rattle.frame.specs.Frame.{loaded-roomy}
+use Rattle.on_top.proofs.Finishing.{formed-usable}
 use Rattle.update.specs.Calls.{update-readable, update-too-long, update-ran}
 use borrow.Author.Needs.{needs}
 use Rattle.update.proofs.update_by.Statement.{statement}
 use Rattle.update.proofs.update_by.Tie as tie
-use Rattle.update.proofs.update_by.Reads as reads
-use Rattle.update.proofs.update_by.Lts as lts
-use Rattle.frame.proofs.finish.Reads as finish-reads
-use Rattle.frame.proofs.load.Reads as load-reads
-use Rattle.update.proofs.update_steps.Reads as update-steps-reads
 
 load-requires : tie.Need-load-requires
 load-requires c κs =
     let start = c .before .before .before .before .before .before .before .before .before .before .before .before .before .before in
-    (omega (arith, start .pre .0 .sized .chunks, start .pre .1 .0 .scratch .chunks), omega (arith, start .pre .0 .sized .pieces, start .pre .1 .0 .scratch .pieces), omega (arith, start .pre .0 .sized .store, start .pre .1 .0 .store))
+    let w = start .pre .0 in
+    let f = start .pre .1 .0 in
+    (omega (arith, w .sized .chunks, f .scratch .chunks), omega (arith, w .sized .pieces, f .scratch .pieces), omega (arith, w .sized .store, f .store))
 
 update-steps-requires : tie.Need-update-steps-requires
 update-steps-requires c κs =
-    let start = c .before .before .before .before .before .before .before .before .before .before .before .before .before .before .before .before .before .before .before .before .before .before .before in
-    let load = c .before .before .before .before .before .before .before .before .load in
-    let y = loaded-roomy (start .pre .0) (start .pre .1 .0 .scratch) (load .ensures) in
-    (record { linked = y .linked; room = omega (arith, y .room); narrow = y .narrow }, (start .pre .0 .sized .store, λ k. omega (arith, start .pre .1 .0 .store, load .kept .1 .1 .1 .1 .1 .0, start .pre .0 .sized .store)))
+    let loaded = c .before .before .before .before .before .before .before .before in
+    let start = loaded .before .before .before .before .before .before .before .before .before .before .before .before .before .before .before in
+    let w = start .pre .0 in
+    let f = start .pre .1 .0 in
+    let y = loaded-roomy w (f .scratch) (loaded .load .ensures) in (
+      record { linked = y .linked; room = omega (arith, y .room); narrow = y .narrow },
+      (w .sized .store, λ k. omega (arith, f .store, loaded .load .kept .1 .1 .1 .1 .1 .0, w .sized .store)),
+    )
+
+counted-requires : tie.Need-counted-requires
+counted-requires c κs =
+    let loaded = c .before .before .before .before .before .before .before .before .before .before .before .before .before .before .before .before .before in
+    let start = loaded .before .before .before .before .before .before .before .before .before .before .before .before .before .before .before in
+    formed-usable (start .pre .0)
 
 same-length : tie.Need-same-length
 same-length c = search needs
@@ -43,19 +51,27 @@ same-length-6 c = search needs
 
 returns : tie.Need-returns
 returns c =
-    let start = c .before .before .before .before .before .before .before .before .before .before .before .before .before .before .before .before .before .before .before .before .before .before .before .before .before .before .before .before .before in
-    let load = c .before .before .before .before .before .before .before .before .before .before .before .before .before .before .load in
-    let update-steps = c .before .before .before .before .before .update-steps in
-    let if1 = c .if1 in
-    rw (if1 .taken) (update-too-long (start .pre .1 .1 .0) (start .pre .0) (start .pre .1 .1 .1) (start .pre .1 .0) (load .ensures) (update-steps .ensures) refl (if1 .taken))
+    let counted = c .counted in
+    let if1 = c .before .before .before .before .if1 in
+    let stepped = c .before .before .before .before .before .before .before .before .before in
+    let loaded = stepped .before .before .before .before .before .before .before .before .before in
+    let start = loaded .before .before .before .before .before .before .before .before .before .before .before .before .before .before .before in
+    let w = start .pre .0 in
+    let x = start .pre .1 in
+    record {
+      ran = rw (counted .ensures .0, if1 .taken) (update-too-long (x .1 .0) w (x .1 .1) (x .0) (loaded .load .ensures) (stepped .update-steps .ensures) refl (if1 .taken));
+      above = counted .ensures .1;
+    }
 
 finish-requires : tie.Need-finish-requires
 finish-requires c κs =
-    let start = c .before .before .before .before .before .before .before .before .before .before .before .before .before .before .before .before .before .before .before .before .before .before .before .before .before .before .before .before .before .before .before .before .before .before .before in
-    let load = c .before .before .before .before .before .before .before .before .before .before .before .before .before .before .before .before .before .before .before .before .load in
-    let update-steps = c .before .before .before .before .before .before .before .before .before .before .before .update-steps in
     let if1 = c .before .before .before .before .before .before .if1 in
-    (update-readable (start .pre .1 .1 .0) (start .pre .0) (start .pre .1 .1 .1) (start .pre .1 .0) (load .ensures) (update-steps .ensures) refl (if1 .left), start .pre .0 .sized)
+    let stepped = c .before .before .before .before .before .before .before .before .before .before .before in
+    let loaded = stepped .before .before .before .before .before .before .before .before .before in
+    let start = loaded .before .before .before .before .before .before .before .before .before .before .before .before .before .before .before in
+    let w = start .pre .0 in
+    let x = start .pre .1 in
+    (update-readable (x .1 .0) w (x .1 .1) (x .0) (loaded .load .ensures) (stepped .update-steps .ensures) refl (if1 .left), formed-usable w)
 
 same-length-7 : tie.Need-same-length-7
 same-length-7 c = search needs
@@ -77,12 +93,17 @@ same-length-12 c = search needs
 
 returns-2 : tie.Need-returns-2
 returns-2 c =
-    let start = c .before .before .before .before .before .before .before .before .before .before .before .before .before .before .before .before .before .before .before .before .before .before .before .before .before .before .before .before .before .before .before .before .before .before .before .before .before .before .before .before .before .before in
-    let load = c .before .before .before .before .before .before .before .before .before .before .before .before .before .before .before .before .before .before .before .before .before .before .before .before .before .before .before .load in
-    let update-steps = c .before .before .before .before .before .before .before .before .before .before .before .before .before .before .before .before .before .before .update-steps in
-    let if1 = c .before .before .before .before .before .before .before .before .before .before .before .before .before .if1 in
     let finish = c .before .before .before .before .before .before .finish in
-    update-ran (start .pre .1 .1 .0) (start .pre .0) (start .pre .1 .1 .1) (start .pre .1 .0) (load .ensures) (update-steps .ensures) refl (if1 .left) (finish .ensures)
+    let if1 = c .before .before .before .before .before .before .before .before .before .before .before .before .before .if1 in
+    let stepped = c .before .before .before .before .before .before .before .before .before .before .before .before .before .before .before .before .before .before in
+    let loaded = stepped .before .before .before .before .before .before .before .before .before in
+    let start = loaded .before .before .before .before .before .before .before .before .before .before .before .before .before .before .before in
+    let w = start .pre .0 in
+    let x = start .pre .1 in
+    record {
+      ran = update-ran (x .1 .0) w (x .1 .1) (x .0) (loaded .load .ensures) (stepped .update-steps .ensures) refl (if1 .left) (finish .ensures .0);
+      above = finish .ensures .1;
+    }
 
 pub update-by-spec : {M : Type 1} → statement M
 update-by-spec =
@@ -90,6 +111,7 @@ update-by-spec =
     (tie.spec
     load-requires
     update-steps-requires
+    counted-requires
     same-length
     same-length-2
     same-length-3

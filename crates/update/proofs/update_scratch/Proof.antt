@@ -4,9 +4,6 @@ use Rattle.frame.specs.Frame.{zeros-length, zeros-at}
 use borrow.Author.Needs.{needs}
 use Rattle.update.proofs.update_scratch.Statement.{statement}
 use Rattle.update.proofs.update_scratch.Tie as tie
-use Rattle.update.proofs.update_scratch.Reads as reads
-use Rattle.update.proofs.update_scratch.Lts as lts
-use Rattle.update.proofs.update_by.Reads as update-by-reads
 
 array-borrow-prefix-t : tie.Need-array-borrow-prefix-t
 array-borrow-prefix-t c = search needs

@@ -1,4 +1,4 @@
-use mathlib.Core.Path.{_≡_, refl, sym, ap, _∙_, subst}
+use mathlib.Core.Path.{subst}
 use native.Mathlib.Omega.{arith}
 use Rattle.table.specs.Order.{inside-at}
 use Rattle.update_rows.specs.Walk.{Walked}
@@ -6,11 +6,6 @@ use Rattle.update.specs.Calls.{update-refused, update-past-end, update-b
 use borrow.Author.Needs.{needs}
 use Rattle.update.proofs.update_steps.Statement.{statement}
 use Rattle.update.proofs.update_steps.Tie as tie
-use Rattle.update.proofs.update_steps.Reads as reads
-use Rattle.update.proofs.update_steps.Lts as lts
-use Rattle.split.proofs.split_both.Reads as split-both-reads
-use Rattle.update_rows.proofs.edit_first.Reads as edit-first-reads
-use Rattle.update_rows.proofs.update_walk.Reads as update-walk-reads
 
 split-both-requires : tie.Need-split-both-requires
 split-both-requires c κs = search needs

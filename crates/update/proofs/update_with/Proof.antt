@@ -1,14 +1,10 @@
-use mathlib.Core.Path.{_≡_, refl, sym, _∙_}
+use mathlib.Core.Path.{sym, _∙_}
 use native.Mathlib.Omega.{arith}
 use Rattle.memory.specs.Laws.{valid-source}
 use Rattle.update.proofs.UpdateTests.{update-invalid, update-outside, update-asked, update-no-width, update-reversed}
 use borrow.Author.Needs.{needs}
 use Rattle.update.proofs.update_with.Statement.{statement}
 use Rattle.update.proofs.update_with.Tie as tie
-use Rattle.update.proofs.update_with.Reads as reads
-use Rattle.update.proofs.update_with.Lts as lts
-use Rattle.frame.proofs.between_both.Reads as between-both-reads
-use Rattle.update.proofs.update_past.Reads as update-past-reads
 
 valid-requires : tie.Need-valid-requires
 valid-requires c κs = search needs
@@ -16,7 +12,7 @@ valid-requires c κs = search needs
 between-both-requires : tie.Need-between-both-requires
 between-both-requires c κs =
     let start = c .before .before .before .before .before .before .before in
-    valid-source (start .pre)
+    valid-source (start .pre .well-formed)
 
 returns : tie.Need-returns
 returns c =
@@ -26,7 +22,7 @@ returns c =
     let between-both = c .before .before .between-both in
     let if2 = c .before .if2 in
     let if3 = c .if3 in
-    update-no-width _ _ _ _ (start .pre) (sym (valid .ensures) ∙ if1 .taken) (sym (between-both .ensures) ∙ if2 .taken) (if3 .taken)
+    record { ran = update-no-width _ _ _ _ (start .pre .well-formed) (sym (valid .ensures) ∙ if1 .taken) (sym (between-both .ensures) ∙ if2 .taken) (if3 .taken); above = start .pre .above }
 
 returns-2 : tie.Need-returns-2
 returns-2 c =
@@ -36,7 +32,7 @@ returns-2 c =
     let between-both = c .before .before .before .between-both in
     let if2 = c .before .before .if2 in
     let if4 = c .if4 in
-    update-reversed _ _ _ _ (start .pre) (sym (valid .ensures) ∙ if1 .taken) (sym (between-both .ensures) ∙ if2 .taken) (if4 .taken)
+    record { ran = update-reversed _ _ _ _ (start .pre .well-formed) (sym (valid .ensures) ∙ if1 .taken) (sym (between-both .ensures) ∙ if2 .taken) (if4 .taken); above = start .pre .above }
 
 update-past-requires : tie.Need-update-past-requires
 update-past-requires c κs =
@@ -47,7 +43,7 @@ update-past-requires c κs =
     let if1 = c .before .before .before .before .before .before .before .if1 in
     let between-both = c .before .before .before .before .before .before .between-both in
     let if2 = c .before .before .before .before .before .if2 in
-    (start .pre, (omega (arith, if3 .left, if4 .left), update-asked _ _ _ _ (start .pre) (sym (valid .ensures) ∙ if1 .taken) (sym (between-both .ensures) ∙ if2 .taken)))
+    (start .pre, (omega (arith, if3 .left, if4 .left), update-asked _ _ _ _ (start .pre .well-formed) (sym (valid .ensures) ∙ if1 .taken) (sym (between-both .ensures) ∙ if2 .taken)))
 
 same-length : tie.Need-same-length
 same-length c = search needs
@@ -68,14 +64,14 @@ returns-4 c =
     let if1 = c .before .before .if1 in
     let between-both = c .before .between-both in
     let if2 = c .if2 in
-    update-outside _ _ _ _ (start .pre) (sym (valid .ensures) ∙ if1 .taken) (sym (between-both .ensures) ∙ if2 .left)
+    record { ran = update-outside _ _ _ _ (start .pre .well-formed) (sym (valid .ensures) ∙ if1 .taken) (sym (between-both .ensures) ∙ if2 .left); above = start .pre .above }
 
 returns-5 : tie.Need-returns-5
 returns-5 c =
     let start = c .before .before .before .before .before .before .before in
     let valid = c .before .valid in
     let if1 = c .if1 in
-    update-invalid _ _ _ _ (start .pre) (sym (valid .ensures) ∙ if1 .left)
+    record { ran = update-invalid _ _ _ _ (start .pre .well-formed) (sym (valid .ensures) ∙ if1 .left); above = start .pre .above }
 
 pub update-with-spec : {M : Type 1} → statement M
 update-with-spec =
