@@ -13,7 +13,7 @@ use Rattle.table.specs.Order.{Entry, entries, countOf}
 use Rattle.model.specs.Chunk.{Chunk, Texts, bare}
 use Rattle.model.specs.MagicString.{ok, err, and-then, with-chunks}
 use Rattle.model.specs.Movement.{change-by-position, change-range}
-use Rattle.model.specs.Call.{Edit, steps, refused-before}
+use Rattle.model.specs.Call.{Edit, steps, refused-before, may-change}
 use Rattle.model.specs.Lists.{first-of, bool-elim}
 use Rattle.memory.specs.Layout.{NONE, replacementOf, chunkOf, magicStringOf}
 use Rattle.memory.specs.WellFormed.{ReplacementIn, EntryIn, Readable, WellFormed}
@@ -30,7 +30,7 @@ use Rattle.uses.specs.Kept.{Kept, kept-then}
 use Rattle.uses.specs.Steps.{clear-kept}
 use Rattle.rebuild.specs.Rebuilt.{Finished}
 use Rattle.frame.specs.Loaded.{Loaded}
-use Rattle.frame.specs.Frame.{Scratch, Did, did-loaded, loaded-readable, with-scratch, ran-finished, may-write-0, may-write-6}
+use Rattle.frame.specs.Frame.{Scratch, Did, did-loaded, loaded-readable, with-scratch, ran-finished, may-write-0, may-write-leaving}
 use Rattle.in_place.specs.InPlace.{ran-rows, above-kept}
 use Rattle.split.specs.Lift.{Reordered, still-readable, with-entries}
 use Rattle.split.specs.Cuts.{Spans, CutsDone, cuts-spans, formed-spans, loaded-spans, stop}
@@ -134,19 +134,19 @@ range-done a b v t t1 t2 r ab mk d z c =
 abbrev pub RangeRan : ℕ → ℕ → ℕ → List ℕ → List ℕ → List ℕ → List ℕ → List ℕ → List ℕ → List ℕ → ℕ → Type 0
 RangeRan a b v source t p s t' p' s' r =
     (e : Edit) → refused-before (magicStringOf source t p s) e ≡ 0
-    → steps e (magicStringOf source t p s) ≡ change-range (cleared-to v) a b (magicStringOf source t p s) → idle e ≡ false
+    → steps e (magicStringOf source t p s) ≡ change-range (cleared-to v) a b (magicStringOf source t p s) → idle e ≡ false → may-change e 6 ≡ true
     → Ran e source t p s t' p' s' r
 
 -- which answers may write
-range-writes : {a b v : ℕ} {t t' : List ℕ} {r : ℕ} → RangeDone a b v t t' r → (e : Edit) → idle e ≡ false → may-write e r ≡ true
-range-writes {r = r} x e i = ⊎-elim {C = may-write e r ≡ true} (λ (z : r ≡ 0). rw z (may-write-0 e i)) (λ (z : r ≡ 6). rw z (may-write-6 e)) (x .number)
+range-writes : {a b v : ℕ} {t t' : List ℕ} {r : ℕ} → RangeDone a b v t t' r → (e : Edit) → idle e ≡ false → may-change e 6 ≡ true → may-write e r ≡ true
+range-writes {r = r} x e i j = ⊎-elim {C = may-write e r ≡ true} (λ (z : r ≡ 0). rw z (may-write-0 e i)) (λ (z : r ≡ 6). rw z (may-write-leaving e 5 j)) (x .number)
 
 -- on the lent rows themselves, where there is room for two chunks more
 pub range-in-place : {a b v : ℕ} {source t p s t' : List ℕ} {r : ℕ} → WellFormed source t p s → RangeDone a b v t t' r → length t' ≡ length t
     → RangeRan a b v source t p s t' p s r
-range-in-place {source = source} {p = p} {s = s} w x len e h q i =
+range-in-place {source = source} {p = p} {s = s} w x len e h q i j =
     let g = x .leave source p s (w .readable) (formed-spans w) in
-    ran-rows w h (record { readable = g .readable; result = q ∙ g .result }) (range-writes x e i) len (x .kept)
+    ran-rows w h (record { readable = g .readable; result = q ∙ g .result }) (range-writes x e i j) len (x .kept)
 
 -- the bound of what the desk uses stays
 pub range-above : {a b v : ℕ} {t p s t' : List ℕ} {r : ℕ} {l : Used} → RangeDone a b v t t' r → Above t p s l → Above t' p s l
@@ -155,9 +155,9 @@ range-above x h = above-kept (x .kept) (x .readable _ _ (h .readable)) h
 -- on scratch rows
 pub range-ran : {a b v : ℕ} {source t p s t₀ p₀ s₀ t1 p1 s1 t2 t' p' s' : List ℕ} {r r' : ℕ} → WellFormed source t p s → Scratch t₀ p₀ s₀ → Loaded t p s t₀ p₀ s₀ t1 p1 s1
     → RangeDone a b v t1 t2 r → Finished t2 p1 s1 t p s t' p' s' r r' → RangeRan a b v source t p s t' p' s' r'
-range-ran {source = source} {p = p} {s = s} w f d x y e h q i =
+range-ran {source = source} {p = p} {s = s} w f d x y e h q i j =
     let g = did-loaded w f d (x .leave source p s (loaded-readable w f d) (loaded-spans w f d)) in
-    ran-finished w h (record { readable = g .readable; result = q ∙ g .result }) (range-writes x e i) y
+    ran-finished w h (record { readable = g .readable; result = q ∙ g .result }) (range-writes x e i j) y
 
 pub range-readable : {a b v : ℕ} {source t p s t₀ p₀ s₀ t1 p1 s1 t2 : List ℕ} {r : ℕ} → WellFormed source t p s → Scratch t₀ p₀ s₀ → Loaded t p s t₀ p₀ s₀ t1 p1 s1
     → RangeDone a b v t1 t2 r → Readable t2 p1 s1

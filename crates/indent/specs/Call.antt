@@ -131,7 +131,7 @@ module _ {source t p s : List ℕ} (w : WellFormed source t p s) where
     -- the guess
     pub none-ran : all (between source) exclude ≡ true → (indentor : Text) → indentor ≡ get-indent-string source → {t' p' s' : List ℕ} {r : ℕ}
         → IndentRan indentor exclude source t p s t' p' s' r → Ran (indent-with none exclude) source t p s t' p' s' r
-    unfolding idle indent-rs.indent-with
+    unfolding indent-rs.indent-with
     none-ran k indentor g f =
         f (indent-with none exclude) (not-refused (indent-with none exclude) source t p s o refl k)
         (ap (λ (x : Text). indent-by x exclude (magicStringOf source t p s)) (ap get-indent-string (source-of source t p s) ∙ sym g)) refl
@@ -152,7 +152,7 @@ module _ {source t p s : List ℕ} (w : WellFormed source t p s) where
 
       pub given-ran : utf8 indentor ≡ true → all (between source) exclude ≡ true → (length indentor ≡ 0 → ⊥) → {t' p' s' : List ℕ} {r : ℕ}
           → IndentRan indentor exclude source t p s t' p' s' r → Ran (indent-with (some indentor) exclude) source t p s t' p' s' r
-      unfolding idle indent-rs.indent-with
+      unfolding indent-rs.indent-with
       given-ran h k z f =
           f (indent-with (some indentor) exclude) (not-refused (indent-with (some indentor) exclude) source t p s o (rw h) k)
           (ap (λ (b : Bool). cond b (ok (magicStringOf source t p s)) (indent-by indentor exclude (magicStringOf source t p s))) (nil-false indentor z)) (nil-false indentor z)

@@ -6,7 +6,8 @@ use mathlib.Core.List.{List, [], _++_}
 use lib.Dec.{eqb}
 use lib.ListN.{length, drop}
 use Rattle.model.specs.MagicString.{MagicString, Result, new}
-use Rattle.model.specs.Call.{Edit, Report, Shown, idle, may-change, run, show, opened}
+use Rattle.model.specs.Call.{Edit, Report, Shown, may-change, run, show, opened}
+pub use Rattle.model.specs.Call.{idle}
 use Rattle.memory.specs.Layout.{magicStringOf}
 use Rattle.memory.specs.WellFormed.{limitsOf, Full, Lengths, WellFormed, Taken}
 

@@ -30,7 +30,6 @@ unfolding movement-rs.remove
 steps-range a b m h = rw (ne-eqb a b (λ e. omega arith), le-ltb b a (omega arith))
 
 busy : (a b : ℕ) → a < b → idle (remove a b) ≡ false
-unfolding idle
 busy a b h = ne-eqb a b (λ e. omega arith)
 
 module _ {source t p s : List ℕ} (a b : ℕ) (w : WellFormed source t p s) where
@@ -45,4 +44,4 @@ module _ {source t p s : List ℕ} (a b : ℕ) (w : WellFormed source t p s) whe
     remove-reversed e = ran-same (remove a b) source t p s 4 w (not-refused (remove a b) source t p s refl refl h) (steps-reversed a b (magicStringOf source t p s) e)
 
     pub remove-range : a < b → {t' p' s' : List ℕ} {r : ℕ} → RangeRan a b 0 source t p s t' p' s' r → Ran (remove a b) source t p s t' p' s' r
-    remove-range e f = f (remove a b) (not-refused (remove a b) source t p s refl refl h) (steps-range a b (magicStringOf source t p s) e) (busy a b e)
+    remove-range e f = f (remove a b) (not-refused (remove a b) source t p s refl refl h) (steps-range a b (magicStringOf source t p s) e) (busy a b e) refl

@@ -23,7 +23,7 @@ use Rattle.memory_used.specs.Above.{Above}
 use Rattle.closed_forms.specs.SplitAt.{cuts-then}
 use Rattle.rebuild.specs.Rebuilt.{Finished}
 use Rattle.frame.specs.Loaded.{Loaded}
-use Rattle.frame.specs.Frame.{Scratch, Did, did-loaded, loaded-readable, ran-before, ran-same, ran-finished, refused-3, not-refused, may-write-0, may-write-6, may-write-9}
+use Rattle.frame.specs.Frame.{Scratch, Did, did-loaded, loaded-readable, ran-before, ran-same, ran-finished, refused-3, not-refused, may-write-0, may-write-leaving}
 use Rattle.in_place.specs.InPlace.{ran-rows, above-kept}
 use Rattle.split.specs.Cuts.{formed-spans, loaded-spans}
 use Rattle.relocate_rows.specs.Relocated.{Spanned, Movable, move-step, RelocateDone}
@@ -53,13 +53,12 @@ module _ (a b to : ℕ) (m : MagicString) where
     steps-move e l = rw (h, ne-eqb a b (λ z. omega arith), le-ltb b a (omega arith), le-ltb (length (m .source)) b l)
 
 busy : (a b to : ℕ) → a < b → idle (relocate a b to) ≡ false
-unfolding idle
 busy a b to h = ne-eqb a b (λ e. omega arith)
 
 writes : (a b to r : ℕ) → a < b → (r ≡ 0) ⊎ ((r ≡ 6) ⊎ (r ≡ 9)) → may-write (relocate a b to) r ≡ true
 writes a b to r h (inl z) = rw z (may-write-0 (relocate a b to) (busy a b to h))
-writes a b to r h (inr (inl z)) = rw z (may-write-6 (relocate a b to))
-writes a b to r h (inr (inr z)) = rw z (may-write-9 (relocate a b to))
+writes a b to r h (inr (inl z)) = rw z (may-write-leaving (relocate a b to) 5 refl)
+writes a b to r h (inr (inr z)) = rw z (may-write-leaving (relocate a b to) 8 refl)
 
 -- ── past the tests, on the lent rows ──
 module _ {a b to : ℕ} {source t p s : List ℕ} (w : WellFormed source t p s) (k : Tested a b to source t p s) where

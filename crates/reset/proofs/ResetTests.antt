@@ -36,7 +36,6 @@ unfolding reset-rs.reset
 steps-range a b m h k = rw (ne-eqb a b (λ e. omega arith), le-ltb b a (omega arith), le-ltb (length (m .source)) b k)
 
 busy : (a b : ℕ) → a < b → idle (reset a b) ≡ false
-unfolding idle
 busy a b h = ne-eqb a b (λ e. omega arith)
 
 module _ {source t p s : List ℕ} (a b : ℕ) (w : WellFormed source t p s) where
@@ -57,4 +56,4 @@ module _ {source t p s : List ℕ} (a b : ℕ) (w : WellFormed source t p s) whe
     reset-past e k = ran-same (reset a b) source t p s 10 w (not-refused (reset a b) source t p s refl refl h) (steps-past a b (magicStringOf source t p s) e (omega (arith, size)))
 
     pub reset-range : a < b → b ≤ length source → {t' p' s' : List ℕ} {r : ℕ} → RangeRan a b NONE source t p s t' p' s' r → Ran (reset a b) source t p s t' p' s' r
-    reset-range e k f = f (reset a b) (not-refused (reset a b) source t p s refl refl h) (steps-range a b (magicStringOf source t p s) e (omega (arith, size))) (busy a b e)
+    reset-range e k f = f (reset a b) (not-refused (reset a b) source t p s refl refl h) (steps-range a b (magicStringOf source t p s) e (omega (arith, size))) (busy a b e) refl

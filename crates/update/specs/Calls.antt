@@ -25,7 +25,7 @@ use Rattle.rows.specs.declared.Found.the-variants.{At, Nothing}
 use Rattle.rebuild.specs.Rebuilt.{Finished}
 use Rattle.frame.specs.Front.{desk-front}
 use Rattle.frame.specs.Loaded.{Loaded}
-use Rattle.frame.specs.Frame.{Scratch, Did, loaded-readable, loaded-desk, ran-finished, ran-past-limits, may-write-0, may-write-6, may-write-7}
+use Rattle.frame.specs.Frame.{Scratch, Did, loaded-readable, loaded-desk, ran-finished, ran-past-limits, may-write-0, may-write-leaving}
 use Rattle.split.specs.Cuts.{Spans, CutsDone, loaded-spans, stop}
 use Rattle.insert_row.specs.Calls.{past-bytes}
 use Rattle.rows.specs.Insert.{Placed}
@@ -58,7 +58,6 @@ unfolding may-write
 may-write-10 a b text o = refl
 
 busy : (a b : ℕ) (text : List ℕ) (o : Bool) → idle (update-with a b text o) ≡ false
-unfolding idle
 busy a b text o = refl
 
 -- steps that store nothing
@@ -76,7 +75,7 @@ module _ (a b : ℕ) (text : List ℕ) (o : Bool) (n at : ℕ) (t t1 s1 : List �
             rw (stored-none r text h)
             (kept y z (record { readable = k .readable; result = k .result (update-step a b text o) ∙ stop r (magicStringOf source t1 p s) (update-step a b text o) h }));
         long = λ z. absurd (⊎-elim {C = ⊥} (λ (w : r ≡ 0). h w) (λ (w : r ≡ 6). omega arith) (c .number));
-        writes = λ _. ⊎-elim {C = may-write (update-with a b text o) r ≡ true} (λ (w : r ≡ 0). absurd (h w)) (λ (w : r ≡ 6). rw w (may-write-6 (update-with a b text o))) (c .number);
+        writes = λ _. ⊎-elim {C = may-write (update-with a b text o) r ≡ true} (λ (w : r ≡ 0). absurd (h w)) (λ (w : r ≡ 6). rw w (may-write-leaving (update-with a b text o) 5 refl)) (c .number);
         short = λ _ z. ⊎-elim {C = ⊥} (λ (w : r ≡ 0). h w) (λ (w : r ≡ 6). omega arith) (c .number);
         replaced = kept-replaced (at, length text) (c .kept);
         count = c .count;
@@ -123,7 +122,7 @@ module _ (a b : ℕ) (text : List ℕ) (o : Bool) (n at : ℕ) (t t1 s1 : List �
                   result = inside source p s ln rd sp ∙ walk-refused a b text o source p s t1 t2 rd1 d (d .ended);
                 });
             long = λ z. absurd (omega arith);
-            writes = λ _. may-write-7 (update-with a b text o);
+            writes = λ _. may-write-leaving (update-with a b text o) 6 refl;
             short = λ _ z. omega arith;
             replaced = kept-replaced (at, length text) (kept-then (c .kept) (walked-kept d));
             count = omega (arith, c .count, walked-count d);

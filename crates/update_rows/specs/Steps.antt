@@ -39,7 +39,7 @@ use Rattle.rows.specs.Split.{RowSet, row-set, entries-at}
 use Rattle.rebuild.specs.Rebuilt.{Finished}
 use Rattle.frame.specs.Front.{bool-elim, desk-same, run-in-front, run-front, text-in-front, text-front, entries-front, chunks-front, desk-front}
 use Rattle.frame.specs.Loaded.{Loaded}
-use Rattle.frame.specs.Frame.{Scratch, Did, loaded-readable, loaded-desk, ran-finished, ran-past-limits, may-write-0, may-write-6, may-write-7}
+use Rattle.frame.specs.Frame.{Scratch, Did, loaded-readable, loaded-desk, ran-finished, ran-past-limits, may-write-0, may-write-leaving}
 use Rattle.split.specs.Lift.{Reordered, still-readable, with-entries}
 use Rattle.split.specs.Cuts.{Spans, CutsDone, CutsLeave, loaded-spans}
 use Rattle.update_rows.specs.Walk.{RunWalk, onto, emptied, runs, walkFrom, Walked}
