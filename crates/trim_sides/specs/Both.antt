@@ -25,6 +25,15 @@ pub record SidesReady (source t p s : List ℕ) (top byte : ℕ) : Type 0 where
   pub ready : SideReady source t p s top (deskPieces source t p s) byte
   pub room : (top + deskPieces source t p s + deskPieces source t p s) * 2 ≤ length p
 
+-- room for more pieces serves
+pub sides-ready : {source t p s : List ℕ} {top wide byte : ℕ} → SideReady source t p s top wide byte → (top + wide + wide) * 2 ≤ length p → SidesReady source t p s top byte
+unfolding deskPieces
+sides-ready h room =
+    record {
+      ready = record { low = h .low; formed = h .formed; few = omega arith; rows = omega (arith, h .few, h .rows); narrow = h .narrow; bytes = h .bytes; small = h .small };
+      room = omega (arith, h .few, room);
+    }
+
 -- the row and the byte are behind all that the desk uses
 pub record SidesTrimmed (both front : Bool) (pattern : ℕ) (source t p s t' p' s' : List ℕ) (row byte : ℕ) : Type 0 where
   pub low : DeskLow t' p' row byte
