@@ -1,15 +1,14 @@
 -- The walk of a trim along the chunk list, from its first row on or from its last one back: blank chunks are cleared until one stops the trim.
 -- Assumes nothing.
 use mathlib.Core.Path.{_≡_, refl, sym, ap, ap₂, _∙_, subst}
-use mathlib.Core.Bool.{Bool, true, false, cond}
+use mathlib.Core.Bool.{Bool, true, false}
 use mathlib.Core.List.{List, [], _∷_, _++_, map, map-append, map-map, reverse, reverse-cons, reverse-append, reverse-reverse, append-assoc, append-nil}
-use Prim.Native.Nat.{ℕ, zero, suc, _+_, _*_, _-_, _≤_, _<_}
+use Prim.Native.Nat.{ℕ, _+_, _*_, _≤_, _<_}
 use native.Mathlib.Omega.{arith}
-use native.Mathlib.Decide.{ℕ-discrete}
-use lib.ListN.{length, length-append, length-reverse}
+use lib.ListN.{length, length-reverse}
 use Rattle.utf8.specs.Chars.{All}
 use Rattle.table.specs.declared.Row.{Row}
-use Rattle.table.specs.Ring.{Each, each-append, each-left, each-right, each-map, Not, follow, length-follow, Edge, Links, links-left, links-right}
+use Rattle.table.specs.Ring.{Each, each-append, each-left, each-right, each-map, Not, length-follow, Edge, Links, links-left, links-right}
 use Rattle.table.specs.Table.{rowAt, Put}
 use Rattle.table.specs.Order.{Entry, entryOf, entryAt, entries, order, nextOf, prevOf, countOf, Linked, put-keep, same-links, inside-at, others}
 use Rattle.model.specs.Text.{sum}
@@ -22,7 +21,7 @@ use Rattle.trim_row.specs.Sides.{trim-chunk}
 use Rattle.trim_row.specs.Plain.{plainOf, Behind}
 use Rattle.trim_row.specs.RunEnds.{RunsTo, RunsBehind}
 use Rattle.trim_row.proofs.RunEnds.{runs-to, runs-low}
-use Rattle.trim_row.specs.Row.{clearOf, blankRow, Rewritten, RowReady, RowFits, RowTrimmed, RowDone, piecesOf, row-blank, clear-low, clear-spent, clear-fewer}
+use Rattle.trim_row.specs.Row.{clearOf, blankRow, Rewritten, RowReady, RowFits, RowDone, piecesOf, row-blank, clear-low, clear-spent, clear-fewer}
 use Rattle.trim_row.specs.Uses.{Fewer, RowApart, same-fewer}
 use Rattle.trim_chunks.specs.Apart.{ChunksApart, all-apart, one-apart}
 use Rattle.trim_chunks.specs.Sums.{way, each-sum, but-one, entries-sum}

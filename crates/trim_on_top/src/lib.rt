@@ -58,6 +58,16 @@ pub fn trim_on_top(
 {
     let row = l.row as u32;
     let byte = l.byte as u32;
-    let ends = trim_sides::trim_sides(source, chunks, pieces, store, row, byte, both, front, pattern);
+    let ends = trim_sides::trim_sides(
+        source,
+        chunks,
+        pieces,
+        store,
+        row,
+        byte,
+        both,
+        front,
+        pattern,
+    );
     trimmed(l.pieces, ends.row, ends.byte)
 }

@@ -1,6 +1,6 @@
 -- Runs below a row end at or before it, and lie below every row at or before which they end.
 use mathlib.Core.List.{List}
-use Prim.Native.Nat.{ℕ, zero, suc, _+_, _-_, _≤_, _<_}
+use Prim.Native.Nat.{ℕ, _-_, _≤_}
 use native.Mathlib.Omega.{arith}
 use Rattle.table.specs.Order.{Entry}
 use Rattle.memory.specs.Layout.{Place}

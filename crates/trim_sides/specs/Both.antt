@@ -16,7 +16,6 @@ use Rattle.memory.specs.Laws.{source-of}
 use Rattle.counts.specs.Once.{linked-once}
 use Rattle.preservation.specs.Desk.{FormedOf}
 use Rattle.trim_run.specs.Low.{DeskLow, desk-in}
-use Rattle.trim_row.specs.Plain.{plain-bytes}
 use Rattle.trim_sides.specs.Model.{trim-sides, side-keeps, side-pieces}
 use Rattle.trim_sides.specs.Side.{deskPieces, SideReady, SideTrimmed}
 

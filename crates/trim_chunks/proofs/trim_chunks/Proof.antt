@@ -1,5 +1,3 @@
-use mathlib.Core.Path.{_≡_, refl, sym, ap, _∙_}
-use native.Mathlib.Omega.{arith}
 use Rattle.trim_chunks.specs.Walk.{chunkRows, ready-each, all-blank, stop-row, stop-ready, ends-short, one-stops}
 use borrow.Author.Needs.{needs}
 use Rattle.trim_chunks.proofs.trim_chunks.Statement.{statement}

@@ -1,5 +1,4 @@
 use native.Mathlib.Omega.{arith}
-use borrow.Author.Needs.{needs}
 use Rattle.trim_row.proofs.text_behind.Statement.{statement}
 use Rattle.trim_row.proofs.text_behind.Tie as tie
 

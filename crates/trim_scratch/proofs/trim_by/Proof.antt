@@ -18,7 +18,8 @@ trim-sides-requires c κs =
 finish-requires : tie.Need-finish-requires
 finish-requires c κs =
     let sides = c .before .before .before .before .before .before .before .before .before .before .before .before in
-    let start = sides .before .before .before .before .before .before .before .before .before .before .before .before .before .before .before .before .before .before .before .before .before .before .before .before in
+    let load = sides .before .before .before .before .before .before .before .before .before .before in
+    let start = load .before .before .before .before .before .before .before .before .before .before .before .before .before .before in
     (trimmed-readable (sides .trim-sides .ensures), formed-usable (start .pre .0))
 
 same-length : tie.Need-same-length
