@@ -1,7 +1,8 @@
-// trim.rs: `trim`, `trim_start`, `trim_end` and `trim_lines`.
+// trim.rs: `trim`, `trim_start`, `trim_end` and `trim_lines`. Each is told what the desk uses, and hands back what the desk that it leaves uses.
 ghost use Rattle.model.specs.Call.{trim, trim-start, trim-end, trim-lines};
-ghost use Rattle.memory.specs.WellFormed.{WellFormed};
-ghost use Rattle.memory.specs.Calls.{Ran};
+ghost use Rattle.memory_used.specs.Above.{Desk, Leaves};
+use memory_used::Outcome;
+use memory_used::Used;
 
 // `trim_start`: 15 for a pattern above 1; the head, then the chunks from the first on.
 pub fn trim_start(
@@ -10,15 +11,16 @@ pub fn trim_start(
     pieces: &mut [u32],
     store: &mut [u8],
     pattern: u32,
-) -> u32
-    requires { ⌜ WellFormed (now source) (now chunks) (now pieces) (now store) ⌝ }
-    ensures { λ r. ⌜ Ran (trim-start pattern) (now (source .entry)) (now (chunks .entry)) (now (pieces .entry)) (now (store .entry))
-        (now (chunks .exit)) (now (pieces .exit)) (now (store .exit)) r ⌝ }
+    used: Used,
+) -> Outcome
+    requires { ⌜ Desk (now source) (now chunks) (now pieces) (now store) used ⌝ }
+    ensures { λ o. ⌜ Leaves (trim-start pattern) (now (source .entry)) (now (chunks .entry)) (now (pieces .entry)) (now (store .entry))
+        (now (chunks .exit)) (now (pieces .exit)) (now (store .exit)) o ⌝ }
 {
     if pattern > 1 {
-        return 15;
+        return Outcome { number: 15, used };
     }
-    trim_call::trim_with(source, chunks, pieces, store, false, true, pattern)
+    trim_call::trim_with(source, chunks, pieces, store, false, true, pattern, used)
 }
 
 // `trim_end`: 15 for a pattern above 1; the tail, then the chunks from the last on.
@@ -28,15 +30,16 @@ pub fn trim_end(
     pieces: &mut [u32],
     store: &mut [u8],
     pattern: u32,
-) -> u32
-    requires { ⌜ WellFormed (now source) (now chunks) (now pieces) (now store) ⌝ }
-    ensures { λ r. ⌜ Ran (trim-end pattern) (now (source .entry)) (now (chunks .entry)) (now (pieces .entry)) (now (store .entry))
-        (now (chunks .exit)) (now (pieces .exit)) (now (store .exit)) r ⌝ }
+    used: Used,
+) -> Outcome
+    requires { ⌜ Desk (now source) (now chunks) (now pieces) (now store) used ⌝ }
+    ensures { λ o. ⌜ Leaves (trim-end pattern) (now (source .entry)) (now (chunks .entry)) (now (pieces .entry)) (now (store .entry))
+        (now (chunks .exit)) (now (pieces .exit)) (now (store .exit)) o ⌝ }
 {
     if pattern > 1 {
-        return 15;
+        return Outcome { number: 15, used };
     }
-    trim_call::trim_with(source, chunks, pieces, store, false, false, pattern)
+    trim_call::trim_with(source, chunks, pieces, store, false, false, pattern, used)
 }
 
 // `trim`: 15 for a pattern above 1; the start, then the end.
@@ -46,22 +49,29 @@ pub fn trim(
     pieces: &mut [u32],
     store: &mut [u8],
     pattern: u32,
-) -> u32
-    requires { ⌜ WellFormed (now source) (now chunks) (now pieces) (now store) ⌝ }
-    ensures { λ r. ⌜ Ran (trim pattern) (now (source .entry)) (now (chunks .entry)) (now (pieces .entry)) (now (store .entry))
-        (now (chunks .exit)) (now (pieces .exit)) (now (store .exit)) r ⌝ }
+    used: Used,
+) -> Outcome
+    requires { ⌜ Desk (now source) (now chunks) (now pieces) (now store) used ⌝ }
+    ensures { λ o. ⌜ Leaves (trim pattern) (now (source .entry)) (now (chunks .entry)) (now (pieces .entry)) (now (store .entry))
+        (now (chunks .exit)) (now (pieces .exit)) (now (store .exit)) o ⌝ }
 {
     if pattern > 1 {
-        return 15;
+        return Outcome { number: 15, used };
     }
-    trim_call::trim_with(source, chunks, pieces, store, true, true, pattern)
+    trim_call::trim_with(source, chunks, pieces, store, true, true, pattern, used)
 }
 
 // `trim_lines`: line ends, from both sides.
-pub fn trim_lines(source: &[u8], chunks: &mut [u32], pieces: &mut [u32], store: &mut [u8]) -> u32
-    requires { ⌜ WellFormed (now source) (now chunks) (now pieces) (now store) ⌝ }
-    ensures { λ r. ⌜ Ran trim-lines (now (source .entry)) (now (chunks .entry)) (now (pieces .entry)) (now (store .entry))
-        (now (chunks .exit)) (now (pieces .exit)) (now (store .exit)) r ⌝ }
+pub fn trim_lines(
+    source: &[u8],
+    chunks: &mut [u32],
+    pieces: &mut [u32],
+    store: &mut [u8],
+    used: Used,
+) -> Outcome
+    requires { ⌜ Desk (now source) (now chunks) (now pieces) (now store) used ⌝ }
+    ensures { λ o. ⌜ Leaves trim-lines (now (source .entry)) (now (chunks .entry)) (now (pieces .entry)) (now (store .entry))
+        (now (chunks .exit)) (now (pieces .exit)) (now (store .exit)) o ⌝ }
 {
-    trim_call::trim_with(source, chunks, pieces, store, true, true, 1)
+    trim_call::trim_with(source, chunks, pieces, store, true, true, 1, used)
 }

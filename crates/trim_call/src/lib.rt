@@ -1,8 +1,10 @@
 // What the trims of trim.rs share as calls, past their test of the pattern.
-ghost use Rattle.memory.specs.WellFormed.{WellFormed};
+ghost use Rattle.memory_used.specs.Above.{Above, Desk};
 ghost use Rattle.trim_scratch.specs.Call.{TrimRan};
+use memory_used::Outcome;
+use memory_used::Used;
 
-// On the lent tables themselves where 13 cannot arise and there is room above all that is in use; else on scratch tables.
+// On the lent tables themselves where there is room above all that is in use; else on scratch tables.
 pub fn trim_with(
     source: &[u8],
     chunks: &mut [u32],
@@ -11,14 +13,15 @@ pub fn trim_with(
     both: bool,
     front: bool,
     pattern: u32,
-) -> u32
-    requires { ⌜ WellFormed (now source) (now chunks) (now pieces) (now store) ⌝ }
-    ensures { λ r. ⌜ TrimRan both front pattern (now (source .entry)) (now (chunks .entry)) (now (pieces .entry)) (now (store .entry))
-        (now (chunks .exit)) (now (pieces .exit)) (now (store .exit)) r ⌝ }
+    used: Used,
+) -> Outcome
+    requires { ⌜ Desk (now source) (now chunks) (now pieces) (now store) used ⌝ }
+    ensures { λ o. ⌜ TrimRan both front pattern (now (source .entry)) (now (chunks .entry)) (now (pieces .entry)) (now (store .entry))
+        (now (chunks .exit)) (now (pieces .exit)) (now (store .exit)) (o .number)
+        × Above (now (chunks .exit)) (now (pieces .exit)) (now (store .exit)) (o .used) ⌝ }
 {
-    let l = on_top::live(chunks, pieces, store);
-    if trim_on_top::has_room(l, source.len(), pieces.len(), store.len()) {
-        return trim_on_top::trim_on_top(source, chunks, pieces, store, l, both, front, pattern);
+    if trim_on_top::has_room(used, source.len(), pieces.len(), store.len()) {
+        return trim_on_top::trim_on_top(source, chunks, pieces, store, both, front, pattern, used);
     }
     trim_scratch::trim_scratch(source, chunks, pieces, store, both, front, pattern)
 }

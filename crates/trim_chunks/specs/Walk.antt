@@ -1,15 +1,14 @@
 -- The walk of a trim along the chunk list, from its first row on or from its last one back: blank chunks are cleared until one stops the trim.
 -- Assumes nothing.
 use mathlib.Core.Path.{_≡_, refl, sym, ap, ap₂, _∙_, subst}
-use mathlib.Core.Bool.{Bool, true, false, cond}
+use mathlib.Core.Bool.{Bool, true, false}
 use mathlib.Core.List.{List, [], _∷_, _++_, map, map-append, map-map, reverse, reverse-cons, reverse-append, reverse-reverse, append-assoc, append-nil}
-use Prim.Native.Nat.{ℕ, zero, suc, _+_, _*_, _-_, _≤_, _<_}
+use Prim.Native.Nat.{ℕ, _+_, _*_, _≤_, _<_}
 use native.Mathlib.Omega.{arith}
-use native.Mathlib.Decide.{ℕ-discrete}
-use lib.ListN.{length, length-append, length-reverse}
+use lib.ListN.{length, length-reverse}
 use Rattle.utf8.specs.Chars.{All}
 use Rattle.table.specs.declared.Row.{Row}
-use Rattle.table.specs.Ring.{Each, each-append, each-left, each-right, each-map, Not, follow, length-follow, Edge, Links, links-left, links-right}
+use Rattle.table.specs.Ring.{Each, each-append, each-left, each-right, each-map, Not, length-follow, Edge, Links, links-left, links-right}
 use Rattle.table.specs.Table.{rowAt, Put}
 use Rattle.table.specs.Order.{Entry, entryOf, entryAt, entries, order, nextOf, prevOf, countOf, Linked, put-keep, same-links, inside-at, others}
 use Rattle.model.specs.Text.{sum}
@@ -20,7 +19,9 @@ use Rattle.memory.specs.Laws.{each-all}
 use Rattle.trim_run.specs.Low.{RowsKept, BytesKept, rows-same, bytes-same, TextLow, EntryLow, entry-same, runs-still, entry-still}
 use Rattle.trim_row.specs.Sides.{trim-chunk}
 use Rattle.trim_row.specs.Plain.{plainOf, Behind}
-use Rattle.trim_row.specs.Row.{clearOf, blankRow, Rewritten, RowReady, RowFits, RowTrimmed, RowDone, piecesOf, row-blank, clear-low, clear-spent, clear-fewer}
+use Rattle.trim_row.specs.RunEnds.{RunsTo, RunsBehind}
+use Rattle.trim_row.proofs.RunEnds.{runs-to, runs-low}
+use Rattle.trim_row.specs.Row.{clearOf, blankRow, Rewritten, RowReady, RowFits, RowDone, piecesOf, row-blank, clear-low, clear-spent, clear-fewer}
 use Rattle.trim_row.specs.Uses.{Fewer, RowApart, same-fewer}
 use Rattle.trim_chunks.specs.Apart.{ChunksApart, all-apart, one-apart}
 use Rattle.trim_chunks.specs.Sums.{way, each-sum, but-one, entries-sum}
@@ -244,16 +245,18 @@ pub record ChunksReady (source p s : List ℕ) (top wide byte : ℕ) (t : List �
 abbrev pub chunkRows : List ℕ → ℕ
 chunkRows t = sum piecesOf (entries t)
 
--- the byte b is behind all that the chunks use; what it lies further on is no longer plain
-pub record ChunksTrimmed (front : Bool) (pattern : ℕ) (source p s : List ℕ) (top wide byte : ℕ) (t p' s' t' : List ℕ) (b : ℕ) : Type 0 where
+-- the row and the byte b are behind all that the chunks use; what b lies further on is no longer plain
+pub record ChunksTrimmed (front : Bool) (pattern : ℕ) (source p s : List ℕ) (top wide byte : ℕ) (t p' s' t' : List ℕ) (row b : ℕ) : Type 0 where
   pub linked : Linked t'
   pub place : order t' ≡ order t
   pub desk : rowAt t' 0 ≡ rowAt t 0
   pub len : length t' ≡ length t
   pub rows : RowsKept top p p'
   pub bytes : BytesKept byte s s'
+  pub first : top ≤ row
+  pub most : row ≤ top + wide
   pub least : byte ≤ b
-  pub low : All (EntryLow p' (top + wide) b) (entries t')
+  pub low : All (EntryLow p' row b) (entries t')
   pub spent : b + sum plainOf (entries t') ≤ byte + sum plainOf (entries t)
   pub apart : ChunksApart p p' top byte t t'
   pub chunks : map (chunkOf p' s') (entries t') ≡ way front (trim-chunks (trim-chunk front pattern source) (way front (map (chunkOf p s) (entries t))))
@@ -299,7 +302,7 @@ module _ (front : Bool) (pattern : ℕ) (source p s : List ℕ) (top wide byte :
       same-links t t' (λ x. nx x ∙ w .at .next x) (λ x. pv x ∙ w .at .prev x) (ap (λ (r : Row). r .start) (d ∙ w .at .desk)) (m ∙ w .at .len) (ready .linked)
 
   -- what is the same for the cleared rows whether a row stops the walk or not
-  module _ (t' p' s' : List ℕ) (kp : RowsKept top p p') (ks : BytesKept byte s s') (b : ℕ) (kb : byte ≤ b) where
+  module _ (t' p' s' : List ℕ) (kp : RowsKept top p p') (ks : BytesKept byte s s') (row : ℕ) (kr : top ≤ row) (b : ℕ) (kb : byte ≤ b) where
     Clear : ℕ → Type 0
     Clear x = entryAt t' x ≡ clearOf (entryAt t x)
 
@@ -316,14 +319,14 @@ module _ (front : Bool) (pattern : ℕ) (source p s : List ℕ) (top wide byte :
     )
 
     Low : ℕ → Type 0
-    Low x = EntryLow p' (top + wide) b (entryAt t' x)
+    Low x = EntryLow p' row b (entryAt t' x)
 
     cleared-low : (xs : List ℕ) → Each (ReadyAt source p s top wide byte t) xs → Each Clear xs → Each Low xs
     unfolding Clear Low
     cleared-low [] r c = tt
     cleared-low (x ∷ xs) r c = (
-      subst (EntryLow p' (top + wide) b) (sym (c .0))
-          (entry-still top byte p p' kp (top + wide) b (omega arith) kb (clearOf (entryAt t x)) (clear-low p top byte (entryAt t x) (r .0 .1 .0 .low))),
+      subst (EntryLow p' row b) (sym (c .0))
+          (entry-still top byte p p' kp row b kr kb (clearOf (entryAt t x)) (clear-low p top byte (entryAt t x) (r .0 .1 .0 .low))),
       cleared-low xs (r .1) (c .1),
     )
 
@@ -352,8 +355,8 @@ module _ (front : Bool) (pattern : ℕ) (source p s : List ℕ) (top wide byte :
     unfolding Same Low
     stays-low [] r c = tt
     stays-low (x ∷ xs) r c = (
-      subst (EntryLow p' (top + wide) b) (sym (c .0))
-          (entry-still top byte p p' kp (top + wide) b (omega arith) kb (entryAt t x) (r .0 .1 .0 .low)),
+      subst (EntryLow p' row b) (sym (c .0))
+          (entry-still top byte p p' kp row b kr kb (entryAt t x) (r .0 .1 .0 .low)),
       stays-low xs (r .1) (c .1),
     )
 
@@ -369,7 +372,7 @@ module _ (front : Bool) (pattern : ℕ) (source p s : List ℕ) (top wide byte :
 
     -- from the rows in the direction of the trim to the table
     together : order t' ≡ order t → Each Low (way front (order t)) → trim-chunks (trim-chunk front pattern source) (map (λ x. chunkOf p s (entryAt t x)) (way front (order t))) ≡ map (λ x. chunkOf p' s' (entryAt t' x)) (way front (order t))
-        → All (EntryLow p' (top + wide) b) (entries t') × (map (chunkOf p' s') (entries t') ≡ way front (trim-chunks (trim-chunk front pattern source) (way front (map (chunkOf p s) (entries t)))))
+        → All (EntryLow p' row b) (entries t') × (map (chunkOf p' s') (entries t') ≡ way front (trim-chunks (trim-chunk front pattern source) (way front (map (chunkOf p s) (entries t)))))
     unfolding Low
     together o h e = (
       each-all (entryAt t') (order t') (subst (Each Low) (sym o) (subst (Each Low) (way-way front (order t)) (each-way front Low (way front (order t)) h))),
@@ -382,19 +385,20 @@ module _ (front : Bool) (pattern : ℕ) (source p s : List ℕ) (top wide byte :
   sums t' o f = (entries-sum front f t, entries-sum front f t' ∙ ap (λ (m : List ℕ). sum (λ x. f (entryAt t' x)) (way front m)) o)
 
   -- every chunk is blank
-  pub all-blank : i ≡ 0 → ChunksTrimmed front pattern source p s top wide byte t p s t1 byte
+  pub all-blank : i ≡ 0 → ChunksTrimmed front pattern source p s top wide byte t p s t1 top byte
   unfolding Clear Goes-on Low Goes Spent
   all-blank z =
       let kp = rows-same top p in
       let ks = bytes-same byte s in
+      let kr : top ≤ top = omega arith in
       let kb : byte ≤ byte = omega arith in
       let q : way front (order t) ≡ us = w .at .place ∙ ap (λ (m : List ℕ). us ++ m) (w .ended z) ∙ append-nil us in
       let o = same-order t1 (λ x. refl) (λ x. refl) refl refl in
-      let g = cleared t1 p s kp ks byte kb us ready-us (w .at .blanks) (w .at .done) in
-      let x = together t1 p s kp ks byte kb (o .0) (rw q (cleared-low t1 p s kp ks byte kb us ready-us (w .at .done)))
+      let g = cleared t1 p s kp ks top kr byte kb us ready-us (w .at .blanks) (w .at .done) in
+      let x = together t1 p s kp ks top kr byte kb (o .0) (rw q (cleared-low t1 p s kp ks top kr byte kb us ready-us (w .at .done)))
       (rw q (trim-all (trim-chunk front pattern source) (λ x. chunkOf p s (entryAt t x)) (λ x. chunkOf p s (entryAt t1 x)) us g)) in
       let e = sums t1 (o .0) plainOf in
-      let c = each-sum (λ x. plainOf (entryAt t1 x)) (λ x. plainOf (entryAt t x)) (way front (order t)) (rw q (cleared-spent t1 p s kp ks byte kb us (w .at .done))) in
+      let c = each-sum (λ x. plainOf (entryAt t1 x)) (λ x. plainOf (entryAt t x)) (way front (order t)) (rw q (cleared-spent t1 p s kp ks top kr byte kb us (w .at .done))) in
       record {
         linked = o .1;
         place = o .0;
@@ -402,10 +406,12 @@ module _ (front : Bool) (pattern : ℕ) (source p s : List ℕ) (top wide byte :
         len = w .at .len;
         rows = kp;
         bytes = ks;
+        first = kr;
+        most = omega arith;
         least = kb;
         low = x .0;
         spent = omega (arith, e .0, e .1, c);
-        apart = all-apart front p p top byte t t1 (o .0) us q (low-each us ready-us) (cleared-fewer t1 p s kp ks byte kb us (w .at .done));
+        apart = all-apart front p p top byte t t1 (o .0) us q (low-each us ready-us) (cleared-fewer t1 p s kp ks top kr byte kb us (w .at .done));
         chunks = x .1;
       }
 
@@ -430,26 +436,44 @@ module _ (front : Bool) (pattern : ℕ) (source p s : List ℕ) (top wide byte :
           (ready-rest .0 .0, (ready-rest .0 .1 .0, w .stopped nz .1))
 
       module _ (p' s' : List ℕ) (q : Row) (d : RowDone front pattern source p s r top byte p' s' q) where
-        -- what is asked for the byte behind it
-        pub text-short : TextLow 65536 (entryOf q .text)
-        text-short n = omega (arith, d .trimmed .text n, stop-ready .1 .0 .bytes, stop-ready .1 .0 .small)
+        -- what is asked for the row and the byte behind it
+        pub ends-short : RunsTo 4294967295 (entryOf q) × TextLow 65536 (entryOf q .text)
+        ends-short =
+            let f = stop-ready .1 .0 in (
+              runs-to p' byte (top + piecesOf (entryOf r)) (entryOf q) (d .trimmed .runs) 4294967295 (omega (arith, f .rows, f .narrow)),
+              λ n. omega (arith, d .trimmed .text n, f .bytes, f .small),
+            )
 
-        module _ (t2 : List ℕ) (u : Put t1 t2 i q) (m : length t2 ≡ length t1) (b : ℕ) (v : Behind byte (entryOf q .text) b) where
+        module _ (t2 : List ℕ) (u : Put t1 t2 i q) (m : length t2 ≡ length t1) (row b : ℕ) (ends : RunsBehind top (entryOf q) row × Behind byte (entryOf q .text) b) where
           keep-off : (P Q : ℕ → Type 0) → ((a : ℕ) → Not i a → P a → Q a) → (xs : List ℕ) → Each (Not i) xs → Each P xs → Each Q xs
           keep-off P Q f [] a h = tt
           keep-off P Q f (y ∷ ys) a h = (f y (a .0) (h .0), keep-off P Q f ys (a .1) (h .1))
 
-          stop-low : EntryLow p' (top + wide) b (entryOf q)
-          stop-low =
-              let e = entryOf r in
-              let k = ap (λ (y : Row). piecesOf (entryOf y)) row-was in
-              record { runs = runs-still (top + piecesOf e) byte p' p' (rows-same (top + piecesOf e) p') (top + wide) b (omega (arith, ready-rest .0 .1 .1)) (v .least) (entryOf q) (d .trimmed .runs); text = v .text }
+          v : Behind byte (entryOf q .text) b
+          v = ends .1
 
-          pub one-stops : ChunksTrimmed front pattern source p s top wide byte t p' s' t2 b
+          stop-low : EntryLow p' row b (entryOf q)
+          stop-low =
+              record {
+                runs =
+                    runs-still row byte p' p' (rows-same row p') row b (omega arith) (v .least) (entryOf q)
+                    (runs-low p' byte (top + piecesOf (entryOf r)) (entryOf q) (d .trimmed .runs) row (ends .0 .runs));
+                text = v .text;
+              }
+
+          -- no more rows than the pieces of the row
+          row-most : row ≤ top + wide
+          row-most =
+              let n = piecesOf (entryOf r) in
+              let a = ends .0 .most (top + n) (omega arith) (runs-to p' byte (top + n) (entryOf q) (d .trimmed .runs) (top + n) (omega arith)) in
+              omega (arith, a, ap (λ (y : Row). piecesOf (entryOf y)) row-was, ready-rest .0 .1 .1)
+
+          pub one-stops : ChunksTrimmed front pattern source p s top wide byte t p' s' t2 row b
           unfolding Clear Goes-on Low Goes Same Spent
           one-stops =
               let kp = d .trimmed .rows in
               let ks = d .trimmed .bytes in
+              let kr = ends .0 .least in
               let kb = v .least in
               let bs = stop .bs in
               let W : way front (order t) ≡ us ++ i ∷ bs = w .at .place ∙ ap (λ (l : List ℕ). us ++ l) (stop .rest-is) in
@@ -458,18 +482,18 @@ module _ (front : Bool) (pattern : ℕ) (source p s : List ℕ) (top wide byte :
               let c = keep-off (λ a. entryAt t1 a ≡ clearOf (entryAt t a)) (λ a. entryAt t2 a ≡ clearOf (entryAt t a)) (λ a y h. ap entryOf (u .off a y) ∙ h) us (stop .stands .apart-before) (w .at .done) in
               let k = keep-off (λ a. rowAt t1 a ≡ rowAt t a) (λ a. entryAt t2 a ≡ entryAt t a) (λ a y h. ap entryOf (u .off a y ∙ h)) bs (stop .stands .apart-behind) (stop .later) in
               let n : entryAt t2 i ≡ entryOf q = ap entryOf (u .at) in
-              let g = cleared t2 p' s' kp ks b kb us ready-us (w .at .blanks) c in
-              let l = stays t2 p' s' kp ks b kb bs (ready-rest .1) k in
+              let g = cleared t2 p' s' kp ks row kr b kb us ready-us (w .at .blanks) c in
+              let l = stays t2 p' s' kp ks row kr b kb bs (ready-rest .1) k in
               let j : trim-chunk front pattern source (chunkOf p s (entryAt t i)) ≡ record { goes-on = false; chunk = chunkOf p' s' (entryAt t2 i) } =
               ap (λ (y : Row). trim-chunk front pattern source (chunkOf p s (entryOf y))) (sym row-was) ∙ d .trimmed .chunk ∙ ap (λ (y : Entry). record { goes-on = false; chunk = chunkOf p' s' y }) (sym n) in
-              let y = together t2 p' s' kp ks b kb (o .0)
-              (rw W (each-append (Low t2 p' s' kp ks b kb) us (i ∷ bs) (cleared-low t2 p' s' kp ks b kb us ready-us c)
-              (subst (EntryLow p' (top + wide) b) (sym n) stop-low, stays-low t2 p' s' kp ks b kb bs (ready-rest .1) k)))
+              let y = together t2 p' s' kp ks row kr b kb (o .0)
+              (rw W (each-append (Low t2 p' s' kp ks row kr b kb) us (i ∷ bs) (cleared-low t2 p' s' kp ks row kr b kb us ready-us c)
+              (subst (EntryLow p' row b) (sym n) stop-low, stays-low t2 p' s' kp ks row kr b kb bs (ready-rest .1) k)))
               (rw W (trim-to (trim-chunk front pattern source) (λ a. chunkOf p s (entryAt t a)) (λ a. chunkOf p' s' (entryAt t2 a)) us i bs g j l)) in
               let e = sums t2 (o .0) plainOf in
               let spent-i : b + plainOf (entryAt t2 i) ≤ byte + plainOf (entryAt t i) = omega (arith, d .trimmed .spent b v, ap plainOf n, ap (λ (y : Row). plainOf (entryOf y)) row-was) in
               let x : b + sum (λ a. plainOf (entryAt t2 a)) (way front (order t)) ≤ byte + sum (λ a. plainOf (entryAt t a)) (way front (order t)) =
-              rw W (but-one (λ a. plainOf (entryAt t2 a)) (λ a. plainOf (entryAt t a)) b byte us i bs (cleared-spent t2 p' s' kp ks b kb us c) spent-i (stays-spent t2 p' s' kp ks b kb bs k)) in
+              rw W (but-one (λ a. plainOf (entryAt t2 a)) (λ a. plainOf (entryAt t a)) b byte us i bs (cleared-spent t2 p' s' kp ks row kr b kb us c) spent-i (stays-spent t2 p' s' kp ks row kr b kb bs k)) in
               record {
                 linked = o .1;
                 place = o .0;
@@ -477,14 +501,16 @@ module _ (front : Bool) (pattern : ℕ) (source p s : List ℕ) (top wide byte :
                 len = m ∙ w .at .len;
                 rows = kp;
                 bytes = ks;
+                first = kr;
+                most = row-most;
                 least = kb;
                 low = y .0;
                 spent = omega (arith, e .0, e .1, x);
                 apart =
                     one-apart front p p' top byte t t2 (o .0) us i bs W (subst (λ (l : List ℕ). Each (λ a. EntryLow p top byte (entryAt t a)) (us ++ l)) (stop .rest-is) (low-each (us ++ w .at .rest) ready-way))
-                    (cleared-fewer t2 p' s' kp ks b kb us c)
+                    (cleared-fewer t2 p' s' kp ks row kr b kb us c)
                     (subst (RowApart p p' top byte (entryAt t i)) (sym n) (subst (λ (y : Row). RowApart p p' top byte (entryOf y) (entryOf q)) row-was (d .trimmed .apart)))
-                    (stays-fewer t2 p' s' kp ks b kb bs (ready-rest .1) k);
+                    (stays-fewer t2 p' s' kp ks row kr b kb bs (ready-rest .1) k);
                 chunks = y .1;
               }
 

@@ -6,6 +6,7 @@ ghost use Rattle.table.specs.Order.{Linked, entryAt, order};
 ghost use Rattle.trim_row.specs.Row.{RowReady};
 ghost use Rattle.trim_chunks.specs.Walk.{stepOf, Walked, ChunksReady, ChunksTrimmed, chunkRows};
 use table::Row;
+use trim_row::Ends;
 
 // The next row in the direction of the trim.
 fn step(r: Row, front: bool) -> u32
@@ -46,7 +47,7 @@ fn clear_blank<'a>(
     0
 }
 
-// The chunks, trimmed from the first on or from the last on: new piece rows from row top on, a new text from `byte` on. Returns the byte behind it.
+// The chunks, trimmed from the first on or from the last on: new piece rows from row top on, a new text from `byte` on. Returns the row and the byte behind them.
 pub fn trim_chunks(
     source: &[u8],
     t: &mut [u32],
@@ -56,16 +57,17 @@ pub fn trim_chunks(
     byte: u32,
     front: bool,
     pattern: u32,
-) -> u32
+) -> Ends
     requires { ⌜ ChunksReady (now source) (now p) (now s) top (chunkRows (now t)) byte (now t) ⌝ }
-    ensures { λ b. ⌜ ChunksTrimmed front pattern (now (source .entry)) (now (p .entry)) (now (s .entry)) top (chunkRows (now (t .entry))) byte (now (t .entry)) (now (p .exit)) (now (s .exit)) (now (t .exit)) b ⌝ }
+    ensures { λ e. ⌜ ChunksTrimmed front pattern (now (source .entry)) (now (p .entry)) (now (s .entry)) top (chunkRows (now (t .entry))) byte (now (t .entry))
+        (now (p .exit)) (now (s .exit)) (now (t .exit)) (e .row) (e .byte) ⌝ }
 {
     let i = clear_blank(source, t, p, s, front, pattern);
     if i == 0 {
-        return byte;
+        return Ends { row: top, byte };
     }
     let r = table::get_row(t, i);
     let q = trim_row::trim_row(source, p, s, r, top, byte, front, pattern);
     table::put_row(t, i, q);
-    trim_row::behind(q, byte)
+    trim_row::behind(q, top, byte)
 }

@@ -1,13 +1,15 @@
 // The trims past their test of the pattern, on the lent tables themselves: new rows and bytes stand above all that the desk uses.
 ghost use lib.ListN.{length};
 ghost use Rattle.memory.specs.WellFormed.{WellFormed};
+ghost use Rattle.memory_used.specs.Above.{Above};
 ghost use Rattle.counts.specs.Counts.{Decides};
-ghost use Rattle.on_top.specs.Live.{LiveOf, Small};
+ghost use Rattle.on_top.specs.Live.{Small};
 ghost use Rattle.trim_scratch.specs.Call.{TrimRan};
-ghost use Rattle.trim_on_top.specs.OnTop.{TrimRoom};
-use on_top::Used;
+ghost use Rattle.trim_on_top.specs.OnTop.{TrimRoom, Trimmed};
+use memory_used::Outcome;
+use memory_used::Used;
 
-// Whether the lent tables have room above all that is in use for any two runs and for n bytes of a source, and n bytes more keep the limit.
+// Whether the lent tables have room above all that is in use for any two runs and for n bytes of a source. So 13 cannot arise: texts that lie apart in the store keep its limit.
 pub fn has_room(l: Used, n: usize, cp: usize, cs: usize) -> bool
     requires { ⌜ Small cp cs l ⌝ }
     ensures { λ r. ⌜ Decides r (TrimRoom cp cs l n) ⌝ }
@@ -18,40 +20,54 @@ pub fn has_room(l: Used, n: usize, cp: usize, cs: usize) -> bool
     if n > cs - l.byte {
         return false;
     }
-    if n > cs - l.bytes {
-        return false;
-    }
     true
 }
 
-// The trim on the lent tables themselves: new rows and bytes stand above all that is in use.
+// What a trim answers: it cannot fail, and the desk has no piece more.
+fn trimmed(pieces: usize, row: u32, byte: u32) -> Outcome
+    ensures { λ o. ⌜ Trimmed pieces row byte o ⌝ }
+{
+    Outcome {
+        number: 0,
+        used: Used {
+            pieces,
+            row: row as usize,
+            byte: byte as usize,
+        },
+    }
+}
+
+// The trim on the lent tables themselves. A trim adds no piece, and what is in use then ends where it stopped writing: that is known without a pass, and
+// mostly a row or a text further on, so that the next trim finds room too; two lists' worth of rows a trim would soon leave none.
 pub fn trim_on_top(
     source: &[u8],
     chunks: &mut [u32],
     pieces: &mut [u32],
     store: &mut [u8],
-    l: Used,
     both: bool,
     front: bool,
     pattern: u32,
-) -> u32
+    l: Used,
+) -> Outcome
     requires { ⌜ WellFormed (now source) (now chunks) (now pieces) (now store) ⌝ }
-    requires { ⌜ LiveOf (now chunks) (now pieces) (now store) l ⌝ }
+    requires { ⌜ Above (now chunks) (now pieces) (now store) l ⌝ }
     requires { ⌜ TrimRoom (length (now pieces)) (length (now store)) l (length (now source)) ⌝ }
-    ensures { λ r. ⌜ TrimRan both front pattern (now (source .entry)) (now (chunks .entry)) (now (pieces .entry)) (now (store .entry))
-        (now (chunks .exit)) (now (pieces .exit)) (now (store .exit)) r ⌝ }
+    ensures { λ o. ⌜ TrimRan both front pattern (now (source .entry)) (now (chunks .entry)) (now (pieces .entry)) (now (store .entry))
+        (now (chunks .exit)) (now (pieces .exit)) (now (store .exit)) (o .number)
+        × Above (now (chunks .exit)) (now (pieces .exit)) (now (store .exit)) (o .used) ⌝ }
 {
-    trim_sides::trim_sides(
+    let row = l.row as u32;
+    let byte = l.byte as u32;
+    let ends = trim_sides::trim_sides(
         source,
         chunks,
         pieces,
         store,
-        l.row as u32,
-        l.pieces as u32,
-        l.byte as u32,
+        row,
+        byte,
         both,
         front,
         pattern,
     );
-    0
+    trimmed(l.pieces, ends.row, ends.byte)
 }

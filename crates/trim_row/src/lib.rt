@@ -8,9 +8,16 @@ ghost use Rattle.table.specs.Order.{entryOf};
 ghost use Rattle.trim_text.specs.Sides.{blank};
 ghost use Rattle.trim_run.specs.Low.{TextLow};
 ghost use Rattle.trim_row.specs.Plain.{Behind};
+ghost use Rattle.trim_row.specs.RunEnds.{RunTo, RunBehind, RunsTo, RunsBehind};
 ghost use Rattle.trim_row.specs.Row.{nearOf, farOf, withSides, clearedText, clearOf, blankRow, contentOf, placeOf, Rewritten, RowReady, RowFits, PartIs, ContentReady, ContentTrimmed, RowDone};
 use table::Piece;
 use table::Row;
+
+// Where what is in use ends: a row of the piece table and a byte of the store behind all of it.
+pub struct Ends {
+    pub row: u32,
+    pub byte: u32,
+}
 
 // The pieces that a trim takes first: the intro of a trim from the front, the outro of one from the end.
 pub fn near(r: Row, front: bool) -> Piece
@@ -220,7 +227,7 @@ pub fn trim_row(
 }
 
 // The byte behind `byte` and behind a row's replacement.
-pub fn behind(r: Row, byte: u32) -> u32
+fn text_behind(r: Row, byte: u32) -> u32
     requires { ⌜ TextLow 65536 (entryOf r .text) ⌝ }
     ensures { λ b. ⌜ Behind byte (entryOf r .text) b ⌝ }
 {
@@ -232,4 +239,39 @@ pub fn behind(r: Row, byte: u32) -> u32
         return byte;
     }
     end
+}
+
+// The row behind `row` and behind a run; a run of no piece lies nowhere.
+fn run_behind(at: u32, n: u32, row: u32) -> u32
+    requires { ⌜ RunTo 4294967295 (at, n) ⌝ }
+    ensures { λ k. ⌜ RunBehind row (at, n) k ⌝ }
+{
+    if n == 0 {
+        return row;
+    }
+    let end = at + n;
+    if end < row {
+        return row;
+    }
+    end
+}
+
+// The row behind `row` and behind a row's two runs.
+pub fn runs_behind(r: Row, row: u32) -> u32
+    requires { ⌜ RunsTo 4294967295 (entryOf r) ⌝ }
+    ensures { λ k. ⌜ RunsBehind row (entryOf r) k ⌝ }
+{
+    let k = run_behind(r.intro_at, r.intro_n, row);
+    run_behind(r.outro_at, r.outro_n, k)
+}
+
+// Both: what is in use ends behind `row` and `byte`, and behind a row's runs and its replacement.
+pub fn behind(r: Row, row: u32, byte: u32) -> Ends
+    requires { ⌜ RunsTo 4294967295 (entryOf r) ⌝ }
+    requires { ⌜ TextLow 65536 (entryOf r .text) ⌝ }
+    ensures { λ e. ⌜ RunsBehind row (entryOf r) (e .row) × Behind byte (entryOf r .text) (e .byte) ⌝ }
+{
+    let row = runs_behind(r, row);
+    let byte = text_behind(r, byte);
+    Ends { row, byte }
 }

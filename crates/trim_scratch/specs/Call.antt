@@ -24,8 +24,8 @@ use Rattle.trim_run.specs.Low.{EntryLow, DeskLow}
 use Rattle.trim_row.specs.Plain.{plain-bytes}
 use Rattle.trim_sides.specs.Model.{trim-sides}
 use Rattle.trim_sides.specs.Side.{SideReady}
-use Rattle.trim_sides.specs.Both.{SidesTrimmed}
-use Rattle.trim_scratch.specs.Weight.{plain-small}
+use Rattle.trim_sides.specs.Both.{SidesReady, sides-ready, SidesTrimmed, trimmed-readable}
+use Rattle.trim_scratch.specs.Counts.{plain-small}
 
 -- scratch pieces and store with room behind the lent ones: for the rows of two trims, and for all of a source
 pub record Wide (p s : List ℕ) : Type 0 where
@@ -74,8 +74,8 @@ module _ {source t p s t₀ p₀ s₀ t1 p1 s1 : List ℕ} (w : WellFormed sourc
   loaded-is : magicStringOf source t1 p1 s1 ≡ magicStringOf source t p s
   loaded-is = with-scratch-desk w f d t1 (loaded-readable w f d) ∙ loaded-desk w f d
 
-  pub loaded-ready : SideReady source t1 p1 s1 2048 1024 32768
-  loaded-ready =
+  loaded-side : SideReady source t1 p1 s1 2048 1024 32768
+  loaded-side =
       record {
         low = subst (λ (x : List ℕ). DeskLow t1 x 2048 32768) (sym (d .pieces)) (desk-low p s (drop (length p) p₀) 2048 32768 (w .sized .pieces) (w .sized .store) t1 (loaded-readable w f d));
         formed = subst model.Formed (sym loaded-is) (w .desk .formed);
@@ -86,8 +86,8 @@ module _ {source t p s t₀ p₀ s₀ t1 p1 s1 : List ℕ} (w : WellFormed sourc
         small = omega (arith, wide .store);
       }
 
-  pub loaded-rows : (2048 + 1024 + 1024) * 2 ≤ length p1
-  loaded-rows = omega (arith, wide .pieces)
+  pub loaded-ready : SidesReady source t1 p1 s1 2048 32768
+  loaded-ready = sides-ready loaded-side (omega (arith, wide .pieces))
 
 -- ---- the call, for each of the trims
 abbrev pub TrimRan : Bool → Bool → ℕ → List ℕ → List ℕ → List ℕ → List ℕ → List ℕ → List ℕ → List ℕ → ℕ → Type 0
@@ -95,9 +95,9 @@ TrimRan both front pattern source t p s t' p' s' r =
     (e : Edit) → refused-before (magicStringOf source t p s) e ≡ 0 → steps e (magicStringOf source t p s) ≡ ok (trim-sides both front pattern (magicStringOf source t p s)) → idle e ≡ false
     → Ran e source t p s t' p' s' r
 
-module _ {both front : Bool} {pattern : ℕ} {source t p s t₀ p₀ s₀ t1 p1 s1 t2 p2 s2 t' p' s' : List ℕ} {r : ℕ} (w : WellFormed source t p s) (f : Scratch t₀ p₀ s₀) (d : Loaded t p s t₀ p₀ s₀ t1 p1 s1)
-    (x : SidesTrimmed both front pattern source t1 p1 s1 t2 p2 s2) (y : Finished t2 p2 s2 t p s t' p' s' 0 r) where
+module _ {both front : Bool} {pattern : ℕ} {source t p s t₀ p₀ s₀ t1 p1 s1 t2 p2 s2 t' p' s' : List ℕ} {r row byte : ℕ} (w : WellFormed source t p s) (f : Scratch t₀ p₀ s₀) (d : Loaded t p s t₀ p₀ s₀ t1 p1 s1)
+    (x : SidesTrimmed both front pattern source t1 p1 s1 t2 p2 s2 row byte) (y : Finished t2 p2 s2 t p s t' p' s' 0 r) where
   pub trim-ran : TrimRan both front pattern source t p s t' p' s' r
   trim-ran e h q i =
       let k : magicStringOf source t1 p1 s1 ≡ magicStringOf source t p s = with-scratch-desk w f d t1 (loaded-readable w f d) ∙ loaded-desk w f d in
-      ran-finished w h (record { readable = x .readable; result = q ∙ ap ok (ap (trim-sides both front pattern) (sym k) ∙ sym (x .desk)) }) (may-write-0 e i) y
+      ran-finished w h (record { readable = trimmed-readable x; result = q ∙ ap ok (ap (trim-sides both front pattern) (sym k) ∙ sym (x .desk)) }) (may-write-0 e i) y

@@ -1,2 +1,2 @@
-pub mod Weight
+pub mod Counts
 pub mod Call

@@ -1,7 +1,9 @@
-// The trims past their test of the pattern, on scratch tables.
+// The trims past their test of the pattern, on scratch tables: new rows and bytes stand behind the loaded ones. What the desk uses is counted where it is written back.
 ghost use Rattle.memory.specs.WellFormed.{WellFormed};
+ghost use Rattle.memory_used.specs.Above.{Above};
 ghost use Rattle.frame.specs.Frame.{Scratch};
 ghost use Rattle.trim_scratch.specs.Call.{Wide, TrimRan};
+use memory_used::Outcome;
 
 // One side, and after it the end where both are trimmed, with scratch tables lent.
 fn trim_by(
@@ -15,16 +17,17 @@ fn trim_by(
     both: bool,
     front: bool,
     pattern: u32,
-) -> u32
+) -> Outcome
     requires { ⌜ WellFormed (now source) (now chunks) (now pieces) (now store) ⌝ }
     requires { ⌜ Scratch (now t) (now p) (now s) ⌝ }
     requires { ⌜ Wide (now p) (now s) ⌝ }
-    ensures { λ r. ⌜ TrimRan both front pattern (now (source .entry)) (now (chunks .entry)) (now (pieces .entry)) (now (store .entry))
-        (now (chunks .exit)) (now (pieces .exit)) (now (store .exit)) r ⌝ }
+    ensures { λ o. ⌜ TrimRan both front pattern (now (source .entry)) (now (chunks .entry)) (now (pieces .entry)) (now (store .entry))
+        (now (chunks .exit)) (now (pieces .exit)) (now (store .exit)) (o .number)
+        × Above (now (chunks .exit)) (now (pieces .exit)) (now (store .exit)) (o .used) ⌝ }
 {
     frame::load(chunks, pieces, store, t, p, s);
-    trim_sides::trim_sides(source, t, p, s, 2048, 1024, 32768, both, front, pattern);
-    frame::finish(t, p, s, chunks, pieces, store, 0)
+    trim_sides::trim_sides(source, t, p, s, 2048, 32768, both, front, pattern);
+    on_top::finish(t, p, s, chunks, pieces, store, 0)
 }
 
 // The same with scratch tables of its own.
@@ -36,10 +39,11 @@ pub fn trim_scratch(
     both: bool,
     front: bool,
     pattern: u32,
-) -> u32
+) -> Outcome
     requires { ⌜ WellFormed (now source) (now chunks) (now pieces) (now store) ⌝ }
-    ensures { λ r. ⌜ TrimRan both front pattern (now (source .entry)) (now (chunks .entry)) (now (pieces .entry)) (now (store .entry))
-        (now (chunks .exit)) (now (pieces .exit)) (now (store .exit)) r ⌝ }
+    ensures { λ o. ⌜ TrimRan both front pattern (now (source .entry)) (now (chunks .entry)) (now (pieces .entry)) (now (store .entry))
+        (now (chunks .exit)) (now (pieces .exit)) (now (store .exit)) (o .number)
+        × Above (now (chunks .exit)) (now (pieces .exit)) (now (store .exit)) (o .used) ⌝ }
 {
     let rows = 6192usize;
     let words = 8192usize;

@@ -98,7 +98,7 @@ module _ (p : ℕ) where
         (omega arith)
 
 -- a weight that no chunk gains, summed over the chunks
-pub chunks-le : (w : Chunk → ℕ) (f : Chunk → Trimmed) → ((c : Chunk) → w (f c .chunk) ≤ w c) → (cs : List Chunk) → sum w (trim-chunks f cs) ≤ sum w cs
+chunks-le : (w : Chunk → ℕ) (f : Chunk → Trimmed) → ((c : Chunk) → w (f c .chunk) ≤ w c) → (cs : List Chunk) → sum w (trim-chunks f cs) ≤ sum w cs
 chunks-le w f g [] = omega arith
 chunks-le w f g (c ∷ cs) =
     of-cond (λ (l : List Chunk). sum w (f c .chunk ∷ l) ≤ sum w (c ∷ cs)) (f c .goes-on) (λ _. omega (arith, g c, chunks-le w f g cs)) (λ _. omega (arith, g c))

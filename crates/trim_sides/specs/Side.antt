@@ -31,6 +31,8 @@ use Rattle.trim_run.specs.Low.{RowsKept, rows-same, bytes-same, RunsLow, EntryL
 use Rattle.trim_run.specs.Run.{RunReady, RowRoom, RunTrimmed}
 use Rattle.trim_row.specs.Sides.{trim-chunk}
 use Rattle.trim_row.specs.Plain.{plain-bytes, plainOf, plain-rows}
+use Rattle.trim_row.specs.RunEnds.{RunsTo, RunsBehind}
+use Rattle.trim_row.proofs.RunEnds.{runs-to, runs-low}
 use Rattle.trim_row.specs.Row.{nearOf, farOf, withSides, Rewritten, RowReady, RowFits, piecesOf, sides-start, run-at}
 use Rattle.trim_row.specs.Uses.{NoMore, no-more-none, no-more-trimmed}
 use Rattle.trim_chunks.specs.Sums.{way}
@@ -52,9 +54,10 @@ pub record SideReady (source t p s : List ℕ) (top wide byte : ℕ) : Type 0 wh
   pub bytes : byte + plain-bytes (magicStringOf source t p s) ≤ length s
   pub small : length s ≤ 65536
 
--- the byte b is behind all that the desk uses; what it lies further on is no longer plain
-pub record SideTrimmed (front : Bool) (pattern : ℕ) (source t p s : List ℕ) (top wide byte : ℕ) (t' p' s' : List ℕ) (b : ℕ) : Type 0 where
-  pub low : DeskLow t' p' (top + wide) b
+-- the row and the byte b are behind all that the desk uses; what b lies further on is no longer plain
+pub record SideTrimmed (front : Bool) (pattern : ℕ) (source t p s : List ℕ) (top wide byte : ℕ) (t' p' s' : List ℕ) (row b : ℕ) : Type 0 where
+  pub low : DeskLow t' p' row b
+  pub most : row ≤ top + wide
   pub desk : magicStringOf source t' p' s' ≡ trim-side front pattern (magicStringOf source t p s)
   pub least : byte ≤ b
   pub spent : b + plain-bytes (magicStringOf source t' p' s') ≤ byte + plain-bytes (magicStringOf source t p s)
@@ -277,22 +280,29 @@ module _ (front : Bool) (pattern : ℕ) (source t p s : List ℕ) (top wide byte
   source-is = refl
 
   module _ (t1 p1 : List ℕ) (gone : Bool) (d : OwnTrimmed front pattern p s top t p1 t1 gone) where
-    far-still : (p2 : List ℕ) → RowsKept top p p2 → (b : ℕ) → byte ≤ b → Below p2 b (top + wide) (farOf front (entryAt t 0))
-    far-still p2 k b kb = run-still top byte p p2 k (top + wide) b (omega arith) kb (farOf front (entryAt t 0)) (far-below front)
+    far-still : (p2 : List ℕ) → RowsKept top p p2 → (row : ℕ) → top ≤ row → (b : ℕ) → byte ≤ b → Below p2 b row (farOf front (entryAt t 0))
+    far-still p2 k row kr b kb = run-still top byte p p2 k row b kr kb (farOf front (entryAt t 0)) (far-below front)
 
     near-still : Below p1 byte (top + wide) (d .near)
     near-still j i = (omega (arith, d .low byte (near-below front) j i .0, near-few front), d .low byte (near-below front) j i .1)
 
+    own-low : RunsLow p1 (top + wide) byte (entryAt t1 0)
+    own-low = desk-low front t1 p1 (top + wide) byte (d .near) _ (d .row) near-still (far-still p1 (d .rows) (top + wide) (omega arith) byte (omega arith))
+
+    pub own-short : RunsTo 4294967295 (entryAt t1 0)
+    own-short = runs-to p1 byte (top + wide) (entryAt t1 0) own-low 4294967295 (omega (arith, h .rows, h .narrow))
+
     -- the trim stops there
-    pub own-stops : gone ≡ false → SideTrimmed front pattern source t p s top wide byte t1 p1 s byte
-    own-stops g =
+    pub own-stops : gone ≡ false → (row : ℕ) → RunsBehind top (entryAt t1 0) row → SideTrimmed front pattern source t p s top wide byte t1 p1 s row byte
+    own-stops g row e =
         let b : all (blank pattern) (near-pieces front m) ≡ false = ap (all (blank pattern)) (near-desk front) ∙ sym (d .gone-is) ∙ g in
         record {
           low = record {
             linked = d .linked;
-            desk = desk-low front t1 p1 (top + wide) byte (d .near) _ (d .row) near-still (far-still p1 (d .rows) byte (omega arith));
-            chunks = subst (All (EntryLow p1 (top + wide) byte)) (sym (d .entries-are)) (entries-still top byte p p1 (d .rows) (top + wide) byte (omega arith) (omega arith) (h .low .chunks));
+            desk = runs-low p1 byte (top + wide) (entryAt t1 0) own-low row (e .runs);
+            chunks = subst (All (EntryLow p1 row byte)) (sym (d .entries-are)) (entries-still top byte p p1 (d .rows) row byte (e .least) (omega arith) (h .low .chunks));
           };
+          most = e .most (top + wide) (omega arith) (runs-to p1 byte (top + wide) (entryAt t1 0) own-low (top + wide) (omega arith));
           desk =
               desk-with front t1 p1 s (d .near) _ (trim-deque front pattern (near-pieces front m)) (m .chunks) (d .row) (d .text ∙ ap (trim-deque front pattern) (sym (near-desk front)))
               (run-same top byte p s p1 s (d .rows) (bytes-same byte s) (farOf front (entryAt t 0)) (far-below front))
@@ -316,9 +326,10 @@ module _ (front : Bool) (pattern : ℕ) (source t p s : List ℕ) (top wide byte
           each = each-of source p s top byte (chunkRows t1) t1 (order t1) (subst (λ (es : List Entry). All (Fit source p s top byte (sum piecesOf es)) es) (sym (d .entries-are)) (fit-desk source p s top byte t wide h));
         })
 
-    pub own-goes-on : gone ≡ true → (t2 p2 s2 : List ℕ) (b : ℕ) → ChunksTrimmed front pattern source p1 s top (chunkRows t1) byte t1 p2 s2 t2 b → SideTrimmed front pattern source t p s top wide byte t2 p2 s2 b
-    own-goes-on g t2 p2 s2 b c₀ =
-        let c = subst (λ (x : List ℕ). ChunksTrimmed front pattern source x s top (chunkRows t1) byte t1 p2 s2 t2 b) (d .same g) c₀ in
+    pub own-goes-on : gone ≡ true → (t2 p2 s2 : List ℕ) (row b : ℕ) → ChunksTrimmed front pattern source p1 s top (chunkRows t1) byte t1 p2 s2 t2 row b
+        → SideTrimmed front pattern source t p s top wide byte t2 p2 s2 row b
+    own-goes-on g t2 p2 s2 row b c₀ =
+        let c = subst (λ (x : List ℕ). ChunksTrimmed front pattern source x s top (chunkRows t1) byte t1 p2 s2 t2 row b) (d .same g) c₀ in
         let f : all (blank pattern) (runOf p s (nearOf front (entryAt t 0))) ≡ true = sym (d .gone-is) ∙ g in
         let few : chunkRows t1 ≤ wide = omega (arith, ap (sum piecesOf) (d .entries-are), chunks-few) in
         let e : entryAt t2 0 ≡ withSides front (entryAt t 0) (d .near) (farOf front (entryAt t 0)) (entryAt t 0 .text) = ap entryOf (c .desk) ∙ d .row in
@@ -327,9 +338,10 @@ module _ (front : Bool) (pattern : ℕ) (source t p s : List ℕ) (top wide byte
         record {
           low = record {
             linked = c .linked;
-            desk = desk-low front t2 p2 (top + wide) b (d .near) _ e (λ j i. absurd (omega arith)) (far-still p2 (c .rows) b (c .least));
-            chunks = entries-still (top + chunkRows t1) b p2 p2 (rows-same (top + chunkRows t1) p2) (top + wide) b (omega arith) (omega arith) (c .low);
+            desk = desk-low front t2 p2 row b (d .near) _ e (λ j i. absurd (omega arith)) (far-still p2 (c .rows) row (c .first) b (c .least));
+            chunks = c .low;
           };
+          most = omega (arith, c .most, few);
           desk =
               desk-with front t2 p2 s2 (d .near) _ [] (way front (trim-chunks (trim-chunk front pattern (m .source)) (way front (m .chunks)))) e
               (none-text p2 s2 (d .near) zero-n)

@@ -1,10 +1,9 @@
 // trim.rs on lent tables: `trim_start`, `trim_end`, or one after the other. New rows stand from row top on and a new text from `byte` on, behind all that the desk uses.
 ghost use mathlib.Core.Bool.{Bool};
-ghost use Prim.Native.Nat.{_+_, _*_, _≤_};
-ghost use lib.ListN.{length};
 ghost use Rattle.trim_sides.specs.Side.{deskPieces, SideReady, SideTrimmed, OwnReady, OwnTrimmed};
-ghost use Rattle.trim_sides.specs.Both.{SidesTrimmed};
+ghost use Rattle.trim_sides.specs.Both.{SidesReady, SidesTrimmed};
 use table::Piece;
+use trim_row::Ends;
 
 // The head or the tail, trimmed; whether nothing is left of it.
 fn trim_own(t: &mut [u32], p: &mut [u32], s: &[u8], top: u32, front: bool, pattern: u32) -> bool
@@ -22,7 +21,7 @@ fn trim_own(t: &mut [u32], p: &mut [u32], s: &[u8], top: u32, front: bool, patte
     false
 }
 
-// One side: the head or the tail, and the chunks where nothing is left of it. Returns the byte behind what it wrote.
+// One side: the head or the tail, and the chunks where nothing is left of it. Returns the row and the byte behind all that is in use then: what was not written stays free for the next.
 fn trim_side(
     source: &[u8],
     t: &mut [u32],
@@ -32,38 +31,38 @@ fn trim_side(
     byte: u32,
     front: bool,
     pattern: u32,
-) -> u32
+) -> Ends
     requires { ⌜ SideReady (now source) (now t) (now p) (now s) top (deskPieces (now source) (now t) (now p) (now s)) byte ⌝ }
-    ensures { λ b. ⌜ SideTrimmed front pattern (now (source .entry)) (now (t .entry)) (now (p .entry)) (now (s .entry)) top
-        (deskPieces (now (source .entry)) (now (t .entry)) (now (p .entry)) (now (s .entry))) byte (now (t .exit)) (now (p .exit)) (now (s .exit)) b ⌝ }
+    ensures { λ e. ⌜ SideTrimmed front pattern (now (source .entry)) (now (t .entry)) (now (p .entry)) (now (s .entry)) top
+        (deskPieces (now (source .entry)) (now (t .entry)) (now (p .entry)) (now (s .entry))) byte (now (t .exit)) (now (p .exit)) (now (s .exit)) (e .row) (e .byte) ⌝ }
 {
     let gone = trim_own(t, p, s, top, front, pattern);
     if !gone {
-        return byte;
+        let row = trim_row::runs_behind(table::get_row(t, 0), top);
+        return Ends { row, byte };
     }
     trim_chunks::trim_chunks(source, t, p, s, top, byte, front, pattern)
 }
 
-// One side, and after it the end where both are trimmed: new rows and bytes stand behind those of the first. No piece list is longer than wide.
+// One side, and after it the end where both are trimmed: new rows and bytes stand behind those of the first. Returns the row and the byte behind all that is in use then.
 pub fn trim_sides(
     source: &[u8],
     t: &mut [u32],
     p: &mut [u32],
     s: &mut [u8],
     top: u32,
-    wide: u32,
     byte: u32,
     both: bool,
     front: bool,
     pattern: u32,
-)
-    requires { ⌜ SideReady (now source) (now t) (now p) (now s) top wide byte ⌝ }
-    requires { ⌜ (top + wide + wide) * 2 ≤ length (now p) ⌝ }
-    ensures { λ _. ⌜ SidesTrimmed both front pattern (now (source .entry)) (now (t .entry)) (now (p .entry)) (now (s .entry)) (now (t .exit)) (now (p .exit)) (now (s .exit)) ⌝ }
+) -> Ends
+    requires { ⌜ SidesReady (now source) (now t) (now p) (now s) top byte ⌝ }
+    ensures { λ e. ⌜ SidesTrimmed both front pattern (now (source .entry)) (now (t .entry)) (now (p .entry)) (now (s .entry))
+        (now (t .exit)) (now (p .exit)) (now (s .exit)) (e .row) (e .byte) ⌝ }
 {
-    let behind = trim_side(source, t, p, s, top, byte, front, pattern);
+    let first = trim_side(source, t, p, s, top, byte, front, pattern);
     if !both {
-        return;
+        return first;
     }
-    trim_side(source, t, p, s, top + wide, behind, false, pattern);
+    trim_side(source, t, p, s, first.row, first.byte, false, pattern)
 }

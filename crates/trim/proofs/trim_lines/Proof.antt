@@ -4,7 +4,7 @@ use Rattle.trim.proofs.trim_lines.Statement.{statement}
 use Rattle.trim.proofs.trim_lines.Tie as tie
 
 trim-with-requires : tie.Need-trim-with-requires
-trim-with-requires c κs = c .before .before .before .before .before .before .before .pre
+trim-with-requires c κs = search needs
 
 same-length : tie.Need-same-length
 same-length c = search needs
@@ -16,16 +16,8 @@ same-length-3 : tie.Need-same-length-3
 same-length-3 c = search needs
 
 returns : tie.Need-returns
-returns c =
-    let start = c .before .before .before .before .before .before .before .before .before .before .before .before .before .before in
-    lines-ran (start .pre) (c .before .before .before .before .before .before .trim-with .ensures)
+returns c = lines-ran (c .before .before .before .before .before .before .trim-with .ensures)
 
 pub trim-lines-spec : {M : Type 1} → statement M
 trim-lines-spec =
-    tie.close
-    (tie.spec
-    trim-with-requires
-    same-length
-    same-length-2
-    same-length-3
-    returns)
+    tie.close (tie.spec trim-with-requires same-length same-length-2 same-length-3 returns)

@@ -1,19 +1,15 @@
-use Rattle.on_top.specs.Live.{live-small}
-use Rattle.trim_on_top.specs.OnTop.{bare-within}
 use borrow.Author.Needs.{needs}
 use Rattle.trim_call.proofs.trim_with.Statement.{statement}
 use Rattle.trim_call.proofs.trim_with.Tie as tie
 
-live-requires : tie.Need-live-requires
-live-requires c κs =
-    let w = c .before .before .before .before .before .before .before .pre in
-    (w .readable, (bare-within w, w .sized))
-
 has-room-requires : tie.Need-has-room-requires
-has-room-requires c κs = live-small (c .live .ensures)
+has-room-requires c κs = search needs
 
 trim-on-top-requires : tie.Need-trim-on-top-requires
-trim-on-top-requires c κs = (c .before .before .before .before .before .before .before .before .before .before .before .before .before .pre, (c .before .before .before .before .before .live .ensures, c .before .before .before .before .has-room .ensures .yes (c .before .before .before .if1 .taken)))
+trim-on-top-requires c κs =
+    let room = c .before .before .before .before in
+    let h = room .before .before .before .before .before .pre in
+    (h .well-formed, (h .above, room .has-room .ensures .yes (c .before .before .before .if1 .taken)))
 
 same-length : tie.Need-same-length
 same-length c = search needs
@@ -46,7 +42,6 @@ pub trim-with-spec : {M : Type 1} → statement M
 trim-with-spec =
     tie.close
     (tie.spec
-    live-requires
     has-room-requires
     trim-on-top-requires
     same-length

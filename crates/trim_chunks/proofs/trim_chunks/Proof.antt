@@ -1,6 +1,4 @@
-use mathlib.Core.Path.{_≡_, refl, sym, ap, _∙_}
-use native.Mathlib.Omega.{arith}
-use Rattle.trim_chunks.specs.Walk.{chunkRows, ready-each, all-blank, stop-row, stop-ready, text-short, one-stops}
+use Rattle.trim_chunks.specs.Walk.{chunkRows, ready-each, all-blank, stop-row, stop-ready, ends-short, one-stops}
 use borrow.Author.Needs.{needs}
 use Rattle.trim_chunks.proofs.trim_chunks.Statement.{statement}
 use Rattle.trim_chunks.proofs.trim_chunks.Tie as tie
@@ -54,7 +52,7 @@ behind-requires c κs =
     let w = c .before .before .before .before .before .before .before .before .before .before .before .before .before .before .before .before .clear-blank in
     let d = c .before .before .before .before .before .before .before .before .trim-row in
     let g = c .before .before .before .before .before .before .before .before .before .before .before .get-row in
-    text-short (a .front) (a .pattern) (a .source .now) (a .p .now) (a .s .now) (a .top) (chunkRows (a .t .now)) (a .byte) (a .t .now) (start .pre) (w .last .1 .0) (w .result) (w .ensures) (c .before .before .before .before .before .before .before .before .before .before .before .before .before .if1 .left) (g .result) (g .ensures) (d .last .1 .0) (d .last .1 .1 .0) (d .result) (d .ensures)
+    ends-short (a .front) (a .pattern) (a .source .now) (a .p .now) (a .s .now) (a .top) (chunkRows (a .t .now)) (a .byte) (a .t .now) (start .pre) (w .last .1 .0) (w .result) (w .ensures) (c .before .before .before .before .before .before .before .before .before .before .before .before .before .if1 .left) (g .result) (g .ensures) (d .last .1 .0) (d .last .1 .1 .0) (d .result) (d .ensures)
 
 same-length-4 : tie.Need-same-length-4
 same-length-4 c = search needs
@@ -73,7 +71,7 @@ returns-2 c =
     let d = c .before .before .before .before .before .before .before .before .before .trim-row in
     let g = c .before .before .before .before .before .before .before .before .before .before .before .before .get-row in
     one-stops (a .front) (a .pattern) (a .source .now) (a .p .now) (a .s .now) (a .top) (chunkRows (a .t .now)) (a .byte) (a .t .now) (start .pre) (w .last .1 .0) (w .result) (w .ensures) (c .before .before .before .before .before .before .before .before .before .before .before .before .before .before .if1 .left) (g .result) (g .ensures)
-    (d .last .1 .0) (d .last .1 .1 .0) (d .result) (d .ensures) (c .before .before .before .put-row .last .0) (c .before .before .before .put-row .ensures) (c .before .before .before .put-row .kept .0) (c .behind .result) (c .behind .ensures)
+    (d .last .1 .0) (d .last .1 .1 .0) (d .result) (d .ensures) (c .before .before .before .put-row .last .0) (c .before .before .before .put-row .ensures) (c .before .before .before .put-row .kept .0) (c .behind .result .row) (c .behind .result .byte) (c .behind .ensures)
 
 pub trim-chunks-spec : {M : Type 1} → statement M
 trim-chunks-spec =

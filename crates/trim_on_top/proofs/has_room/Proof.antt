@@ -19,17 +19,10 @@ sub-if2 c = search needs
 returns-2 : tie.Need-returns-2
 returns-2 c = is-no (λ r. omega (arith, c .if2 .taken, r .places))
 
-sub-if3 : tie.Need-sub-if3
-sub-if3 c = search needs
-
 returns-3 : tie.Need-returns-3
-returns-3 c = is-no (λ r. omega (arith, c .if3 .taken, r .bytes))
-
-returns-4 : tie.Need-returns-4
-returns-4 c =
-    let h = c .before .before .before .before .before .before .before .pre in
-    is-yes (record { rows = omega (arith, c .before .before .before .before .if1 .left); places = omega (arith, c .before .before .if2 .left, h .byte); bytes = omega (arith, c .if3 .left, h .bytes) })
+returns-3 c =
+    let h = c .before .before .before .before .before .pre in
+    is-yes (record { rows = omega (arith, c .before .before .if1 .left); places = omega (arith, c .if2 .left, h .byte) })
 
 pub has-room-spec : {M : Type 1} → statement M
-has-room-spec =
-    tie.close (tie.spec add-if1 add-if1-2 returns sub-if2 returns-2 sub-if3 returns-3 returns-4)
+has-room-spec = tie.close (tie.spec add-if1 add-if1-2 returns sub-if2 returns-2 returns-3)

@@ -1,23 +1,22 @@
 use native.Mathlib.Omega.{arith}
-use Rattle.trim_on_top.specs.OnTop.{top-ready, top-rows, top-ran}
+use Rattle.trim_on_top.proofs.OnTop.{top-ready, top-leaves}
 use borrow.Author.Needs.{needs}
 use Rattle.trim_on_top.proofs.trim_on_top.Statement.{statement}
 use Rattle.trim_on_top.proofs.trim_on_top.Tie as tie
 
-cast-trim-sides : tie.Need-cast-trim-sides
-cast-trim-sides c = search needs
+cast-row : tie.Need-cast-row
+cast-row c = search needs
 
-cast-trim-sides-2 : tie.Need-cast-trim-sides-2
-cast-trim-sides-2 c = search needs
-
-cast-trim-sides-3 : tie.Need-cast-trim-sides-3
-cast-trim-sides-3 c = search needs
+cast-byte : tie.Need-cast-byte
+cast-byte c = search needs
 
 trim-sides-requires : tie.Need-trim-sides-requires
 trim-sides-requires c κs =
-    let start = c .before .before .before .before .before .before .before .before .before .before in
-    let h = start .pre in
-    (top-ready (h .0) (h .1 .0) (h .1 .1) (omega arith) (omega arith) (omega arith), top-rows (h .0) (h .1 .0) (h .1 .1) (omega arith) (omega arith))
+    let h = c .before .before .before .before .before .before .before .before .before .pre in
+    top-ready (h .0) (h .1 .0) (h .1 .1) (omega arith) (omega arith)
+
+trimmed-requires : tie.Need-trimmed-requires
+trimmed-requires c κs = search needs
 
 same-length : tie.Need-same-length
 same-length c = search needs
@@ -30,17 +29,18 @@ same-length-3 c = search needs
 
 returns : tie.Need-returns
 returns c =
-    let h = c .before .before .before .before .before .before .before .before .before .before .before .before .before .before .before .before .before .pre in
-    top-ran (h .0) (h .1 .0) (h .1 .1) (c .before .before .before .before .before .before .trim-sides .ensures)
+    let sides = c .before .before .before .before .before .before .before in
+    let h = sides .before .before .before .before .before .before .before .before .before .before .pre in
+    top-leaves (h .0) (h .1 .0) (h .1 .1) (sides .trim-sides .ensures) (c .trimmed .ensures) (omega arith) (omega arith) (omega arith)
 
 pub trim-on-top-spec : {M : Type 1} → statement M
 trim-on-top-spec =
     tie.close
     (tie.spec
-    cast-trim-sides
-    cast-trim-sides-2
-    cast-trim-sides-3
+    cast-row
+    cast-byte
     trim-sides-requires
+    trimmed-requires
     same-length
     same-length-2
     same-length-3

@@ -1,15 +1,11 @@
-use native.Mathlib.Omega.{arith}
 use borrow.Author.Tests.{not-true, not-false}
-use Rattle.trim_sides.specs.Both.{side-first, one-side, side-again, both-sides}
+use Rattle.trim_sides.specs.Both.{one-side, side-again, both-sides}
 use borrow.Author.Needs.{needs}
 use Rattle.trim_sides.proofs.trim_sides.Statement.{statement}
 use Rattle.trim_sides.proofs.trim_sides.Tie as tie
 
 trim-side-requires : tie.Need-trim-side-requires
-trim-side-requires c κs =
-    let start = c .before .before .before .before .before .before .before in
-    let a = start .args in
-    side-first (a .front) (a .pattern) (a .source .now) (a .t .now) (a .p .now) (a .s .now) (a .top) (a .wide) (a .byte) (start .pre .0) (start .pre .1)
+trim-side-requires c κs = search needs
 
 same-length : tie.Need-same-length
 same-length c = search needs
@@ -22,18 +18,17 @@ same-length-3 c = search needs
 
 returns : tie.Need-returns
 returns c =
-    let start = c .before .before .before .before .before .before .before .before .before .before .before .before .before .before .before in
+    let one = c .before .before .before .before .before .before .before in
+    let start = one .before .before .before .before .before .before .before .before in
     let a = start .args in
-    one-side (a .front) (a .pattern) (a .source .now) (a .t .now) (a .p .now) (a .s .now) (a .top) (a .wide) (a .byte) (start .pre .0) (start .pre .1) _ _ _ _ (c .before .before .before .before .before .before .before .trim-side .ensures) (a .both) (not-true _ (c .if1 .taken))
-
-add-trim-side : tie.Need-add-trim-side
-add-trim-side c = omega (arith, c .before .before .before .before .before .before .before .before .before .before .before .before .before .before .before .before .before .before .pre .0 .rows, c .before .before .before .before .before .before .before .before .before .before .before .before .before .before .before .before .before .before .pre .0 .narrow)
+    one-side (a .front) (a .pattern) (a .source .now) (a .t .now) (a .p .now) (a .s .now) (a .top) (a .byte) (start .pre) _ _ _ _ _ (one .trim-side .ensures) (a .both) (not-true _ (c .if1 .taken))
 
 trim-side-requires-2 : tie.Need-trim-side-requires-2
 trim-side-requires-2 c κs =
-    let start = c .before .before .before .before .before .before .before .before .before .before .before .before .before .before .before .before .before .before in
+    let one = c .before .before .before .before .before .before .before .before .before .before in
+    let start = one .before .before .before .before .before .before .before .before in
     let a = start .args in
-    side-again (a .front) (a .pattern) (a .source .now) (a .t .now) (a .p .now) (a .s .now) (a .top) (a .wide) (a .byte) (start .pre .0) (start .pre .1) _ _ _ _ (c .before .before .before .before .before .before .before .before .before .before .trim-side .ensures)
+    side-again (a .front) (a .pattern) (a .source .now) (a .t .now) (a .p .now) (a .s .now) (a .top) (a .byte) (start .pre) _ _ _ _ _ (one .trim-side .ensures)
 
 same-length-4 : tie.Need-same-length-4
 same-length-4 c = search needs
@@ -46,9 +41,11 @@ same-length-6 c = search needs
 
 returns-2 : tie.Need-returns-2
 returns-2 c =
-    let start = c .before .before .before .before .before .before .before .before .before .before .before .before .before .before .before .before .before .before .before .before .before .before .before .before .before in
+    let one = c .before .before .before .before .before .before .before .before .before .before .before .before .before .before .before .before .before in
+    let start = one .before .before .before .before .before .before .before .before in
     let a = start .args in
-    both-sides (a .front) (a .pattern) (a .source .now) (a .t .now) (a .p .now) (a .s .now) (a .top) (a .wide) (a .byte) (start .pre .0) (start .pre .1) _ _ _ _ (c .before .before .before .before .before .before .before .before .before .before .before .before .before .before .before .before .before .trim-side .ensures) (a .both) (not-false _ (c .before .before .before .before .before .before .before .before .before .before .if1 .left)) _ _ _ _ (c .before .before .before .before .before .before .trim-side2 .ensures)
+    both-sides (a .front) (a .pattern) (a .source .now) (a .t .now) (a .p .now) (a .s .now) (a .top) (a .byte) (start .pre) _ _ _ _ _ (one .trim-side .ensures) (a .both)
+    (not-false _ (c .before .before .before .before .before .before .before .before .before .before .if1 .left)) _ _ _ _ _ (c .before .before .before .before .before .before .trim-side2 .ensures)
 
 pub trim-sides-spec : {M : Type 1} → statement M
 trim-sides-spec =
@@ -59,7 +56,6 @@ trim-sides-spec =
     same-length-2
     same-length-3
     returns
-    add-trim-side
     trim-side-requires-2
     same-length-4
     same-length-5

@@ -1,7 +1,6 @@
 use native.Mathlib.Omega.{arith}
-use borrow.Author.Needs.{needs}
-use Rattle.trim_row.proofs.behind.Statement.{statement}
-use Rattle.trim_row.proofs.behind.Tie as tie
+use Rattle.trim_row.proofs.text_behind.Statement.{statement}
+use Rattle.trim_row.proofs.text_behind.Tie as tie
 
 returns : tie.Need-returns
 returns c = record { least = omega arith; text = λ n. absurd (n (c .if1 .taken)); most = λ z h l. h }
@@ -15,5 +14,5 @@ returns-2 c = record { least = omega arith; text = λ n. omega (arith, c .if2 .t
 returns-3 : tie.Need-returns-3
 returns-3 c = record { least = omega (arith, c .if2 .left); text = λ n. omega arith; most = λ z h l. l (c .before .before .if1 .left) }
 
-pub behind-spec : {M : Type 1} → statement M
-behind-spec = tie.close (tie.spec returns add-end returns-2 returns-3)
+pub text-behind-spec : {M : Type 1} → statement M
+text-behind-spec = tie.close (tie.spec returns add-end returns-2 returns-3)
