@@ -4,7 +4,7 @@ use mathlib.Core.List.{List, [], _∷_}
 use mathlib.Core.Option.{Option, none, some}
 use lib.ListN.{length}
 use Rattle.model.specs.Text.{Text}
-use Rattle.model.specs.Call.{Call, «open», change, report, Edit, Report, to-string, slice, last-char}
+use Rattle.model.specs.Call.{DeskCall, change, report, «open», on-desk, Edit, Report, to-string, slice, last-char}
 use Rattle.cases.specs.Case.{Step}
 
 abbrev pub a : ℕ
@@ -43,12 +43,13 @@ tab = 9
 abbrev pub space : ℕ
 space = 32
 
-abbrev pub gives : Call → ℕ → ℕ → Text → Step
-gives k n v t = record { call = k; number = n; value = v; written = t }
+-- a call on the desk with its number, value and bytes
+abbrev pub gives : DeskCall → ℕ → ℕ → Text → Step
+gives k n v t = record { call = on-desk k; number = n; value = v; written = t }
 
 -- an opening with its number
 abbrev pub opened : Text → ℕ → Step
-opened t n = gives («open» t) n 0 []
+opened t n = record { call = «open» t; number = n; value = 0; written = [] }
 
 -- an edit with its number
 abbrev pub edited : Edit → ℕ → Step

@@ -43,10 +43,16 @@ pub data Report : Type 0 where
   is-range-within-edited-chunk : ℕ → ℕ → Report
   last-char : Report
 
+-- the calls on a desk: "this paper's calls on a desk (edits, trims, indent, slices, reports, `to_string`)". The any-order rule's later calls are these, so that a call that is
+-- added, as an edit or a report, is one of them
+pub data DeskCall : Type 0 where
+  change : Edit → DeskCall
+  report : Report → DeskCall
+
+-- every call: an opening, or a call on a desk
 pub data Call : Type 0 where
   «open» : Text → Call
-  change : Edit → Call
-  report : Report → Call
+  on-desk : DeskCall → Call
 
 -- ── what a call is given: its options, texts and positions ──
 -- 15: "pattern above 1, or an exclude list of odd count"
@@ -224,5 +230,5 @@ changed r = record { shown = record { number = r .number; value = 0; written = [
 
 unfoldable pub perform : Limits → Call → MagicString → Outcome
 perform k («open» source) m = changed (opened k source m)
-perform k (change e) m = changed (run k e m)
-perform k (report q) m = record { shown = show q m; desk = m }
+perform k (on-desk (change e)) m = changed (run k e m)
+perform k (on-desk (report q)) m = record { shown = show q m; desk = m }

@@ -16,7 +16,7 @@ use Rattle.model.specs.Text.{Text, all}
 use Rattle.model.specs.Chunk.{new-chunk}
 use Rattle.model.specs.MagicString.{MagicString, Result, ok, err, new}
 use Rattle.model.specs.Limits.{Limits, within, judged}
-use Rattle.model.specs.Call.{Edit, remove, update-with, reset, append-left, append-right, prepend-left, prepend-right, append, prepend, relocate, trim, trim-start, trim-end, trim-lines, indent-with, Call, «open», change, report, options-valid, given, texts, positions, steps, refused-before, run, opened, perform}
+use Rattle.model.specs.Call.{Edit, remove, update-with, reset, append-left, append-right, prepend-left, prepend-right, append, prepend, relocate, trim, trim-start, trim-end, trim-lines, indent-with, change, report, Call, «open», on-desk, options-valid, given, texts, positions, steps, refused-before, run, opened, perform}
 use Rattle.model.specs.WellFormed.{Valid, ValidReplacement, Covered, Formed, WellFormed}
 use Rattle.model.specs.Lists.{all-true}
 use Rattle.model.specs.Spans.{covers-in}
@@ -139,5 +139,5 @@ opened-keeps k source m l =
 pub perform-keeps : (k : Limits) (c : Call) (m : MagicString) → 1 ≤ k .chunks → WellFormed k m → WellFormed k (perform k c m .desk)
 unfolding perform
 perform-keeps k («open» source) m l w = opened-cases k source m l (λ r. WellFormed k (r .desk)) w w (λ n. n)
-perform-keeps k (change e) m l w = run-keeps k e m w
-perform-keeps k (report q) m l w = w
+perform-keeps k (on-desk (change e)) m l w = run-keeps k e m w
+perform-keeps k (on-desk (report q)) m l w = w

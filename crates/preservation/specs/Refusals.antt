@@ -21,7 +21,7 @@ use Rattle.model.specs.Reset as reset-rs
 use Rattle.model.specs.Indent.{Pieces, Marked, excluded, line-starts, indent-pieces, prepend-at, indent-chunk, indent-chunks, indent-by, indentor-or, is-empty-indentor}
 use Rattle.model.specs.Indent as indent-rs
 use Rattle.model.specs.Limits.{Limits, within, judged}
-use Rattle.model.specs.Call.{Edit, remove, update-with, reset, append-left, append-right, prepend-left, prepend-right, append, prepend, relocate, trim, trim-start, trim-end, trim-lines, indent-with, steps, refused-before, is-update, may-change, run, Report, report, opened, perform}
+use Rattle.model.specs.Call.{Edit, remove, update-with, reset, append-left, append-right, prepend-left, prepend-right, append, prepend, relocate, trim, trim-start, trim-end, trim-lines, indent-with, steps, refused-before, is-update, may-change, run, Report, report, on-desk, opened, perform}
 use Rattle.preservation.specs.Lists.{of-cond, of-either, of-option, of-number}
 use Rattle.preservation.specs.Desk.{split-cases}
 
@@ -175,6 +175,6 @@ opened-changes-nothing k source m =
     of-cond P (leb (length source) (k .source)) (λ _. of-cond P (utf8 source) (λ _ h. absurd (h refl)) (λ _ _. refl)) (λ _ _. refl)
 
 -- a call that reports leaves the desk as it was
-pub report-changes-nothing : (k : Limits) (q : Report) (m : MagicString) → perform k (report q) m .desk ≡ m
+pub report-changes-nothing : (k : Limits) (q : Report) (m : MagicString) → perform k (on-desk (report q)) m .desk ≡ m
 unfolding perform
 report-changes-nothing k q m = refl

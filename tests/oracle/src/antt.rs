@@ -63,11 +63,17 @@ fn option(value: Option<String>) -> String {
 const LONG: u32 = 100_000;
 
 fn call_term(call: &Call) -> String {
+  match call {
+    Call::Open { source } => format!("«open» {}", text(source)),
+    _ => format!("on-desk ({})", desk_call_term(call)),
+  }
+}
+
+fn desk_call_term(call: &Call) -> String {
   use Call::*;
   let name = call.to_string();
   let name = name.split(' ').next().unwrap_or_default().replace('_', "-");
   match call {
-    Open { source } => format!("«open» {}", text(source)),
     Remove { start, end } | Reset { start, end } => format!("change ({name} {start} {end})"),
     UpdateWith { start, end, overwrite, text: content } => {
       format!("change ({name} {start} {end} {} {})", text(content), *overwrite != 0)
@@ -100,6 +106,7 @@ fn call_term(call: &Call) -> String {
     }
     IsRangeWithinEditedChunk { start, end } => format!("report ({name} {start} {end})"),
     Len | LenUtf16 | LineCount | IsEmpty | HasChanged | LastChar => format!("report {name}"),
+    Open { .. } => unreachable!("an opening is no call on a desk"),
     Dump => unreachable!("a desk is printed by `desk`"),
   }
 }
