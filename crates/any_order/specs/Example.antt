@@ -1,8 +1,6 @@
 -- A worked list: every kind of edit, `update_with` in both settings, on a desk in use. It meets the premises, so that the theorem speaks of something, and each of its orders
 -- leaves the same text. By computation.
-use Prim.Native.Nat.{ℕ}
-use native.Mathlib.Omega.{arith}
-use mathlib.Core.Path.{_≡_, refl, ap, _∙_, subst}
+use mathlib.Core.Path.{_≡_, refl, _∙_, subst}
 use mathlib.Core.Bool.{true, false}
 use mathlib.Core.List.{List, [], _∷_, flatten}
 use mathlib.Core.Option.{none, some}

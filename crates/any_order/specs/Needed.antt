@@ -1,7 +1,7 @@
 -- What each premise is for: a list that breaks it, and no other, with what the list's two orders then do. By computation. docs/ANY-ORDER.md has the same table in words.
 use Prim.Native.Nat.{ℕ, suc}
 use mathlib.Core.Path.{_≡_, refl}
-use mathlib.Core.Bool.{Bool, true, false, cond}
+use mathlib.Core.Bool.{Bool, true, cond}
 use mathlib.Core.List.{List, [], _∷_, _++_, map, flatten, reverse}
 use lib.Dec.{ltb}
 use lib.ListN.{length, replicate}
@@ -15,10 +15,9 @@ use Rattle.model.specs.Update.{update-chunks}
 use Rattle.model.specs.Update as update-rs
 use Rattle.model.specs.Movement.{change-range}
 use Rattle.model.specs.Movement as movement-rs
-use Rattle.model.specs.Reset as reset-rs
 use Rattle.model.specs.Trim.{trim-chunk-start, trim-chunk-end}
 use Rattle.model.specs.Trim as trim-rs
-use Rattle.model.specs.Limits.{Limits, full, within, judged}
+use Rattle.model.specs.Limits.{full, within, judged}
 use Rattle.model.specs.Call.{Edit, remove, update-with, append-left, append-right, append, prepend, relocate, trim, refused-before, run}
 use Rattle.closed_forms.specs.Plan.{listed}
 use Rattle.any_order.specs.Claim.{after}

@@ -1,14 +1,14 @@
 -- Runs of the exported functions follow the model: what a run of edits leaves, and what later calls give.
 use Prim.Native.Nat.{ℕ, _≤_}
 use mathlib.Core.Path.{_≡_, refl, sym, ap, _∙_, subst}
-use mathlib.Core.List.{List, [], _∷_, map}
+use mathlib.Core.List.{List, map}
 use lib.ListN.{length}
 use borrow.Author.Tests.{le-leb}
 use Rattle.utf8.specs.Chars.{All, nil, cons}
 use Rattle.model.specs.Text.{Text}
-use Rattle.model.specs.MagicString.{MagicString, to-string}
+use Rattle.model.specs.MagicString.{MagicString, Result, to-string}
 use Rattle.model.specs.Limits.{Limits}
-use Rattle.model.specs.Call.{Edit, Report, DeskCall, on-desk, Shown, show, perform}
+use Rattle.model.specs.Call.{Edit, Report, DeskCall, on-desk, Shown, run, show, perform}
 use Rattle.model.specs.Call as call
 use Rattle.memory.specs.Laws.{full-as, limits-as}
 use Rattle.memory.specs.Calls.{Ran, Told}
@@ -47,6 +47,9 @@ follows {source} (runs.EditRun.next {L = L} {T = T} {T₁ = T₁} x r) w =
     }
 
 -- ── later calls ──
+edit-gave : (a : Answer) (r : Result) → a .number ≡ r .number → a .value ≡ 0 → Gave (runs.seen-edit a) (call.changed r .shown)
+edit-gave a r n v = record { number = n; value = v; buffer = refl }
+
 told-gave : (q : Report) (m : MagicString) (x : Seen) → Told q m (x .before) (x .after) (x .answer .number) (x .answer .value) → Gave x (show q m)
 told-gave q m x d = record { number = d .number-is; value = d .value-is; buffer = d .written }
 
@@ -58,13 +61,12 @@ pub gives : {source : List ℕ} {calls : List DeskCall} {T : Tables} {seen : Lis
     → AllGave seen (expected (limits T) calls (deskOf source T))
 unfolding perform
 gives runs.LaterRun.done w = claim.AllGave.nil
-gives {source} (runs.LaterRun.changed {calls = calls} {T = T} {T₁ = T₁} {seen = seen} x r) w =
+gives {source} (runs.LaterRun.changed {e = e} {calls = calls} {T = T} {T₁ = T₁} {a = a} {seen = seen} x r) w =
     let ran = x .0 .well-formed w in
-    let e : limits T₁ ≡ limits T = limits-as (ran .lengths) in
+    let u : limits T₁ ≡ limits T = limits-as (ran .lengths) in
     let rest = gives r (next-holds {T = T} {T₁ = T₁} w ran) in
-    claim.AllGave.cons (record { number = ran .number-is; value = x .1; buffer = refl })
-    (subst (λ (l : List Shown). AllGave seen l)
-    (ap (λ (k : Limits). expected k calls (deskOf source T₁)) e ∙ ap (expected (limits T) calls) (ran .desk-is)) rest)
+    claim.AllGave.cons (edit-gave a (run (limits T) e (deskOf source T)) (ran .number-is) (x .1))
+    (subst (AllGave seen) (ap (λ (k : Limits). expected k calls (deskOf source T₁)) u ∙ ap (expected (limits T) calls) (ran .desk-is)) rest)
 gives {source} (runs.LaterRun.reported {q = q} {T = T} {x = y} x r) w = claim.AllGave.cons (told-gave q (deskOf source T) y (x .well-formed w)) (gives r w)
 
 -- ── the final text ──

@@ -1,6 +1,6 @@
 -- The any-order rule of the exported functions. Assumes nothing.
 use mathlib.Core.Path.{_≡_, refl, sym, ap, _∙_, subst}
-use mathlib.Core.List.{List, [], _∷_, _++_, map}
+use mathlib.Core.List.{List, _++_, map}
 use lib.ListN.{length, drop}
 use Rattle.model.specs.MagicString.{MagicString, to-string}
 use Rattle.model.specs.Limits.{Limits}
@@ -37,14 +37,14 @@ any-order-exported source T T′ w w′ same L L₁ L₂ p o₁ o₂ answers ans
           let e₁ : expected (limits T₁) calls (deskOf source T₁) ≡ expected k calls (after k L m) =
           ap (λ (j : Limits). expected j calls (deskOf source T₁)) (f₁ .same) ∙ ap (expected k calls) d₁ ∙ c₁ .later (map on-desk calls) in
           let e₂ : expected (limits T₂) calls (deskOf source T₂) ≡ expected k calls (after k L m) =
-          ap (λ (j : Limits). expected j calls (deskOf source T₂)) (f₂ .same ∙ u) ∙ ap (expected k calls) d₂ ∙ c₂ .later (map on-desk calls) in
-          (expected k calls (after k L m),
-          (λ seen a. subst (AllGave seen) e₁ (gives a (f₁ .holds))),
-          (λ seen b. subst (AllGave seen) e₂ (gives b (f₂ .holds))));
+          ap (λ (j : Limits). expected j calls (deskOf source T₂)) (f₂ .same ∙ u) ∙ ap (expected k calls) d₂ ∙ c₂ .later (map on-desk calls) in (
+            expected k calls (after k L m),
+            (λ seen a. subst (AllGave seen) e₁ (gives a (f₁ .holds))),
+            (λ seen b. subst (AllGave seen) e₂ (gives b (f₂ .holds))),
+          );
     }
 
--- ── what `Alike .later` comes to where the same buffers are lent after either order: all that is seen is the same, every byte ──
--- bytes by bytes written over
+-- ── `Alike .later` where the same buffers are lent after either order: all that is seen is the same, every byte of the buffers too ──
 same-gave : (x y : Seen) (s : Shown) → Gave x s → Gave y s → x .before ≡ y .before → x ≡ y
 same-gave x y s g h e =
     let n = g .number ∙ sym (h .number) in

@@ -44,7 +44,7 @@ pub record Alike (source : List ℕ) (answers answers′ : List Answer) (T T′ 
   pub holds : Holds source T
   pub holds′ : Holds source T′
   pub desk : deskOf source T ≡ deskOf source T′
-  -- the final text of either is this one
+  -- and the same final text
   pub text : FinalText source T (to-string (deskOf source T))
   pub text′ : FinalText source T′ (to-string (deskOf source T))
   -- whatever calls come later, with equal arguments and buffer lengths, they give the same after either
