@@ -1,4 +1,4 @@
--- What each premise is for: a list that breaks it, and no other, with what the list's two orders then do. By computation. docs/ANY-ORDER.md has the same table in words.
+-- What each premise is for: a list of two edits that breaks it, and what the list's two orders then do. By computation. docs/ANY-ORDER.md has the same table in words.
 use Prim.Native.Nat.{ℕ, suc}
 use mathlib.Core.Path.{_≡_, refl}
 use mathlib.Core.Bool.{Bool, true, cond}
@@ -76,9 +76,6 @@ b = 98
 abbrev c : ℕ
 c = 99
 
-abbrev d : ℕ
-d = 100
-
 abbrev x : ℕ
 x = 120
 
@@ -127,10 +124,10 @@ rows =
     row (a ∷ b ∷ []) [] (update-with 0 2 (X ∷ []) true ∷ relocate 0 1 2 ∷ []) (7 ∷ [])
     (left (0 ∷ 6 ∷ []) (X ∷ []))
     (left (0 ∷ 7 ∷ []) (b ∷ a ∷ [])) ∷
-    -- 8 an edit that is refused alone, on the desk "acdb"
-    row (a ∷ b ∷ c ∷ d ∷ []) (relocate 1 2 4 ∷ []) (update-with 0 2 (X ∷ []) true ∷ relocate 2 4 0 ∷ []) (8 ∷ [])
-    (left (7 ∷ 0 ∷ []) (c ∷ d ∷ a ∷ b ∷ []))
-    (left (0 ∷ 0 ∷ []) (c ∷ d ∷ X ∷ [])) ∷
+    -- 8 an edit that is refused alone, on the desk "acb"
+    row (a ∷ b ∷ c ∷ []) (relocate 1 2 3 ∷ []) (update-with 0 2 (X ∷ []) true ∷ relocate 2 3 0 ∷ []) (8 ∷ [])
+    (left (7 ∷ 0 ∷ []) (c ∷ a ∷ b ∷ []))
+    (left (0 ∷ 0 ∷ []) (c ∷ X ∷ [])) ∷
     -- 9 no space for both texts
     row (a ∷ []) [] (prepend many ∷ append many ∷ []) (9 ∷ [])
     (left (0 ∷ 13 ∷ []) (many ++ (a ∷ [])))

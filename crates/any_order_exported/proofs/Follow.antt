@@ -47,7 +47,7 @@ follows {source} (runs.EditRun.next {L = L} {T = T} {T₁ = T₁} x r) w =
     }
 
 -- ── later calls ──
-edit-gave : (a : Answer) (r : Result) → a .number ≡ r .number → a .value ≡ 0 → Gave (runs.seen-edit a) (call.changed r .shown)
+edit-gave : (a : Answer) (r : Result) → a .number ≡ r .number → a .value ≡ call.changed r .shown .value → Gave (runs.seen-edit a) (call.changed r .shown)
 edit-gave a r n v = record { number = n; value = v; buffer = refl }
 
 told-gave : (q : Report) (m : MagicString) (x : Seen) → Told q m (x .before) (x .after) (x .answer .number) (x .answer .value) → Gave x (show q m)
