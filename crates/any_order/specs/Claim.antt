@@ -7,7 +7,7 @@ use lib.Dec.{ltb}
 use lib.ListN.{length}
 use Rattle.utf8.specs.Chars.{All}
 use Rattle.model.specs.Text.{sum}
-use Rattle.model.specs.MagicString.{MagicString}
+use Rattle.model.specs.MagicString.{MagicString, to-string}
 use Rattle.model.specs.Limits.{Limits, piece-count, byte-count}
 use Rattle.model.specs.Call.{Edit, remove, update-with, reset, append-left, append-right, prepend-left, prepend-right, append, prepend, relocate, trim, trim-start, trim-end, trim-lines, indent-with, texts, positions, run, Call, Shown, perform}
 use Rattle.model.specs.WellFormed.{WellFormed}
@@ -203,6 +203,9 @@ pub record Conclusion (k : Limits) (m : MagicString) (L L′ : List Edit) : Type
   -- a desk here has no numbering and no places in the store, so that equal is what 01 calls the same
   pub desk : after k L′ m ≡ after k L m
   pub well-formed : WellFormed k (after k L′ m)
+  -- "The final text is what `to_string` writes into a buffer that is long enough"
+  pub text : to-string (after k L′ m) ≡ to-string (after k L m)
+  -- "no list of later calls can tell them apart"
   pub later : (calls : List Call) → shown k calls (after k L′ m) ≡ shown k calls (after k L m)
 
 -- the claim: of every desk and list of edits that meet the premises, every order of the list and every list of later calls

@@ -10,3 +10,4 @@ pub mod Theorem
 pub mod Tests
 pub mod Decide
 pub mod Example
+pub mod Needed

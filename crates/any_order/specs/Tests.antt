@@ -120,15 +120,20 @@ is-wide trim-lines = true
 is-wide (indent-with i l) = true
 
 -- ── the tests of a list over a source of n bytes ──
+abbrev pub all-within : ℕ → List Edit → Bool
+all-within n L = all (λ e. all (λ p. leb p n) (positions e)) L
+
+abbrev pub all-apart : ℕ → List Edit → Bool
+all-apart n L = pairs (λ x y. not (meets (zone n x) (zone n y))) L
+
+abbrev pub one-move : List Edit → Bool
+one-move L = pairs (λ x y. not (is-move x && is-move y)) L
+
+abbrev pub moves-free : List Edit → Bool
+moves-free L = pairs (λ x y. free-of x y && free-of y x) L
+
 unfoldable pub edits-apart : ℕ → List Edit → Bool
-edits-apart n L =
-    ltb 0 n
-    && (all listed L
-    && (all is-wide L
-    && (all (λ e. all (λ p. leb p n) (positions e)) L
-    && (pairs (λ x y. not (meets (zone n x) (zone n y))) L
-    && (pairs (λ x y. not (is-move x && is-move y)) L
-    && pairs (λ x y. free-of x y && free-of y x) L)))))
+edits-apart n L = ltb 0 n && (all listed L && (all is-wide L && (all-within n L && (all-apart n L && (one-move L && moves-free L)))))
 
 unfoldable pub each-alone : Limits → MagicString → List Edit → Bool
 each-alone k m L = all (λ e. eqb (run k e m .number) 0) L

@@ -1,12 +1,12 @@
 -- The any-order theorem. Assumes nothing.
 use Prim.Native.Nat.{ℕ, suc, _+_}
 use native.Mathlib.Omega.{arith}
-use mathlib.Core.Path.{_≡_, refl, ap, sym, _∙_}
-use mathlib.Core.List.{List, [], _∷_}
+use mathlib.Core.Path.{_≡_, refl, ap, sym, _∙_, subst}
+use mathlib.Core.List.{List, [], _∷_, _++_, reverse, reverseAux, append-nil}
 use lib.ListN.{length}
 use Rattle.utf8.specs.Chars.{All, cons}
 use Rattle.model.specs.Text.{sum}
-use Rattle.model.specs.MagicString.{MagicString, ok}
+use Rattle.model.specs.MagicString.{MagicString, ok, to-string}
 use Rattle.model.specs.Limits.{Limits}
 use Rattle.model.specs.Call.{Edit, run}
 use Rattle.model.specs.WellFormed.{WellFormed}
@@ -44,6 +44,18 @@ module _ {A : Type 0} where
   order-sum f (next x o) = ap (λ k. f x + k) (order-sum f o)
   order-sum f (swap x y) = omega arith
   order-sum f (then o o′) = order-sum f o ∙ order-sum f o′
+
+  -- the elements from the last to the first are an order
+  order-middle : (x : A) (l r : List A) → Order (x ∷ (l ++ r)) (l ++ (x ∷ r))
+  order-middle x [] r = same
+  order-middle x (y ∷ l) r = then (swap x y) (next y (order-middle x l r))
+
+  order-onto : (l r : List A) → Order (l ++ r) (reverseAux l r)
+  order-onto [] r = same
+  order-onto (x ∷ l) r = then (order-middle x l r) (order-onto l (x ∷ r))
+
+  pub order-reverse : (l : List A) → Order l (reverse l)
+  order-reverse l = subst (λ (x : List A). Order x (reverse l)) (append-nil l) (order-onto l [])
 
 -- so every order meets the premises
 apart-order : (n : ℕ) {L L′ : List Edit} → Order L L′ → EditsApart n L → EditsApart n L′
@@ -103,4 +115,4 @@ pub any-order : AnyOrder
 any-order k m L p L′ o =
     let r = all-accepted k L′ m (premises-order k m o p) in
     let d : after k L′ m ≡ after k L m = same-desk k o m p in
-    record { accepted = r .0; desk = d; well-formed = r .1; later = λ calls. ap (shown k calls) d }
+    record { accepted = r .0; desk = d; well-formed = r .1; text = ap to-string d; later = λ calls. ap (shown k calls) d }

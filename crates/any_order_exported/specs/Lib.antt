@@ -1,2 +1,3 @@
 pub mod Runs
-pub mod Theorem
+pub mod Claim
+pub mod Worked

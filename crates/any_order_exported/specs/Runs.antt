@@ -1,13 +1,10 @@
 -- Runs of the exported functions, by their contracts: what a caller lends, what it gets back, and what it can see.
 use Prim.Native.Nat.{ℕ}
 use mathlib.Core.Path.{_≡_}
-use mathlib.Core.Bool.{Bool, true, false, cond}
 use mathlib.Core.List.{List, [], _∷_}
-use lib.ListN.{length, take}
-use Rattle.model.specs.Text.{Text}
 use Rattle.model.specs.MagicString.{MagicString}
 use Rattle.model.specs.Limits.{Limits}
-use Rattle.model.specs.Call.{Edit, Report, to-string, slice, last-line, get-indent-string, len, len-utf16, line-count, is-empty, has-changed, is-range-within-edited-chunk, last-char, Shown}
+use Rattle.model.specs.Call.{Edit, Report, DeskCall, change, report}
 use Rattle.memory.specs.Layout.{magicStringOf}
 use Rattle.memory.specs.WellFormed.{limitsOf, Taken}
 use Rattle.memory.specs.Calls.{Edited, Reported}
@@ -28,45 +25,44 @@ deskOf source T = magicStringOf source (T .chunks) (T .pieces) (T .store)
 abbrev pub limits : Tables → Limits
 limits T = limitsOf (T .chunks) (T .pieces) (T .store)
 
--- "each edit gets the desk that the one before it left, and nothing else changes that desk meanwhile": a list of edits, the numbers that they got, and the tables after
-pub data EditRun (source : List ℕ) : List Edit → Tables → List ℕ → Tables → Type 0 where
+-- what an exported function returns
+pub record Answer : Type 0 where
+  pub number : ℕ
+  pub value : ℕ
+
+-- ── edits ──
+-- one edit, as the contract of its exported function has it (crates/magic_string/src/exported_edits.rt): on any tables, with its answer, and the tables after
+abbrev pub EditCall : List ℕ → Edit → Tables → Answer → Tables → Type 0
+EditCall source e T a T₁ =
+    Edited e source (T .chunks) (T .pieces) (T .store) (T₁ .chunks) (T₁ .pieces) (T₁ .store) (a .number) × (a .value ≡ 0)
+
+-- "An order of L is run from D: each edit gets the desk that the one before it left, and nothing else changes that desk meanwhile": a list of edits, their answers, and the
+-- tables after
+pub data EditRun (source : List ℕ) : List Edit → Tables → List Answer → Tables → Type 0 where
   done : {T : Tables} → EditRun source [] T [] T
-  next : {e : Edit} {L : List Edit} {T T₁ T₂ : Tables} {number : ℕ} {numbers : List ℕ}
-      → Edited e source (T .chunks) (T .pieces) (T .store) (T₁ .chunks) (T₁ .pieces) (T₁ .store) number
-      → EditRun source L T₁ numbers T₂ → EditRun source (e ∷ L) T (number ∷ numbers) T₂
+  next : {e : Edit} {L : List Edit} {T T₁ T₂ : Tables} {a : Answer} {answers : List Answer}
+      → EditCall source e T a T₁ → EditRun source L T₁ answers T₂ → EditRun source (e ∷ L) T (a ∷ answers) T₂
 
--- a later call on a desk; a report's room is the length of the buffer that is lent to it
-pub data Later : Type 0 where
-  change : Edit → Later
-  report : Report → Later
+-- ── later calls ──
+-- what a caller can see of a call outside the desk: the answer, and the buffer that it lent, before and after the call; both are empty where the call takes none
+pub record Seen : Type 0 where
+  pub answer : Answer
+  pub before : List ℕ
+  pub after : List ℕ
 
--- the calls that fill a buffer
-abbrev pub fills : Report → Bool
-fills (to-string r) = true
-fills (slice a b r) = true
-fills (last-line r) = true
-fills (get-indent-string r) = true
-fills len = false
-fills len-utf16 = false
-fills line-count = false
-fills is-empty = false
-fills has-changed = false
-fills (is-range-within-edited-chunk a b) = false
-fills last-char = false
+-- an edit takes no buffer
+abbrev pub seen-edit : Answer → Seen
+seen-edit a = record { answer = a; before = []; after = [] }
 
--- "each later call's number, what it reports and what it writes into lent memory outside the desk": the number, the value, and as many bytes at the front of the buffer as the
--- value says were written
-abbrev pub seen : Report → ℕ → ℕ → List ℕ → Shown
-seen q number value out = record { number = number; value = value; written = cond (fills q) (take value out) [] }
+-- one report, as the contract of its exported function has it (exported_reports.rt). The tables are lent for reading; the number in a report that fills a buffer is its length
+abbrev pub ReportCall : List ℕ → Report → Tables → Seen → Type 0
+ReportCall source q T x =
+    Reported q source (T .chunks) (T .pieces) (T .store) (x .before) (x .after) (x .answer .number) (x .answer .value)
 
-abbrev pub answered : ℕ → Shown
-answered number = record { number = number; value = 0; written = [] }
-
-pub data LaterRun (source : List ℕ) : List Later → Tables → List Shown → Type 0 where
+-- "Later calls are any list of this paper's calls on a desk .., refused ones included, run in the same way from what an order of L left": a list of them, and what is seen of each
+pub data LaterRun (source : List ℕ) : List DeskCall → Tables → List Seen → Type 0 where
   done : {T : Tables} → LaterRun source [] T []
-  changed : {e : Edit} {L : List Later} {T T₁ : Tables} {number : ℕ} {shown : List Shown}
-      → Edited e source (T .chunks) (T .pieces) (T .store) (T₁ .chunks) (T₁ .pieces) (T₁ .store) number
-      → LaterRun source L T₁ shown → LaterRun source (change e ∷ L) T (answered number ∷ shown)
-  reported : {q : Report} {L : List Later} {T : Tables} {out out′ : List ℕ} {number value : ℕ} {shown : List Shown}
-      → Reported q source (T .chunks) (T .pieces) (T .store) out out′ number value
-      → LaterRun source L T shown → LaterRun source (report q ∷ L) T (seen q number value out′ ∷ shown)
+  changed : {e : Edit} {calls : List DeskCall} {T T₁ : Tables} {a : Answer} {seen : List Seen}
+      → EditCall source e T a T₁ → LaterRun source calls T₁ seen → LaterRun source (change e ∷ calls) T (seen-edit a ∷ seen)
+  reported : {q : Report} {calls : List DeskCall} {T : Tables} {x : Seen} {seen : List Seen}
+      → ReportCall source q T x → LaterRun source calls T seen → LaterRun source (report q ∷ calls) T (x ∷ seen)

@@ -1,0 +1,81 @@
+-- Runs of the exported functions follow the model: what a run of edits leaves, and what later calls give.
+use Prim.Native.Nat.{ℕ, _≤_}
+use mathlib.Core.Path.{_≡_, refl, sym, ap, _∙_, subst}
+use mathlib.Core.List.{List, map}
+use lib.ListN.{length}
+use borrow.Author.Tests.{le-leb}
+use Rattle.utf8.specs.Chars.{All, nil, cons}
+use Rattle.model.specs.Text.{Text}
+use Rattle.model.specs.MagicString.{MagicString, Result, to-string}
+use Rattle.model.specs.Limits.{Limits}
+use Rattle.model.specs.Call.{Edit, Report, DeskCall, on-desk, Shown, run, show, perform}
+use Rattle.model.specs.Call as call
+use Rattle.memory.specs.Laws.{full-as, limits-as}
+use Rattle.memory.specs.Calls.{Ran, Told}
+use Rattle.any_order.specs.Claim.{AllAccepted, after, shown}
+use Rattle.any_order_exported.specs.Runs.{Tables, Holds, deskOf, limits, Answer, EditRun, Seen, LaterRun}
+use Rattle.any_order_exported.specs.Runs as runs
+use Rattle.any_order_exported.specs.Claim.{Gave, AllGave, FinalText}
+use Rattle.any_order_exported.specs.Claim as claim
+
+-- ── edits ──
+-- what an edit leaves holds a desk again, of the same limits
+next-holds : {e : Edit} {source : List ℕ} {T T₁ : Tables} {number : ℕ} → Holds source T
+    → Ran e source (T .chunks) (T .pieces) (T .store) (T₁ .chunks) (T₁ .pieces) (T₁ .store) number → Holds source T₁
+next-holds w ran = record { full = full-as (ran .lengths) (w .full); well-formed = ran .well-formed }
+
+pub record Follows (source : List ℕ) (L : List Edit) (T : Tables) (answers : List Answer) (T₁ : Tables) : Type 0 where
+  pub holds : Holds source T₁
+  pub same : limits T₁ ≡ limits T
+  pub desk : deskOf source T₁ ≡ after (limits T) L (deskOf source T)
+  pub accepted : AllAccepted (limits T) L (deskOf source T) → All (λ a. a .number ≡ 0) answers
+
+pub follows : {source : List ℕ} {L : List Edit} {T : Tables} {answers : List Answer} {T₁ : Tables} → EditRun source L T answers T₁ → Holds source T
+    → Follows source L T answers T₁
+follows runs.EditRun.done w = record { holds = w; same = refl; desk = refl; accepted = λ a. nil }
+follows {source} (runs.EditRun.next {L = L} {T = T} {T₁ = T₁} x r) w =
+    let ran = x .0 .well-formed w in
+    let f = follows r (next-holds {T = T} {T₁ = T₁} w ran) in
+    let e : limits T₁ ≡ limits T = limits-as (ran .lengths) in
+    record {
+      holds = f .holds;
+      same = f .same ∙ e;
+      desk = f .desk ∙ ap (λ (k : Limits). after k L (deskOf source T₁)) e ∙ ap (after (limits T) L) (ran .desk-is);
+      accepted = λ a.
+          cons (ran .number-is ∙ a .0)
+          (f .accepted (subst (λ (k : Limits). AllAccepted k L (deskOf source T₁)) (sym e) (subst (AllAccepted (limits T) L) (sym (ran .desk-is)) (a .1))));
+    }
+
+-- ── later calls ──
+edit-gave : (a : Answer) (r : Result) → a .number ≡ r .number → a .value ≡ call.changed r .shown .value → Gave (runs.seen-edit a) (call.changed r .shown)
+edit-gave a r n v = record { number = n; value = v; buffer = refl }
+
+told-gave : (q : Report) (m : MagicString) (x : Seen) → Told q m (x .before) (x .after) (x .answer .number) (x .answer .value) → Gave x (show q m)
+told-gave q m x d = record { number = d .number-is; value = d .value-is; buffer = d .written }
+
+-- what the model shows of them
+abbrev pub expected : Limits → List DeskCall → MagicString → List Shown
+expected k calls m = shown k (map on-desk calls) m
+
+pub gives : {source : List ℕ} {calls : List DeskCall} {T : Tables} {seen : List Seen} → LaterRun source calls T seen → Holds source T
+    → AllGave seen (expected (limits T) calls (deskOf source T))
+unfolding perform
+gives runs.LaterRun.done w = claim.AllGave.nil
+gives {source} (runs.LaterRun.changed {e = e} {calls = calls} {T = T} {T₁ = T₁} {a = a} {seen = seen} x r) w =
+    let ran = x .0 .well-formed w in
+    let u : limits T₁ ≡ limits T = limits-as (ran .lengths) in
+    let rest = gives r (next-holds {T = T} {T₁ = T₁} w ran) in
+    claim.AllGave.cons (edit-gave a (run (limits T) e (deskOf source T)) (ran .number-is) (x .1))
+    (subst (AllGave seen) (ap (λ (k : Limits). expected k calls (deskOf source T₁)) u ∙ ap (expected (limits T) calls) (ran .desk-is)) rest)
+gives {source} (runs.LaterRun.reported {q = q} {T = T} {x = y} x r) w = claim.AllGave.cons (told-gave q (deskOf source T) y (x .well-formed w)) (gives r w)
+
+-- ── the final text ──
+long-enough : (t : Text) (room : ℕ) → length t ≤ room → call.into room t ≡ record { number = 0; value = length t; written = t }
+long-enough t room h = rw (le-leb (length t) room h)
+
+pub final-text : (source : List ℕ) (T : Tables) → Holds source T → FinalText source T (to-string (deskOf source T))
+unfolding show
+final-text source T w x h r =
+    let m : MagicString = deskOf source T in
+    let room : ℕ = length (x .before) in
+    subst (Gave x) (long-enough (to-string m) room h) (told-gave (call.to-string room) m x (r .well-formed w))
