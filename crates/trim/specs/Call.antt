@@ -33,17 +33,13 @@ module _ {source t p s : List ℕ} {used : Used} (d : Desk source t p s used) wh
 module _ {source t p s t' p' s' : List ℕ} {o : Outcome} where
   module _ (n : ℕ) (h : n ≤ 1) where
     pub start-ran : TrimRan false true n source t p s t' p' s' (o .number) × Above t' p' s' (o .used) → Leaves (trim-start n) source t p s t' p' s' o
-    unfolding idle
     start-ran f = record { ran = f .0 (trim-start n) (not-refused (trim-start n) source t p s (le-leb n 1 h) refl refl) refl refl; above = f .1 }
 
     pub end-ran : TrimRan false false n source t p s t' p' s' (o .number) × Above t' p' s' (o .used) → Leaves (trim-end n) source t p s t' p' s' o
-    unfolding idle
     end-ran f = record { ran = f .0 (trim-end n) (not-refused (trim-end n) source t p s (le-leb n 1 h) refl refl) refl refl; above = f .1 }
 
     pub both-ran : TrimRan true true n source t p s t' p' s' (o .number) × Above t' p' s' (o .used) → Leaves (trim n) source t p s t' p' s' o
-    unfolding idle
     both-ran f = record { ran = f .0 (trim n) (not-refused (trim n) source t p s (le-leb n 1 h) refl refl) refl refl; above = f .1 }
 
   pub lines-ran : TrimRan true true 1 source t p s t' p' s' (o .number) × Above t' p' s' (o .used) → Leaves trim-lines source t p s t' p' s' o
-  unfolding idle
   lines-ran f = record { ran = f .0 trim-lines (not-refused trim-lines source t p s refl refl refl) refl refl; above = f .1 }
