@@ -1,12 +1,12 @@
--- A piece more on top of the lent tables: the run's rows are copied above all rows in use, the text goes above all bytes in use, and the row names the copy.
-use mathlib.Core.Path.{_≡_, refl, sym, ap, _∙_, subst}
+-- A piece more on top of the lent tables: the text goes above all bytes in use, and the row names the longer run, whose rows are copied above all rows in use or end there already.
+use mathlib.Core.Path.{_≡_, refl, sym, ap, ap₂, _∙_, subst}
 use mathlib.Core.Bool.{Bool, true, false}
 use mathlib.Core.List.{List, [], _∷_, _++_, map, map-append}
 use Prim.Native.Nat.{ℕ, suc, _+_, _*_, _/_, _-_, _≤_, _<_}
 use native.Mathlib.Omega.{arith}
 use native.Mathlib.Numerals.{add-one}
 use lib.ListN.{length, take, drop, take-append-drop}
-use lib.Seq.{length-take-le}
+use lib.Seq.{length-take-le, take-append-add}
 use Rattle.utf8.specs.Chars.{All}
 use Rattle.utf8.specs.CharLaws.{all-front, all-back}
 use Rattle.table.specs.declared.Row.{Row}
@@ -18,58 +18,88 @@ use Rattle.model.specs.Limits.{piece-count, chunk-pieces}
 use Rattle.model.specs.Lists.{sum-append, first-of, rest-of}
 use Rattle.memory.specs.Layout.{Place, runOf, chunkOf, magicStringOf}
 use Rattle.memory.specs.WellFormed.{RunIn, RunsIn, EntryIn, Readable, HoldsEach, Disjoint, among, pieceUses, runUses, listUses, byteUses, times}
+use Rattle.texts.specs.Over.{length-over}
 use Rattle.texts.specs.Texts.{run-length, run-piece}
 use Rattle.rows.specs.Find.{First}
 use Rattle.rows.specs.Insert.{runsOf}
 use Rattle.rows.specs.Split.{RowSet, row-set, DeskSet, desk-set, entries-at}
-use Rattle.on_top.specs.declared.Used.{Used}
-use Rattle.on_top.specs.Run.{TopRoom, Lengthened, rowWords, withWords, above-rows, above-bytes, new-texts, new-in}
-use Rattle.on_top.specs.Apart.{rowUses, storeUses, apart-after, lengthened-uses, run-uses-front, list-uses-front, sum-uses-front}
+use Rattle.frame.specs.Front.{run-front}
+use Rattle.memory_used.specs.declared.Used.{Used}
+use Rattle.memory_used.specs.Below.{Below}
+use Rattle.memory_used.proofs.Below.{run-below}
+use Rattle.on_top.specs.Run.{TopRoom, Lengthened}
+use Rattle.on_top.specs.Apart.{rowUses, storeUses, apart-after, run-uses-front, list-uses-front, sum-uses-front}
+use Rattle.on_top.proofs.Longer.{longer-rows, longer-bytes, longer-texts, longer-below, longer-among, longer-uses}
 use Rattle.insert_row.specs.Piece.{side, with-side, Longer, PieceAdded, side-in}
 
--- the piece is added to row i; its run begins at the row, and uses the bytes of the run before it and those of the text
-pub record AddedOnTop (outro front : Bool) (text : List ℕ) (row byte : ℕ) (P S t t' P' S' : List ℕ) (i : ℕ) : Type 0 where
+-- the piece is added to row i. Its run ends below row', its texts at or before the end of the new one; its rows are those of the run before it and some from the row on,
+-- its bytes those of that run and of the text
+pub record AddedOnTop (outro front : Bool) (text : List ℕ) (row byte : ℕ) (P S t t' P' S' : List ℕ) (i row' : ℕ) : Type 0 where
   pub added : PieceAdded outro front text (take (row * 2) P) (take byte S) t t' P' S' i
-  pub place : added .run .0 ≡ row
+  pub below : Below P' (byte + length text) row' (added .run)
+  pub from : row ≤ row'
+  pub to : row' * 2 ≤ length P'
+  pub bytes-to : byte + length text ≤ length S'
+  pub rows : (j : ℕ) → among (added .run) j ≤ among (side outro (entryAt t i)) j + among (row, added .run .1) j
   pub uses : (b : ℕ) → runUses P' b (added .run) ≡ runUses (take (row * 2) P) b (side outro (entryAt t i)) + among (byte, length text) b
 
-module _ (front : Bool) (text : List ℕ) (x : Place) (row byte : ℕ) (P S P' S' : List ℕ) (room : TopRoom x text P S row byte) (d : Lengthened front text x row byte P S P' S')
-    (h : RunIn (take (row * 2) P) (take byte S) x) where
-  longer-on-top : Longer (take (row * 2) P) (take byte S) front text x P' S' (row, suc (x .1))
-  longer-on-top =
-      record {
-        behind = withWords front byte (length text) (rowWords P x) ++ drop (row * 2 + length (withWords front byte (length text) (rowWords P x))) P;
-        after = text ++ drop (byte + length text) S;
-        pieces = above-rows front text x row byte P S P' S' room d h;
-        store = above-bytes front text x row byte P S P' S' room d h;
-        texts = new-texts front text x row byte P S P' S' room d h;
-        run-in = new-in front text x row byte P S P' S' room d h;
-      }
+below-in : (p s : List ℕ) (row byte : ℕ) (x : Place) → Below p byte row x → row * 2 ≤ length p → byte ≤ length s → RunIn p s x
+unfolding RunIn
+below-in p s row byte x b hr hb k g = record { row = omega (arith, b k g .0); text = omega (arith, b k g .1) }
 
-  uses-on-top : (b : ℕ) → runUses P' b (row, suc (x .1)) ≡ runUses (take (row * 2) P) b x + among (byte, length text) b
-  uses-on-top b =
-      let e : runUses P b x ≡ runUses (take (row * 2) P) b x =
-      ap (λ (l : List ℕ). runUses l b x) (sym (take-append-drop (row * 2) P)) ∙ run-uses-front (take (row * 2) P) (take byte S) (drop (row * 2) P) b x h in
-      lengthened-uses front text x row byte P S P' S' room d b ∙ ap (λ (n : ℕ). n + among (byte, length text) b) e
-
--- the row read, its run copied, and the row written
-pub added-on-top : (outro front : Bool) (text : List ℕ) (i row byte : ℕ) {P S P' S' t t' : List ℕ} (r : Row) (run : Piece) {x : Row}
+-- the row read, its run lengthened, and the row written
+pub added-on-top : (outro front : Bool) (text : List ℕ) (i row byte : ℕ) {P S P' S' t t' : List ℕ} (r : Row) (run : Piece) (first row' : ℕ) {x : Row}
     → r ≡ rowAt t i → (run .at, run .n) ≡ side outro (entryOf r) → TopRoom (side outro (entryAt t i)) text P S row byte → RunIn (take (row * 2) P) (take byte S) (side outro (entryAt t i))
-    → Lengthened front text (run .at, run .n) row byte P S P' S' → x ≡ with-side outro (row, run .n + 1) r → Put t t' i x → AddedOnTop outro front text row byte P S t t' P' S' i
-added-on-top outro front text i row byte {P} {S} {P'} {S'} {t} {t'} r run er eu room h d ex pt =
+    → Lengthened front text (run .at, run .n) row byte P S P' S' first → x ≡ with-side outro (first, run .n + 1) r → Put t t' i x → row' ≡ first + run .n + 1
+    → AddedOnTop outro front text row byte P S t t' P' S' i row'
+added-on-top outro front text i row byte {P} {S} {P'} {S'} {t} {t'} r run first row' er eu room h d ex pt ew =
     let z : _≡_ {A = Place} (run .at, run .n) (side outro (entryAt t i)) = eu ∙ ap (λ (y : Row). side outro (entryOf y)) er in
     let v = side outro (entryAt t i) in
-    let d' : Lengthened front text (side outro (entryAt t i)) row byte P S P' S' = subst (λ (y : Place). Lengthened front text y row byte P S P' S') z d in
-    let e : _≡_ {A = Place} (row, run .n + 1) (row, suc (v .1)) = ap (λ (n : ℕ). (row, n)) (add-one (run .n)) ∙ ap (λ (y : Place). (row, suc (y .1))) z in
+    let d' : Lengthened front text (side outro (entryAt t i)) row byte P S P' S' first = subst (λ (y : Place). Lengthened front text y row byte P S P' S' first) z d in
+    let e : _≡_ {A = Place} (first, run .n + 1) (first, suc (v .1)) = ap (λ (n : ℕ). (first, n)) (add-one (run .n)) ∙ ap (λ (y : Place). (first, suc (y .1))) z in
+    let ev : row' ≡ first + v .1 + 1 = ew ∙ ap (λ (y : Place). first + y .1 + 1) z in
+    let fits : byte + length text ≤ length S' = omega (arith, ap length (d .store-is), length-over S byte text (room .bytes-in), room .bytes-in) in
+    let to : row' * 2 ≤ length P' = omega (arith, room .rows-in, d' .to, d' .length-is) in
+    let below : Below P' (byte + length text) row' (first, suc (v .1)) = rw ev (longer-below room d' h) in
     record {
       added =
           record {
-            run = (row, suc (v .1));
-            longer = longer-on-top front text v row byte P S P' S' room d' h;
-            put = subst (Put t t' i) (ex ∙ ap (with-side outro (row, run .n + 1)) er ∙ ap (λ (y : Place). with-side outro y (rowAt t i)) e) pt;
+            run = (first, suc (v .1));
+            longer =
+                record {
+                  behind = drop (row * 2) P';
+                  after = text ++ drop (byte + length text) S;
+                  pieces = longer-rows room d' h;
+                  store = longer-bytes room d' h;
+                  texts = longer-texts room d' h;
+                  run-in = below-in P' S' row' (byte + length text) (first, suc (v .1)) below to fits;
+                };
+            put = subst (Put t t' i) (ex ∙ ap (with-side outro (first, run .n + 1)) er ∙ ap (λ (y : Place). with-side outro y (rowAt t i)) e) pt;
           };
-      place = refl;
-      uses = uses-on-top front text v row byte P S P' S' room d' h;
+      below = below;
+      from = omega (arith, d' .from);
+      to = to;
+      bytes-to = fits;
+      rows = longer-among room d' h;
+      uses = longer-uses room d' h;
+    }
+
+-- what lies below a row and a byte that a run is below is longer by it too
+longer-cut : {p s : List ℕ} {front : Bool} {text : List ℕ} {x : Place} {p' s' : List ℕ} {y : Place} (row byte : ℕ) → Longer p s front text x p' s' y → Below p' byte row y
+    → row * 2 ≤ length p' → byte ≤ length s' → length p ≤ row * 2 → length s ≤ byte → Longer p s front text x (take (row * 2) p') (take byte s') y
+longer-cut {p} {s} {p' = p'} {s'} {y} row byte l b hr hb lp ls =
+    let inside = run-below p' s' byte row hr hb y b in
+    let er : row * 2 ≡ length p + (row * 2 - length p) = omega arith in
+    let eb : byte ≡ length s + (byte - length s) = omega arith in
+    record {
+      behind = take (row * 2 - length p) (l .behind);
+      after = take (byte - length s) (l .after);
+      pieces = ap₂ take er (l .pieces) ∙ take-append-add p (l .behind) (row * 2 - length p);
+      store = ap₂ take eb (l .store) ∙ take-append-add s (l .after) (byte - length s);
+      texts =
+          sym (run-front (take (row * 2) p') (take byte s') (drop (row * 2) p') (drop byte s') y inside)
+          ∙ ap₂ (λ (a c : List ℕ). runOf a c y) (take-append-drop (row * 2) p') (take-append-drop byte s') ∙ l .texts;
+      run-in = inside;
     }
 
 -- what a change on top keeps: every row stands in the list once, and no row or byte belongs to two
@@ -82,16 +112,16 @@ each-kept : (t t' : List ℕ) → order t' ≡ order t → countOf t' ≡ countO
 each-kept t t' o c h i a b = ap (times i) o ∙ h i a (omega arith)
 
 -- ── one row's uses ──
-side-rows : (outro : Bool) (r : Row) (y : Place) (j : ℕ) → pieceUses j (entryOf (with-side outro y r)) ≤ pieceUses j (entryOf r) + among y j
-side-rows true r y j = omega arith
-side-rows false r y j = omega arith
+side-rows : (outro : Bool) (r : Row) (y : Place) (j n : ℕ) → among y j ≤ among (side outro (entryOf r)) j + n → pieceUses j (entryOf (with-side outro y r)) ≤ pieceUses j (entryOf r) + n
+side-rows true r y j n h = omega arith
+side-rows false r y j n h = omega arith
 
 side-bytes : (outro : Bool) (r : Row) (y : Place) (p s z : List ℕ) (b n : ℕ) → RunsIn p s (entryOf r) → runUses (p ++ z) b y ≡ runUses p b (side outro (entryOf r)) + n
     → listUses (p ++ z) b (entryOf (with-side outro y r)) ≡ listUses p b (entryOf r) + n
 side-bytes true r y p s z b n h e = omega (arith, run-uses-front p s z b (entryOf r .intro) (h .intro))
 side-bytes false r y p s z b n h e = omega (arith, run-uses-front p s z b (entryOf r .outro) (h .outro))
 
-module _ (outro front : Bool) (text : List ℕ) (row byte : ℕ) (P S t t' P' S' : List ℕ) (i : ℕ) (a : AddedOnTop outro front text row byte P S t t' P' S' i)
+module _ (outro front : Bool) (text : List ℕ) (row byte : ℕ) (P S t t' P' S' : List ℕ) (i row' : ℕ) (a : AddedOnTop outro front text row byte P S t t' P' S' i row')
     (h : Readable t (take (row * 2) P) (take byte S)) (len : length t' ≡ length t) (hr : row * 2 ≤ length P) (hb : byte ≤ length S) where
   abbrev p : List ℕ
   p = take (row * 2) P
@@ -108,11 +138,22 @@ module _ (outro front : Bool) (text : List ℕ) (row byte : ℕ) (P S t t' P' S'
   new-uses : (b : ℕ) → runUses (p ++ z) b y ≡ runUses p b (side outro (entryAt t i)) + among (byte, length text) b
   new-uses b = ap (λ (l : List ℕ). runUses l b y) (sym (a .added .longer .pieces)) ∙ a .uses b
 
-  apart-on-top : ((j : ℕ) → rowUses t' j ≤ rowUses t j + among y j) → ((b : ℕ) → storeUses t' (p ++ z) b ≤ storeUses t p b + among (byte, length text) b) → Disjoint t P → Disjoint t' P'
+  -- nothing of it lies above
+  pub cut : PieceAdded outro front text p s t t' (take (row' * 2) P') (take (byte + length text) S') i
+  cut =
+      record {
+        run = y;
+        longer =
+            longer-cut row' (byte + length text) (a .added .longer) (a .below) (a .to) (a .bytes-to)
+            (omega (arith, a .from, length-take-le (row * 2) P hr)) (omega (arith, length-take-le byte S hb));
+        put = a .added .put;
+      }
+
+  apart-on-top : ((j : ℕ) → rowUses t' j ≤ rowUses t j + among (row, y .1) j) → ((b : ℕ) → storeUses t' (p ++ z) b ≤ storeUses t p b + among (byte, length text) b) → Disjoint t P → Disjoint t' P'
   apart-on-top rows bytes d =
       subst (Disjoint t') (sym (a .added .longer .pieces))
-      (apart-after t t' p s (drop (row * 2) P) z y (byte, length text) h (subst (Disjoint t) (sym (take-append-drop (row * 2) P)) d)
-      (omega (arith, a .place, length-take-le (row * 2) P hr)) (omega (arith, length-take-le byte S hb)) rows bytes)
+      (apart-after t t' p s (drop (row * 2) P) z (row, y .1) (byte, length text) h (subst (Disjoint t) (sym (take-append-drop (row * 2) P)) d)
+      (omega (arith, length-take-le (row * 2) P hr)) (omega (arith, length-take-le byte S hb)) rows bytes)
 
   -- a chunk of the list
   module _ (us bs : List ℕ) (o : order t ≡ us ++ i ∷ bs) where
@@ -143,7 +184,7 @@ module _ (outro front : Bool) (text : List ℕ) (row byte : ℕ) (P S t t' P' S'
     mid-in : All (EntryIn p s) (e ∷ ys)
     mid-in = all-back (EntryIn p s) xs (e ∷ ys) all-in
 
-    found-rows : (j : ℕ) → rowUses t' j ≤ rowUses t j + among y j
+    found-rows : (j : ℕ) → rowUses t' j ≤ rowUses t j + among (row, y .1) j
     found-rows j =
         omega (
           arith,
@@ -152,7 +193,7 @@ module _ (outro front : Bool) (text : List ℕ) (row byte : ℕ) (P S t t' P' S'
           ap (sum (pieceUses j)) after,
           sum-append (pieceUses j) xs (e ∷ ys),
           sum-append (pieceUses j) xs (e' ∷ ys),
-          side-rows outro (rowAt t i) y j,
+          side-rows outro (rowAt t i) y j (among (row, y .1) j) (a .rows j),
         )
 
     found-bytes : (b : ℕ) → storeUses t' (p ++ z) b ≤ storeUses t p b + among (byte, length text) b
@@ -173,7 +214,7 @@ module _ (outro front : Bool) (text : List ℕ) (row byte : ℕ) (P S t t' P' S'
     pub found-on-top : OnTop t P t' P'
     found-on-top = record { each = each-kept t t' (set .order-is) (set .count); apart = apart-on-top found-rows found-bytes; count = set .count }
 
-module _ (outro front : Bool) (text : List ℕ) (row byte : ℕ) (P S t t' P' S' : List ℕ) (a : AddedOnTop outro front text row byte P S t t' P' S' 0)
+module _ (outro front : Bool) (text : List ℕ) (row byte : ℕ) (P S t t' P' S' : List ℕ) (row' : ℕ) (a : AddedOnTop outro front text row byte P S t t' P' S' 0 row')
     (h : Readable t (take (row * 2) P) (take byte S)) (len : length t' ≡ length t) (hr : row * 2 ≤ length P) (hb : byte ≤ length S) where
   abbrev w : Row
   w = with-side outro (a .added .run) (rowAt t 0)
@@ -194,14 +235,14 @@ module _ (outro front : Bool) (text : List ℕ) (row byte : ℕ) (P S t t' P' S'
       record {
         each = each-kept t t' whole-order (whole-set .count);
         apart =
-            apart-on-top outro front text row byte P S t t' P' S' 0 a h len hr hb
-            (λ j. omega (arith, ap (λ (x : Place × Place). among (x .0) j + among (x .1) j) (whole-set .desk), ap (sum (pieceUses j)) (whole-set .chunks), side-rows outro (rowAt t 0) y j))
+            apart-on-top outro front text row byte P S t t' P' S' 0 row' a h len hr hb
+            (λ j. omega (arith, ap (λ (x : Place × Place). among (x .0) j + among (x .1) j) (whole-set .desk), ap (sum (pieceUses j)) (whole-set .chunks), side-rows outro (rowAt t 0) y j (among (row, y .1) j) (a .rows j)))
             (λ b. omega (
               arith,
               ap (λ (x : Place × Place). runUses (q ++ z) b (x .0) + runUses (q ++ z) b (x .1)) (whole-set .desk),
               ap (sum (byteUses (q ++ z) b)) (whole-set .chunks),
               sum-uses-front q k z b (h .chunks),
-              side-bytes outro (rowAt t 0) y q k z b (among (byte, length text) b) (h .desk) (new-uses outro front text row byte P S t t' P' S' 0 a h len hr hb b),
+              side-bytes outro (rowAt t 0) y q k z b (among (byte, length text) b) (h .desk) (new-uses outro front text row byte P S t t' P' S' 0 row' a h len hr hb b),
             ));
         count = whole-set .count;
       }

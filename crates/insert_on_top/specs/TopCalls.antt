@@ -14,21 +14,23 @@ use Rattle.model.specs.Chunk.{Chunk, Texts, with-texts, start-of, end-of}
 use Rattle.model.specs.MagicString.{MagicString, Result, ok, err, and-then, with-chunks, with-intro, with-outro, by-start, by-end, at-start, at-end}
 use Rattle.model.specs.Limits.{within, chunk-pieces, chunk-bytes, byte-count, piece-count}
 use Rattle.memory.specs.Layout.{magicStringOf}
-use Rattle.memory.specs.WellFormed.{limitsOf, Lengths, Readable, WellFormed}
+use Rattle.memory.specs.WellFormed.{limitsOf, Readable}
 use Rattle.memory.specs.Calls.{may-write}
 use Rattle.memory.specs.Laws.{chunk-count, source-of, keeps-within}
 use Rattle.texts.specs.Carry.{withText}
 use Rattle.rows.specs.Find.{meets, First}
-use Rattle.uses.specs.Kept.{Kept, kept-same, kept-apart, kept-within, fewer-pieces, fewer-bytes}
+use Rattle.uses.specs.Kept.{Kept, kept-same, kept-apart, fewer-pieces, fewer-bytes}
 use Rattle.frame.specs.Frame.{Did, may-write-0, may-write-6}
-use Rattle.in_place.specs.InPlace.{ran-in-place, ran-rows}
-use Rattle.split.specs.Cuts.{CutsDone, formed-spans, stop}
-use Rattle.on_top.specs.declared.Used.{Used}
-use Rattle.on_top.specs.Live.{LiveOf, Room, read-below}
+use Rattle.in_place.specs.InPlace.{ran-in-place, ran-rows, above-kept}
+use Rattle.split.specs.Cuts.{CutsDone, CutsLeave, formed-spans, stop}
+use Rattle.memory_used.specs.declared.Used.{Used}
+use Rattle.memory_used.specs.Above.{Above, Desk}
+use Rattle.on_top.specs.Live.{Room, read-below}
+use Rattle.on_top.proofs.Finishing.{bytes-below}
 use Rattle.insert_row.specs.Piece.{with-length}
 use Rattle.insert_row.specs.Insertion.{add-to, whole-add, insert-step, insert-at, key-of, inserted-found, inserted-whole, whole-added}
 use Rattle.insert_row.specs.Calls.{InsertRan, WholeRan, with-sum, six}
-use Rattle.insert_on_top.specs.OnTop.{AddedOnTop, OnTop, found-on-top, whole-on-top, TopReady}
+use Rattle.insert_on_top.specs.OnTop.{AddedOnTop, OnTop, cut, found-on-top, whole-on-top, TopReady}
 
 -- ── the limits ──
 -- a piece more, of the text t
@@ -111,30 +113,25 @@ step-more false front q t m = go (by-start q (m .chunks))
     go none = whole-more true front t m
     go (some c) = here
 
--- what the desk has, one piece more, and the limits of tables of the lengths of T, P and S
-within-more : (T P S text t p s t' p' s' : List ℕ) (l : Used) (n : ℕ) → piece-count (magicStringOf [] t p s) ≤ l .pieces → byte-count (magicStringOf [] t p s) ≤ l .bytes → countOf t ≤ length T / 12 - 1
-    → Room (length T) (length P) (length S) l n (length text) → OneMore text (magicStringOf [] t p s) (magicStringOf [] t' p' s') → within (limitsOf T P S) (magicStringOf [] t' p' s') ≡ true
-within-more T P S text t p s t' p' s' l n a b c rm o =
-    keeps-within
-    (record {
-      source = rw (source-of [] t' p' s') (omega arith);
-      chunks = omega (arith, o .chunks, chunk-count [] t p s);
-      pieces = omega (arith, o .pieces, rm .pieces);
-      bytes = omega (arith, o .bytes, rm .bytes);
-    })
+-- the rows and the bytes below a bound
+abbrev rowsBelow : Used → List ℕ → List ℕ
+rowsBelow l P = take (l .row * 2) P
 
--- the limits do not ask which source it is
-pub bare-within : {source t P S : List ℕ} → WellFormed source t P S → within (limitsOf t P S) (magicStringOf [] t P S) ≡ true
-bare-within {source} {t} {P} {S} w = kept-within (kept-same t) (limitsOf t P S) source P S (w .desk .limits) (omega (arith, w .readable .linked .room))
+abbrev bytesBelow : Used → List ℕ → List ℕ
+bytesBelow l S = take (l .byte) S
+
+-- what a desk uses behind an insertion: a piece, and its text
+abbrev pub grown : Used → ℕ → ℕ → Used
+grown l row n = record { pieces = l .pieces + 1; row = row; byte = l .byte + n }
 
 -- ── ready for the piece, before the cut or behind it ──
-module _ {source t P S t1 : List ℕ} {l : Used} {n : ℕ} (text : List ℕ) (w : WellFormed source t P S) (lv : LiveOf t P S l) (rm : Room (length t) (length P) (length S) l n (length text))
-    (h : Readable t1 (take (l .row * 2) P) (take (l .byte) S)) (k : Kept t t1) where
-  pieces-after : piece-count (magicStringOf [] t1 (take (l .row * 2) P) (take (l .byte) S)) ≤ l .pieces
-  pieces-after = omega (arith, ap piece-count (read-below t1 P S (l .row) (l .byte) h []), fewer-pieces k P S, lv .pieces)
+module _ {source t P S t1 : List ℕ} {l : Used} {n : ℕ} (text : List ℕ) (w : Desk source t P S l) (rm : Room (length t) (length P) (length S) l n (length text))
+    (h : Readable t1 (rowsBelow l P) (bytesBelow l S)) (k : Kept t t1) where
+  pieces-after : piece-count (magicStringOf [] t1 (rowsBelow l P) (bytesBelow l S)) ≤ l .pieces
+  pieces-after = omega (arith, ap piece-count (read-below t1 P S (l .row) (l .byte) h []), fewer-pieces k P S, w .above .pieces)
 
-  bytes-after : byte-count (magicStringOf [] t1 (take (l .row * 2) P) (take (l .byte) S)) ≤ l .bytes
-  bytes-after = omega (arith, ap byte-count (read-below t1 P S (l .row) (l .byte) h []), fewer-bytes k P S, lv .bytes)
+  bytes-after : byte-count (magicStringOf [] t1 (rowsBelow l P) (bytesBelow l S)) ≤ l .byte
+  bytes-after = omega (arith, ap byte-count (read-below t1 P S (l .row) (l .byte) h []), fewer-bytes k P S, bytes-below (w .well-formed .disjoint) (w .above))
 
   pub ready-after : TopReady t1 P S text l
   ready-after =
@@ -143,107 +140,161 @@ module _ {source t P S t1 : List ℕ} {l : Used} {n : ℕ} (text : List ℕ) (w 
         pieces = pieces-after;
         rows = rm .rows;
         bytes = rm .places;
-        lent-pieces = w .sized .pieces;
-        lent-store = w .sized .store;
+        lent-pieces = w .well-formed .sized .pieces;
+        lent-store = w .well-formed .sized .store;
       }
 
-  within-after : countOf t1 ≤ length t / 12 - 1 → (t' P' S' : List ℕ) → OneMore text (magicStringOf [] t1 (take (l .row * 2) P) (take (l .byte) S)) (magicStringOf [] t' P' S') → within (limitsOf t P S) (magicStringOf [] t' P' S') ≡ true
-  within-after c t' P' S' o = within-more t P S text t1 (take (l .row * 2) P) (take (l .byte) S) t' P' S' l n pieces-after bytes-after c rm o
+  -- with one piece more it keeps the limits, and the bound with one more is above it
+  module _ (t' P' S' : List ℕ) (o : OneMore text (magicStringOf [] t1 (rowsBelow l P) (bytesBelow l S)) (magicStringOf [] t' P' S')) where
+    within-after : countOf t1 ≤ length t / 12 - 1 → within (limitsOf t P S) (magicStringOf [] t' P' S') ≡ true
+    within-after c =
+        keeps-within
+        (record {
+          source = rw (source-of [] t' P' S') (omega arith);
+          chunks = omega (arith, o .chunks, chunk-count [] t1 (rowsBelow l P) (bytesBelow l S));
+          pieces = omega (arith, o .pieces, pieces-after, rm .pieces);
+          bytes = omega (arith, o .bytes, bytes-after, rm .places);
+        })
+
+    above-after : (row : ℕ) → Readable t' (take (row * 2) P') (take (l .byte + length text) S') → row * 2 ≤ length P' → length P' ≡ length P → length S' ≡ length S
+        → Above t' P' S' (grown l row (length text))
+    above-after row low to lp ls =
+        record {
+          pieces = omega (arith, o .pieces, pieces-after);
+          few = omega (arith, rm .pieces, lp);
+          readable = low;
+          row = to;
+          byte = omega (arith, rm .places, ls);
+        }
 
 -- ── the piece behind the cut ──
-pub record InsertedTop (left front : Bool) (q : ℕ) (text : List ℕ) (row byte : ℕ) (t P S t' P' S' : List ℕ) : Type 0 where
+pub record InsertedTop (left front : Bool) (q : ℕ) (text : List ℕ) (row byte : ℕ) (t P S t' P' S' : List ℕ) (row' : ℕ) : Type 0 where
   pub did : (source : List ℕ) → Did (insert-step left front q text) source t (take (row * 2) P) (take byte S) t' P' S' 0
   pub top : OnTop t P t' P'
+  pub low : Readable t' (take (row' * 2) P') (take (byte + length text) S')
+  pub to : row' * 2 ≤ length P'
 
-module _ (left front : Bool) (q : ℕ) (text P S t t' P' S' : List ℕ) (l : Used) (k : TopReady t P S text l) (len : length t' ≡ length t) where
+module _ (left front : Bool) (q : ℕ) (text P S t t' P' S' : List ℕ) (l : Used) (row' : ℕ) (k : TopReady t P S text l) (len : length t' ≡ length t) where
   rows-in : l .row * 2 ≤ length P
   rows-in = omega (arith, k .rows)
 
   bytes-in : l .byte ≤ length S
   bytes-in = omega (arith, k .bytes)
 
-  pub top-found : (i : ℕ) → First (meets (key-of left) q) t i → AddedOnTop left front text (l .row) (l .byte) P S t t' P' S' i → InsertedTop left front q text (l .row) (l .byte) t P S t' P' S'
+  pub top-found : (i : ℕ) → First (meets (key-of left) q) t i → AddedOnTop left front text (l .row) (l .byte) P S t t' P' S' i row'
+      → InsertedTop left front q text (l .row) (l .byte) t P S t' P' S' row'
   top-found i w a =
       record {
-        did = inserted-found left front q text (take (l .row * 2) P) (take (l .byte) S) t t' P' S' i (k .readable) w (a .added) len;
-        top = found-on-top left front text (l .row) (l .byte) P S t t' P' S' i a (k .readable) len rows-in bytes-in (w .us) (w .bs) (w .place);
+        did = inserted-found left front q text (rowsBelow l P) (bytesBelow l S) t t' P' S' i (k .readable) w (a .added) len;
+        top = found-on-top left front text (l .row) (l .byte) P S t t' P' S' i row' a (k .readable) len rows-in bytes-in (w .us) (w .bs) (w .place);
+        low =
+            inserted-found left front q text (rowsBelow l P) (bytesBelow l S) t t' _ _ i (k .readable) w
+            (cut left front text (l .row) (l .byte) P S t t' P' S' i row' a (k .readable) len rows-in bytes-in) len [] .readable;
+        to = a .to;
       }
 
-  pub top-none : Each (λ x. meets (key-of left) q (entryAt t x) ≡ false) (order t) → AddedOnTop (not left) front text (l .row) (l .byte) P S t t' P' S' 0
-      → InsertedTop left front q text (l .row) (l .byte) t P S t' P' S'
+  pub top-none : Each (λ x. meets (key-of left) q (entryAt t x) ≡ false) (order t) → AddedOnTop (not left) front text (l .row) (l .byte) P S t t' P' S' 0 row'
+      → InsertedTop left front q text (l .row) (l .byte) t P S t' P' S' row'
   top-none n a =
       record {
-        did = inserted-whole left front q text (take (l .row * 2) P) (take (l .byte) S) t t' P' S' (k .readable) n (a .added) len;
-        top = whole-on-top (not left) front text (l .row) (l .byte) P S t t' P' S' a (k .readable) len rows-in bytes-in;
+        did = inserted-whole left front q text (rowsBelow l P) (bytesBelow l S) t t' P' S' (k .readable) n (a .added) len;
+        top = whole-on-top (not left) front text (l .row) (l .byte) P S t t' P' S' row' a (k .readable) len rows-in bytes-in;
+        low =
+            inserted-whole left front q text (rowsBelow l P) (bytesBelow l S) t t' _ _ (k .readable) n
+            (cut (not left) front text (l .row) (l .byte) P S t t' P' S' 0 row' a (k .readable) len rows-in bytes-in) len [] .readable;
+        to = a .to;
       }
 
 -- ── the call, for any of the four ──
-module _ (left front : Bool) (q : ℕ) (text : List ℕ) {source t P S t1 : List ℕ} {l : Used} {r : ℕ} (w : WellFormed source t P S) (lv : LiveOf t P S l) (rm : Room (length t) (length P) (length S) l (countOf t + 1) (length text))
-    (c : CutsDone (q ∷ []) t t1 r) where
+module _ (left front : Bool) (q : ℕ) (text : List ℕ) {source t P S t1 : List ℕ} {l : Used} {r : ℕ} (w : Desk source t P S l)
+    (rm : Room (length t) (length P) (length S) l (countOf t + 1) (length text)) (c : CutsDone (q ∷ []) t t1 r) where
+  cut-low : Readable t1 (rowsBelow l P) (bytesBelow l S)
+  cut-low = c .readable (rowsBelow l P) (bytesBelow l S) (w .above .readable)
+
   pub top-ready : TopReady t1 P S text l
-  top-ready = ready-after text w lv rm (c .readable (take (l .row * 2) P) (take (l .byte) S) (lv .readable)) (c .kept)
+  top-ready = ready-after text w rm cut-low (c .kept)
 
   few : countOf t1 ≤ length t / 12 - 1
   few = omega (arith, c .count, rm .chunks)
 
-  pub top-refused : length t1 ≡ length t → (r ≡ 0 → ⊥) → InsertRan left front q text source t P S t1 P S r
-  top-refused len n e h q' i =
-      let k = c .leave source P S (w .readable) (formed-spans w) in
-      ran-rows w h
-      (record {
-        readable = k .readable;
-        result = q' (magicStringOf source t P S) ∙ k .result (insert-step left front q text) ∙ stop r (magicStringOf source t1 P S) (insert-step left front q text) n;
-      })
-      (subst (λ (x : ℕ). may-write e x ≡ true) (sym (six (c .number) n)) (may-write-6 e)) len (c .kept)
+  leave : CutsLeave (q ∷ []) source t P S t1 r
+  leave = c .leave source P S (w .well-formed .readable) (formed-spans (w .well-formed))
 
-  pub top-inserted : (t' P' S' : List ℕ) → r ≡ 0 → InsertedTop left front q text (l .row) (l .byte) t1 P S t' P' S' → length t1 ≡ length t → length t' ≡ length t1 → length P' ≡ length P → length S' ≡ length S
-      → InsertRan left front q text source t P S t' P' S' 0
-  top-inserted t' P' S' z x len1 len lp ls e h q' i =
-      let k = c .leave source P S (w .readable) (formed-spans w) in
-      let p = take (l .row * 2) P in
-      let s = take (l .byte) S in
-      let g = x .did source in
-      let cut : insert-at left front q text (magicStringOf source t P S) ≡ insert-step left front q text (magicStringOf source t1 P S) =
-      k .result (insert-step left front q text) ∙ ap (λ (n : ℕ). and-then (err n (magicStringOf source t1 P S)) (insert-step left front q text)) z in
-      let o : insert-step left front q text (magicStringOf [] t1 p s) .desk ≡ magicStringOf [] t' P' S' = ap (λ (y : Result). y .desk) (x .did [] .result) in
-      ran-in-place w h
-      (record {
-        readable = g .readable;
-        result =
-            q' (magicStringOf source t P S) ∙ cut
-            ∙ ap (insert-step left front q text) (read-below t1 P S (l .row) (l .byte) (top-ready .readable) source)
-            ∙ g .result;
-      })
-      (may-write-0 e i)
-      (record { chunks = len ∙ len1; pieces = lp; store = ls })
-      (x .top .each (c .kept .each (w .each)))
-      (x .top .apart (kept-apart (c .kept) P (w .disjoint)))
-      (within-after text w lv rm (top-ready .readable) (c .kept) few t' P' S' (subst (OneMore text (magicStringOf [] t1 p s)) o (step-more left front q text (magicStringOf [] t1 p s))))
+  pub top-refused : length t1 ≡ length t → (r ≡ 0 → ⊥) → InsertRan left front q text source t P S t1 P S r × Above t1 P S l
+  top-refused len n = (
+    λ e h q' i.
+        ran-rows (w .well-formed) h
+        (record {
+          readable = leave .readable;
+          result = q' (magicStringOf source t P S) ∙ leave .result (insert-step left front q text) ∙ stop r (magicStringOf source t1 P S) (insert-step left front q text) n;
+        })
+        (subst (λ (x : ℕ). may-write e x ≡ true) (sym (six (c .number) n)) (may-write-6 e)) len (c .kept),
+    above-kept (c .kept) cut-low (w .above),
+  )
+
+  module _ (t' P' S' : List ℕ) (row' : ℕ) (z : r ≡ 0) (x : InsertedTop left front q text (l .row) (l .byte) t1 P S t' P' S' row') (len1 : length t1 ≡ length t)
+      (len : length t' ≡ length t1) (lp : length P' ≡ length P) (ls : length S' ≡ length S) where
+    one-more : OneMore text (magicStringOf [] t1 (rowsBelow l P) (bytesBelow l S)) (magicStringOf [] t' P' S')
+    one-more =
+        let m = magicStringOf [] t1 (rowsBelow l P) (bytesBelow l S) in
+        subst (OneMore text m) (ap (λ (y : Result). y .desk) (x .did [] .result)) (step-more left front q text m)
+
+    cut-made : insert-at left front q text (magicStringOf source t P S) ≡ insert-step left front q text (magicStringOf source t1 P S)
+    cut-made = leave .result (insert-step left front q text) ∙ ap (λ (n : ℕ). and-then (err n (magicStringOf source t1 P S)) (insert-step left front q text)) z
+
+    pub top-inserted : InsertRan left front q text source t P S t' P' S' 0
+    top-inserted e h q' i =
+        ran-in-place (w .well-formed) h
+        (record {
+          readable = x .did source .readable;
+          result =
+              q' (magicStringOf source t P S) ∙ cut-made
+              ∙ ap (insert-step left front q text) (read-below t1 P S (l .row) (l .byte) cut-low source)
+              ∙ x .did source .result;
+        })
+        (may-write-0 e i)
+        (record { chunks = len ∙ len1; pieces = lp; store = ls })
+        (x .top .each (c .kept .each (w .well-formed .each)))
+        (x .top .apart (kept-apart (c .kept) P (w .well-formed .disjoint)))
+        (within-after text w rm cut-low (c .kept) t' P' S' one-more few)
+
+    pub top-above : Above t' P' S' (grown l row' (length text))
+    top-above = above-after text w rm cut-low (c .kept) t' P' S' one-more row' (x .low) (x .to) lp ls
 
 -- ── head and tail ──
-module _ (outro front : Bool) {text source t P S : List ℕ} {l : Used} {n : ℕ} (w : WellFormed source t P S) (lv : LiveOf t P S l) (rm : Room (length t) (length P) (length S) l n (length text)) where
+module _ (outro front : Bool) (text : List ℕ) {source t P S : List ℕ} {l : Used} {n : ℕ} (w : Desk source t P S l)
+    (rm : Room (length t) (length P) (length S) l n (length text)) where
   pub whole-top-ready : TopReady t P S text l
-  whole-top-ready = ready-after text w lv rm (lv .readable) (kept-same t)
+  whole-top-ready = ready-after text w rm (w .above .readable) (kept-same t)
 
-  pub whole-top-ran : (t' P' S' : List ℕ) → AddedOnTop outro front text (l .row) (l .byte) P S t t' P' S' 0 → length t' ≡ length t → length P' ≡ length P → length S' ≡ length S
-      → WholeRan outro front text source t P S t' P' S' 0
-  whole-top-ran t' P' S' a len lp ls e h q i =
-      let p = take (l .row * 2) P in
-      let s = take (l .byte) S in
-      let did = whole-added outro front text p s t t' P' S' (lv .readable) (a .added) len in
-      let top = whole-on-top outro front text (l .row) (l .byte) P S t t' P' S' a (lv .readable) len (lv .row) (lv .byte) in
-      let o : whole-add outro front text (magicStringOf [] t p s) ≡ magicStringOf [] t' P' S' = ap (λ (y : Result). y .desk) (did [] .result) in
-      ran-in-place w h
-      (record {
-        readable = did source .readable;
-        result =
-            q (magicStringOf source t P S)
-            ∙ ap (λ (m : MagicString). ok (whole-add outro front text m)) (read-below t P S (l .row) (l .byte) (lv .readable) source)
-            ∙ did source .result;
-      })
-      (may-write-0 e i)
-      (record { chunks = len; pieces = lp; store = ls })
-      (top .each (w .each))
-      (top .apart (w .disjoint))
-      (within-after text w lv rm (lv .readable) (kept-same t) (omega (arith, w .readable .linked .room)) t' P' S'
-      (subst (OneMore text (magicStringOf [] t p s)) o (whole-more outro front text (magicStringOf [] t p s))))
+  module _ (t' P' S' : List ℕ) (row' : ℕ) (a : AddedOnTop outro front text (l .row) (l .byte) P S t t' P' S' 0 row') (len : length t' ≡ length t)
+      (lp : length P' ≡ length P) (ls : length S' ≡ length S) where
+    did : (source : List ℕ) → Did (λ m. ok (whole-add outro front text m)) source t (rowsBelow l P) (bytesBelow l S) t' P' S' 0
+    did = whole-added outro front text (rowsBelow l P) (bytesBelow l S) t t' P' S' (w .above .readable) (a .added) len
+
+    whole-one-more : OneMore text (magicStringOf [] t (rowsBelow l P) (bytesBelow l S)) (magicStringOf [] t' P' S')
+    whole-one-more = subst (OneMore text (magicStringOf [] t (rowsBelow l P) (bytesBelow l S))) (ap (λ (y : Result). y .desk) (did [] .result)) (whole-more outro front text (magicStringOf [] t (rowsBelow l P) (bytesBelow l S)))
+
+    pub whole-top-ran : WholeRan outro front text source t P S t' P' S' 0
+    whole-top-ran e h q i =
+        let top = whole-on-top outro front text (l .row) (l .byte) P S t t' P' S' row' a (w .above .readable) len (w .above .row) (w .above .byte) in
+        ran-in-place (w .well-formed) h
+        (record {
+          readable = did source .readable;
+          result =
+              q (magicStringOf source t P S)
+              ∙ ap (λ (m : MagicString). ok (whole-add outro front text m)) (read-below t P S (l .row) (l .byte) (w .above .readable) source)
+              ∙ did source .result;
+        })
+        (may-write-0 e i)
+        (record { chunks = len; pieces = lp; store = ls })
+        (top .each (w .well-formed .each))
+        (top .apart (w .well-formed .disjoint))
+        (within-after text w rm (w .above .readable) (kept-same t) t' P' S' whole-one-more (omega (arith, w .well-formed .readable .linked .room)))
+
+    pub whole-top-above : Above t' P' S' (grown l row' (length text))
+    whole-top-above =
+        above-after text w rm (w .above .readable) (kept-same t) t' P' S' whole-one-more row'
+        (whole-added outro front text (rowsBelow l P) (bytesBelow l S) t t' _ _ (w .above .readable)
+        (cut outro front text (l .row) (l .byte) P S t t' P' S' 0 row' a (w .above .readable) len (w .above .row) (w .above .byte)) len [] .readable)
+        (a .to) lp ls

@@ -3,18 +3,21 @@ ghost use mathlib.Core.Path.{_≡_};
 ghost use Prim.Native.Nat.{_+_, _*_, _≤_};
 ghost use lib.ListN.{length, take};
 ghost use Rattle.table.specs.Order.{entryAt, countOf};
-ghost use Rattle.memory.specs.WellFormed.{RunIn, WellFormed};
+ghost use Rattle.memory.specs.WellFormed.{RunIn};
+ghost use Rattle.memory_used.specs.Above.{Above, Desk};
 ghost use Rattle.insert_row.specs.Piece.{side};
-ghost use Rattle.insert_row.specs.Calls.{InsertRan};
-ghost use Rattle.on_top.specs.Live.{LiveOf, Room};
+ghost use Rattle.insert_row.specs.Calls.{InsertRan, WholeRan};
+ghost use Rattle.on_top.specs.Live.{Room};
 ghost use Rattle.on_top.specs.Run.{TopRoom};
 ghost use Rattle.insert_on_top.specs.OnTop.{AddedOnTop, TopReady};
 ghost use Rattle.insert_on_top.specs.TopCalls.{InsertedTop};
-use on_top::Used;
+use memory_used::Outcome;
+use memory_used::Used;
 use rows::Found;
 
-// A text more in front of row i's outro or intro, or behind it, on top of the lent tables: the run's rows are copied to `row`, the text goes to `byte`.
-pub fn add_on_top(
+// A text more in front of row i's outro or intro, or behind it, on top of the lent tables: the run's rows go to `row` or end there already, the text goes to `byte`.
+// Hands back the row above the longer run.
+fn add_on_top(
     chunks: &mut [u32],
     pieces: &mut [u32],
     store: &mut [u8],
@@ -24,22 +27,23 @@ pub fn add_on_top(
     front: bool,
     row: usize,
     byte: usize,
-)
+) -> usize
     requires { ⌜ i * 12 + 12 ≤ length (now chunks) ⌝ }
     requires { ⌜ length (now pieces) ≤ 4096 ⌝ }
     requires { ⌜ TopRoom (side outro (entryAt (now chunks) i)) (now text) (now pieces) (now store) row byte ⌝ }
     requires { ⌜ RunIn (take (row * 2) (now pieces)) (take byte (now store)) (side outro (entryAt (now chunks) i)) ⌝ }
-    ensures { λ _. ⌜ AddedOnTop outro front (now (text .entry)) row byte (now (pieces .entry)) (now (store .entry)) (now (chunks .entry))
-        (now (chunks .exit)) (now (pieces .exit)) (now (store .exit)) i ⌝ }
+    ensures { λ above. ⌜ AddedOnTop outro front (now (text .entry)) row byte (now (pieces .entry)) (now (store .entry)) (now (chunks .entry))
+        (now (chunks .exit)) (now (pieces .exit)) (now (store .exit)) i above ⌝ }
 {
     let r = table::get_row(chunks, i);
     let run = insert_row::run_of(r, outro);
-    on_top::lengthen(pieces, store, text, front, run.at, run.n, row, byte);
+    let first = on_top::lengthen(pieces, store, text, front, run.at, run.n, row, byte);
     table::put_row(
         chunks,
         i,
-        insert_row::with_run(r, outro, row as u32, run.n + 1),
+        insert_row::with_run(r, outro, first as u32, run.n + 1),
     );
+    first + run.n as usize + 1
 }
 
 // As `insert_rows`, on top of the lent tables.
@@ -52,21 +56,20 @@ fn insert_rows_on_top(
     left: bool,
     front: bool,
     l: Used,
-)
+) -> usize
     requires { ⌜ TopReady (now chunks) (now pieces) (now store) (now text) l ⌝ }
-    ensures { λ _. ⌜ InsertedTop left front q (now (text .entry)) (l .row) (l .byte) (now (chunks .entry)) (now (pieces .entry)) (now (store .entry))
-        (now (chunks .exit)) (now (pieces .exit)) (now (store .exit)) ⌝ }
+    ensures { λ above. ⌜ InsertedTop left front q (now (text .entry)) (l .row) (l .byte) (now (chunks .entry)) (now (pieces .entry)) (now (store .entry))
+        (now (chunks .exit)) (now (pieces .exit)) (now (store .exit)) above ⌝ }
 {
     let row = l.row;
     let byte = l.byte;
     let Found::At(i) = rows::find(chunks, insert_row::key_for(left), q) else {
-        add_on_top(chunks, pieces, store, text, 0, !left, front, row, byte);
-        return;
+        return add_on_top(chunks, pieces, store, text, 0, !left, front, row, byte);
     };
-    add_on_top(chunks, pieces, store, text, i, left, front, row, byte);
+    add_on_top(chunks, pieces, store, text, i, left, front, row, byte)
 }
 
-// The cut and the piece on the lent tables themselves, where no limit can be passed and there is room.
+// The cut and the piece on the lent tables themselves, where no limit can be passed and there is room above `l`. A refused cut leaves what is in use as it was.
 pub fn insert_on_top(
     source: &[u8],
     chunks: &mut [u32],
@@ -77,17 +80,56 @@ pub fn insert_on_top(
     left: bool,
     front: bool,
     l: Used,
-) -> u32
-    requires { ⌜ WellFormed (now source) (now chunks) (now pieces) (now store) ⌝ }
-    requires { ⌜ LiveOf (now chunks) (now pieces) (now store) l ⌝ }
+) -> Outcome
+    requires { ⌜ Desk (now source) (now chunks) (now pieces) (now store) l ⌝ }
     requires { ⌜ Room (length (now chunks)) (length (now pieces)) (length (now store)) l (countOf (now chunks) + 1) (length (now text)) ⌝ }
-    ensures { λ r. ⌜ InsertRan left front q (now (text .entry)) (now (source .entry)) (now (chunks .entry)) (now (pieces .entry)) (now (store .entry))
-        (now (chunks .exit)) (now (pieces .exit)) (now (store .exit)) r ⌝ }
+    ensures { λ o. ⌜ InsertRan left front q (now (text .entry)) (now (source .entry)) (now (chunks .entry)) (now (pieces .entry)) (now (store .entry))
+        (now (chunks .exit)) (now (pieces .exit)) (now (store .exit)) (o .number)
+        × Above (now (chunks .exit)) (now (pieces .exit)) (now (store .exit)) (o .used) ⌝ }
 {
-    let r = split::split_at(chunks, q);
-    if r != 0 {
-        return r;
+    let number = split::split_at(chunks, q);
+    if number != 0 {
+        return Outcome { number, used: l };
     }
-    insert_rows_on_top(chunks, pieces, store, text, q, left, front, l);
-    0
+    let row = insert_rows_on_top(chunks, pieces, store, text, q, left, front, l);
+    let count = l.pieces + 1;
+    let byte = l.byte + text.len();
+    Outcome {
+        number: 0,
+        used: Used {
+            pieces: count,
+            row,
+            byte,
+        },
+    }
+}
+
+// The piece for the tail or the head: as `insert_on_top`, without a cut.
+pub fn whole_on_top(
+    source: &[u8],
+    chunks: &mut [u32],
+    pieces: &mut [u32],
+    store: &mut [u8],
+    text: &[u8],
+    outro: bool,
+    front: bool,
+    l: Used,
+) -> Outcome
+    requires { ⌜ Desk (now source) (now chunks) (now pieces) (now store) l ⌝ }
+    requires { ⌜ Room (length (now chunks)) (length (now pieces)) (length (now store)) l 0 (length (now text)) ⌝ }
+    ensures { λ o. ⌜ WholeRan outro front (now (text .entry)) (now (source .entry)) (now (chunks .entry)) (now (pieces .entry)) (now (store .entry))
+        (now (chunks .exit)) (now (pieces .exit)) (now (store .exit)) (o .number)
+        × Above (now (chunks .exit)) (now (pieces .exit)) (now (store .exit)) (o .used) ⌝ }
+{
+    let row = add_on_top(chunks, pieces, store, text, 0, outro, front, l.row, l.byte);
+    let count = l.pieces + 1;
+    let byte = l.byte + text.len();
+    Outcome {
+        number: 0,
+        used: Used {
+            pieces: count,
+            row,
+            byte,
+        },
+    }
 }

@@ -1,9 +1,9 @@
 -- The insertions past their tests: the cut, the search and the piece, and the call that they make.
 use mathlib.Core.Path.{_≡_, refl, sym, ap, ap₂, _∙_, subst}
-use mathlib.Core.Bool.{Bool, true, false, not, cond, and-false}
+use mathlib.Core.Bool.{Bool, true, false, _||_, not, cond, and-false}
 use mathlib.Core.List.{List, [], _∷_, _++_, map}
 use mathlib.Core.Option.{Option, none, some}
-use mathlib.Core.Logic.{_⊎_, inl, inr, ⊎-elim}
+use mathlib.Core.Logic.{_⊎_, inl, inr}
 use Prim.Native.Nat.{ℕ, _+_, _*_, _≤_, _<_}
 use native.Mathlib.Omega.{arith}
 use lib.Dec.{ltb, leb, eqb}
@@ -13,30 +13,31 @@ use Rattle.utf8.specs.Chars.{All, nil, cons}
 use Rattle.table.specs.Order.{Entry, entryAt, entries, order, countOf, Linked, inside-at}
 use Rattle.model.specs.Text.{Text, sum}
 use Rattle.model.specs.Chunk.{Chunk, Texts, with-texts, start-of, end-of}
-use Rattle.model.specs.MagicString.{MagicString, Result, ok, err, and-then, with-chunks, with-intro, with-outro, by-start, by-end, at-start, at-end, split-at}
+use Rattle.model.specs.MagicString.{MagicString, Result, ok, err, and-then, with-chunks, with-intro, with-outro, by-start, by-end, at-start, at-end, found, holder, refuses-split, split-holder, split-at}
 use Rattle.model.specs.Limits.{full, within, chunk-bytes, byte-count, piece-count}
 use Rattle.model.specs.Call.{Edit, steps, refused-before}
 use Rattle.model.specs.Lists.{sum-append}
 use Rattle.memory.specs.Layout.{magicStringOf}
 use Rattle.memory.specs.WellFormed.{Readable, WellFormed}
 use Rattle.memory.specs.Laws.{desk-full}
-use Rattle.memory.specs.Calls.{idle, may-write, Ran}
+use Rattle.memory.specs.Calls.{idle, Ran}
 use Rattle.texts.specs.Carry.{withText}
 use Rattle.rebuild.specs.Rebuilt.{Finished}
-use Rattle.frame.specs.Front.{desk-front}
 use Rattle.frame.specs.Loaded.{Loaded}
-use Rattle.frame.specs.Frame.{Scratch, Did, loaded-readable, loaded-desk, ran-finished, ran-past-limits, may-write-0, may-write-6}
+use Rattle.frame.specs.Frame.{Did, loaded-desk, ran-finished, ran-same, ran-past-limits, may-write-0}
 use Rattle.split.specs.Lift.{DeskSmall, desk-small}
-use Rattle.split.specs.Cuts.{Spans, CutsDone, CutsLeave, loaded-spans, stop}
-use Rattle.insert_row.specs.Piece.{Spare, LongScratch, loaded-spare}
+use Rattle.split.specs.Cuts.{Spans, CutsDone, loaded-spans}
+use Rattle.insert_row.specs.Piece.{LongScratch}
 use Rattle.insert_row.specs.Insertion.{add-to, whole-add, insert-step, insert-at}
 
 -- ── the piece behind the cut ──
 abbrev pub Inserted : Bool → Bool → ℕ → List ℕ → List ℕ → List ℕ → List ℕ → List ℕ → List ℕ → List ℕ → Type 0
 Inserted left front q text t p s t' p' s' = (source : List ℕ) → Did (insert-step left front q text) source t p s t' p' s' 0
 
+-- the cut and the piece. Where the cut is refused the desk is as it was; 13 where the text alone is longer than the store
 pub record InsertSteps (left front : Bool) (q : ℕ) (text p s t t' p' s' : List ℕ) (r : ℕ) : Type 0 where
-  pub leave : (r ≡ 13 → ⊥) → (source : List ℕ) → Spans source t p s → Did (insert-at left front q text) source t p s t' p' s' r
+  pub leave : r ≡ 0 → (source : List ℕ) → Spans source t p s → Did (insert-at left front q text) source t p s t' p' s' 0
+  pub refused : r ≡ 6 → (source : List ℕ) → Spans source t p s → insert-at left front q text (magicStringOf source t p s) ≡ err 6 (magicStringOf source t p s)
   pub long : r ≡ 13 → (source : List ℕ) → Spans source t p s → within full (insert-at left front q text (magicStringOf source t p s) .desk) ≡ false
   pub number : (r ≡ 0) ⊎ ((r ≡ 6) ⊎ (r ≡ 13))
 
@@ -94,19 +95,30 @@ pub six : {r : ℕ} → (r ≡ 0) ⊎ (r ≡ 6) → (r ≡ 0 → ⊥) → r ≡ 
 six (inl h) n = absurd (n h)
 six (inr h) n = h
 
-module _ (left front : Bool) (q : ℕ) (text p s t t1 p1 s1 : List ℕ) (r : ℕ) (h : Readable t p s) (sp : Spare p s p1 s1) (c : CutsDone (q ∷ []) t t1 r) where
+-- a cut that is refused leaves the desk as it was
+cut-refused : (q : ℕ) (m n : MagicString) → ((step : MagicString → Result) → and-then (split-at q m) step ≡ and-then (err 6 n) step) → split-at q m ≡ err 6 m
+unfolding split-at
+cut-refused q m n = go (eqb q 0 || (leb (length (m .source)) q || found (by-end q (m .chunks)))) (refuses-split (holder q (m .chunks))) (with-chunks m (split-holder q (m .chunks)))
+  where
+    go : (a b : Bool) (k : MagicString) → ((step : MagicString → Result) → and-then (cond a (ok m) (cond b (err 6 m) (ok k))) step ≡ and-then (err 6 n) step)
+        → cond a (ok m) (cond b (err 6 m) (ok k)) ≡ err 6 m
+    go true b k h = absurd (omega (arith, ap (λ (x : Result). x .number) (h ok)))
+    go false true k h = refl
+    go false false k h = absurd (omega (arith, ap (λ (x : Result). x .number) (h ok)))
+
+module _ (left front : Bool) (q : ℕ) (text p s t t1 p1 s1 : List ℕ) (r : ℕ) (h : Readable t p s) (c : CutsDone (q ∷ []) t t1 r) where
   pub steps-refused : (r ≡ 0 → ⊥) → InsertSteps left front q text p s t t1 p1 s1 r
   steps-refused n =
+      let six-is = six (c .number) n in
       record {
-        leave = λ _ source v.
-            let k = c .leave source p s h v in
-            let g = desk-front p s (sp .behind) (sp .after) t1 (k .readable) in
-            record {
-              readable = rw (sp .pieces, sp .store) (g .0);
-              result = k .result (insert-step left front q text) ∙ stop r (magicStringOf source t1 p s) (insert-step left front q text) n ∙ ap (err r) (rw (sp .pieces, sp .store) (sym (g .1 source)));
-            };
-        long = λ z. absurd (omega (arith, six (c .number) n));
-        number = inr (inl (six (c .number) n));
+        leave = λ z. absurd (n z);
+        refused = λ _ source v.
+            let m = magicStringOf source t p s in
+            let k = c .leave source p s h v .result in
+            ap (λ (x : Result). and-then x (insert-step left front q text))
+            (cut-refused q m (magicStringOf source t1 p s) (λ step. k step ∙ ap (λ (y : ℕ). and-then (err y (magicStringOf source t1 p s)) step) six-is));
+        long = λ z. absurd (omega (arith, six-is));
+        number = inr (inl six-is);
       }
 
   module _ (z : r ≡ 0) where
@@ -117,7 +129,8 @@ module _ (left front : Bool) (q : ℕ) (text p s t t1 p1 s1 : List ℕ) (r : ℕ
     pub steps-long : 32768 < length text → InsertSteps left front q text p s t t1 p1 s1 13
     steps-long l =
         record {
-          leave = λ n. absurd (n refl);
+          leave = λ z. absurd (omega arith);
+          refused = λ z. absurd (omega arith);
           long = λ _ source v.
               ap (λ (x : Result). within full (x .desk)) (cut-made source v)
               ∙ past-bytes (insert-step left front q text (magicStringOf source t1 p s) .desk) (omega (arith, step-big left front q text (magicStringOf source t1 p s)));
@@ -128,6 +141,7 @@ module _ (left front : Bool) (q : ℕ) (text p s t t1 p1 s1 : List ℕ) (r : ℕ
     steps-done t' p' s' d =
         record {
           leave = λ _ source v. record { readable = d source .readable; result = cut-made source v ∙ d source .result };
+          refused = λ y. absurd (omega arith);
           long = λ y. absurd (omega arith);
           number = inl refl;
         }
@@ -141,22 +155,29 @@ InsertRan left front q text source t p s t' p' s' r =
 
 module _ {left front : Bool} {q : ℕ} {text source t p s t₀ p₀ s₀ t1 p1 s1 t2 p2 s2 : List ℕ} {r : ℕ} (w : WellFormed source t p s) (f : LongScratch t₀ p₀ s₀)
     (d : Loaded t p s t₀ p₀ s₀ t1 p1 s1) (x : InsertSteps left front q text p s t1 t2 p2 s2 r) where
-  pub insert-readable : (r ≡ 13 → ⊥) → Readable t2 p2 s2
-  insert-readable n = x .leave n source (loaded-spans w (f .scratch) d) .readable
+  spans : Spans source t1 p s
+  spans = loaded-spans w (f .scratch) d
 
-  pub insert-long : r ≡ 13 → InsertRan left front q text source t p s t p s 13
-  insert-long z e h q' i =
-      ran-past-limits e source t p s w h
-      (ap (λ (y : Result). within full (y .desk)) (q' (magicStringOf source t p s) ∙ ap (insert-at left front q text) (sym (loaded-desk w (f .scratch) d)))
-      ∙ x .long z source (loaded-spans w (f .scratch) d))
+  pub insert-readable : r ≡ 0 → Readable t2 p2 s2
+  insert-readable z = x .leave z source spans .readable
 
-  pub insert-ran : {t' p' s' : List ℕ} {r' : ℕ} → (r ≡ 13 → ⊥) → Finished t2 p2 s2 t p s t' p' s' r r' → InsertRan left front q text source t p s t' p' s' r'
-  insert-ran n y e h q' i =
-      let g = x .leave n source (loaded-spans w (f .scratch) d) in
-      let may = ⊎-elim {C = may-write e r ≡ true} (λ (z : r ≡ 0). rw z (may-write-0 e i))
-      (λ (u : (r ≡ 6) ⊎ (r ≡ 13)). ⊎-elim {C = may-write e r ≡ true} (λ (z : r ≡ 6). rw z (may-write-6 e)) (λ (z : r ≡ 13). absurd (n z)) u) (x .number) in
-      ran-finished w h
-      (record { readable = g .readable; result = q' (magicStringOf source t p s) ∙ ap (insert-at left front q text) (sym (loaded-desk w (f .scratch) d)) ∙ g .result }) may y
+  -- the model's steps on the lent desk are those on the loaded one
+  loaded-steps : (e : Edit) → ((m : MagicString) → steps e m ≡ insert-at left front q text m) → steps e (magicStringOf source t p s) ≡ insert-at left front q text (magicStringOf source t1 p s)
+  loaded-steps e q' = q' (magicStringOf source t p s) ∙ ap (insert-at left front q text) (sym (loaded-desk w (f .scratch) d))
+
+  -- 6 and 13: the lent tables are as they were
+  pub insert-refused : (r ≡ 0 → ⊥) → InsertRan left front q text source t p s t p s r
+  insert-refused n e h q' i = go (x .number)
+    where
+      go : (r ≡ 0) ⊎ ((r ≡ 6) ⊎ (r ≡ 13)) → Ran e source t p s t p s r
+      go (inl z) = absurd (n z)
+      go (inr (inl z)) = rw z (ran-same e source t p s 6 w h (loaded-steps e q' ∙ x .refused z source spans ∙ ap (err 6) (loaded-desk w (f .scratch) d)))
+      go (inr (inr z)) = rw z (ran-past-limits e source t p s w h (ap (λ (y : Result). within full (y .desk)) (loaded-steps e q') ∙ x .long z source spans))
+
+  pub insert-ran : {t' p' s' : List ℕ} {r' : ℕ} → r ≡ 0 → Finished t2 p2 s2 t p s t' p' s' 0 r' → InsertRan left front q text source t p s t' p' s' r'
+  insert-ran z y e h q' i =
+      let g = x .leave z source spans in
+      ran-finished w h (record { readable = g .readable; result = loaded-steps e q' ∙ g .result }) (may-write-0 e i) y
 
 -- ── head and tail ──
 abbrev pub WholeRan : Bool → Bool → List ℕ → List ℕ → List ℕ → List ℕ → List ℕ → List ℕ → List ℕ → List ℕ → ℕ → Type 0

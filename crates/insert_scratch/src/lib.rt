@@ -4,9 +4,11 @@ ghost use lib.ListN.{length};
 ghost use Rattle.table.specs.Order.{entryAt};
 ghost use Rattle.memory.specs.WellFormed.{RunIn, Readable, WellFormed};
 ghost use Rattle.split.specs.Lift.{RunSmall, DeskSmall};
+ghost use Rattle.memory_used.specs.Above.{Above};
 ghost use Rattle.frame.specs.Frame.{Roomy};
 ghost use Rattle.insert_row.specs.Piece.{side, Spare, PieceAdded, LongScratch};
 ghost use Rattle.insert_row.specs.Calls.{Inserted, InsertSteps, InsertRan, WholeRan};
+use memory_used::Outcome;
 use rows::Found;
 
 // A text more in front of row i's outro or intro, or behind it: the run is copied from the lent tables to the spare room of the scratch tables.
@@ -102,7 +104,7 @@ fn insert_steps(
     0
 }
 
-// An insertion with scratch tables lent.
+// An insertion with scratch tables lent. Where the steps refuse, the lent tables stay as they are.
 fn insert_by(
     source: &[u8],
     chunks: &mut [u32],
@@ -115,18 +117,19 @@ fn insert_by(
     q: u32,
     left: bool,
     front: bool,
-) -> u32
+) -> Outcome
     requires { ⌜ WellFormed (now source) (now chunks) (now pieces) (now store) ⌝ }
     requires { ⌜ LongScratch (now t) (now p) (now s) ⌝ }
-    ensures { λ r. ⌜ InsertRan left front q (now (text .entry)) (now (source .entry)) (now (chunks .entry)) (now (pieces .entry)) (now (store .entry))
-        (now (chunks .exit)) (now (pieces .exit)) (now (store .exit)) r ⌝ }
+    ensures { λ o. ⌜ InsertRan left front q (now (text .entry)) (now (source .entry)) (now (chunks .entry)) (now (pieces .entry)) (now (store .entry))
+        (now (chunks .exit)) (now (pieces .exit)) (now (store .exit)) (o .number)
+        × Above (now (chunks .exit)) (now (pieces .exit)) (now (store .exit)) (o .used) ⌝ }
 {
     frame::load(chunks, pieces, store, t, p, s);
     let r = insert_steps(pieces, store, text, t, p, s, q, left, front);
-    if r == 13 {
-        return 13;
+    if r != 0 {
+        return on_top::counted(chunks, pieces, store, r);
     }
-    frame::finish(t, p, s, chunks, pieces, store, r)
+    on_top::finish(t, p, s, chunks, pieces, store, 0)
 }
 
 // The same with scratch tables of its own.
@@ -139,10 +142,11 @@ pub fn insert_scratch(
     q: u32,
     left: bool,
     front: bool,
-) -> u32
+) -> Outcome
     requires { ⌜ WellFormed (now source) (now chunks) (now pieces) (now store) ⌝ }
-    ensures { λ r. ⌜ InsertRan left front q (now (text .entry)) (now (source .entry)) (now (chunks .entry)) (now (pieces .entry)) (now (store .entry))
-        (now (chunks .exit)) (now (pieces .exit)) (now (store .exit)) r ⌝ }
+    ensures { λ o. ⌜ InsertRan left front q (now (text .entry)) (now (source .entry)) (now (chunks .entry)) (now (pieces .entry)) (now (store .entry))
+        (now (chunks .exit)) (now (pieces .exit)) (now (store .exit)) (o .number)
+        × Above (now (chunks .exit)) (now (pieces .exit)) (now (store .exit)) (o .used) ⌝ }
 {
     let rows = 6192usize;
     let words = 6146usize;
@@ -177,16 +181,17 @@ fn whole_by(
     text: &[u8],
     outro: bool,
     front: bool,
-) -> u32
+) -> Outcome
     requires { ⌜ WellFormed (now source) (now chunks) (now pieces) (now store) ⌝ }
     requires { ⌜ LongScratch (now t) (now p) (now s) ⌝ }
     requires { ⌜ length (now text) ≤ 32768 ⌝ }
-    ensures { λ r. ⌜ WholeRan outro front (now (text .entry)) (now (source .entry)) (now (chunks .entry)) (now (pieces .entry)) (now (store .entry))
-        (now (chunks .exit)) (now (pieces .exit)) (now (store .exit)) r ⌝ }
+    ensures { λ o. ⌜ WholeRan outro front (now (text .entry)) (now (source .entry)) (now (chunks .entry)) (now (pieces .entry)) (now (store .entry))
+        (now (chunks .exit)) (now (pieces .exit)) (now (store .exit)) (o .number)
+        × Above (now (chunks .exit)) (now (pieces .exit)) (now (store .exit)) (o .used) ⌝ }
 {
     frame::load(chunks, pieces, store, t, p, s);
     add_piece(pieces, store, text, t, p, s, 0, outro, front);
-    frame::finish(t, p, s, chunks, pieces, store, 0)
+    on_top::finish(t, p, s, chunks, pieces, store, 0)
 }
 
 // The same with scratch tables of its own. 13 where the text alone is longer than the store.
@@ -198,13 +203,14 @@ pub fn whole_scratch(
     text: &[u8],
     outro: bool,
     front: bool,
-) -> u32
+) -> Outcome
     requires { ⌜ WellFormed (now source) (now chunks) (now pieces) (now store) ⌝ }
-    ensures { λ r. ⌜ WholeRan outro front (now (text .entry)) (now (source .entry)) (now (chunks .entry)) (now (pieces .entry)) (now (store .entry))
-        (now (chunks .exit)) (now (pieces .exit)) (now (store .exit)) r ⌝ }
+    ensures { λ o. ⌜ WholeRan outro front (now (text .entry)) (now (source .entry)) (now (chunks .entry)) (now (pieces .entry)) (now (store .entry))
+        (now (chunks .exit)) (now (pieces .exit)) (now (store .exit)) (o .number)
+        × Above (now (chunks .exit)) (now (pieces .exit)) (now (store .exit)) (o .used) ⌝ }
 {
     if text.len() > 32768 {
-        return 13;
+        return on_top::counted(chunks, pieces, store, 13);
     }
     let rows = 6192usize;
     let words = 6146usize;

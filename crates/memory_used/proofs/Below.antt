@@ -19,7 +19,7 @@ module _ (p s : List ℕ) (byte row : ℕ) (hr : row * 2 ≤ length p) (hb : byt
   piece-below j h =
       ap₂ (λ (u v : ℕ). (u, v)) (word-below p (row * 2) (j * 2) (omega arith)) (word-below p (row * 2) (j * 2 + 1) (omega arith))
 
-  run-below : (x : Place) → Below p byte row x → RunIn (take (row * 2) p) (take byte s) x
+  pub run-below : (x : Place) → Below p byte row x → RunIn (take (row * 2) p) (take byte s) x
   unfolding RunIn
   run-below x h k g =
       let a = h k g in

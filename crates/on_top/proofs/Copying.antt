@@ -1,19 +1,16 @@
--- Rows copied in one table, word by word, and a run with a text more; and what `has_room` decides.
-use mathlib.Core.Path.{_≡_, refl, sym, ap, ap₂, _∙_, subst}
+-- Rows copied in one table, word by word; and what `has_room` decides.
+use mathlib.Core.Path.{_≡_, refl, sym, ap, ap₂, _∙_}
 use mathlib.Core.Bool.{true, false}
-use mathlib.Core.List.{List, [], _∷_, append-assoc}
+use mathlib.Core.List.{List, [], append-assoc}
 use Prim.Native.Nat.{ℕ, _+_, _*_, _-_, _≤_, _<_}
 use native.Mathlib.Omega.{arith}
-use native.Mathlib.Decide.{decLt}
 use lib.ListN.{length, getD, take, drop, set, length-set, length-take, length-drop, drop-of-length-le}
 use lib.Seq.{sets, sets-eq, length-take-le, getD-take, getD-drop, take-set-le}
 use Rattle.table.specs.Words.{sets-step}
-use Rattle.memory.specs.Layout.{Place}
-use Rattle.texts.specs.Over.{over, over-over, take-over, part-kept}
-use Rattle.texts.specs.Carry.{Pushed, RoomFor}
+use Rattle.texts.specs.Over.{over}
 use Rattle.memory_used.specs.declared.Used.{Used}
 use Rattle.on_top.specs.Live.{Room}
-use Rattle.on_top.specs.Run.{rowWords, TopRoom, Lengthened, words-length}
+use Rattle.on_top.specs.Run.{rowWords}
 
 -- k of m words are copied from a to b
 pub record Copying (p₀ p : List ℕ) (a b m k : ℕ) : Type 0 where
@@ -56,50 +53,6 @@ pub copy-end : (p₀ p : List ℕ) (at n to a m b k : ℕ) → a ≡ at * 2 → 
     → p ≡ over p₀ (to * 2) (rowWords p₀ (at, n))
 copy-end p₀ p at n to a m b k ea em eb r g c =
     copied p₀ p a b m k (omega arith) g c ∙ ap₂ (λ (x : ℕ) (l : List ℕ). over p₀ x l) eb (ap₂ (λ (x y : ℕ). take x (drop y p₀)) em ea)
-
--- ── a run with a text more ──
-words-kept : (x : Place) (row : ℕ) (p p' : List ℕ) → (0 < x .1 → x .0 + x .1 ≤ row) → take (row * 2) p' ≡ take (row * 2) p → rowWords p' x ≡ rowWords p x
-words-kept x row p p' u e =
-    elim (decLt 0 (x .1)) [
-      | yes k ↦ part-kept (x .1 * 2) (x .0 * 2) (row * 2) p p' e (omega (arith, u k))
-      | no k ↦
-          let z : x .1 ≡ 0 = omega arith in
-          subst (λ (n : ℕ). take {A = ℕ} (n * 2) (drop (x .0 * 2) p') ≡ take (n * 2) (drop (x .0 * 2) p)) (sym z) refl
-    ]
-
-module _ (text : List ℕ) (x : Place) (row byte : ℕ) (p s : List ℕ) (room : TopRoom x text p s row byte) where
-  words-are : length (rowWords p x) ≡ x .1 * 2
-  words-are = words-length p x (λ k. omega (arith, room .under k, room .rows-in))
-
-  pub front-room : RoomFor text p s byte row
-  front-room = record { row-in = omega (arith, room .rows-in); bytes-in = room .bytes-in; narrow = room .narrow }
-
-  pub lengthen-front : (p1 p' s' : List ℕ) (r : ℕ) → Pushed text p s byte row p1 s' r → p' ≡ over p1 ((row + 1) * 2) (rowWords p1 x) → Lengthened true text x row byte p s p' s'
-  lengthen-front p1 p' s' r u e =
-      let xs : List ℕ = byte ∷ length text ∷ [] in
-      let k : rowWords p1 x ≡ rowWords p x = words-kept x row p p1 (room .under) (ap (take (row * 2)) (u .pieces-is) ∙ take-over p (row * 2) xs (omega (arith, room .rows-in))) in
-      let a : (row + 1) * 2 ≡ row * 2 + 2 = omega arith in
-      record {
-        pieces-is =
-            e ∙ ap₂ (λ (n : ℕ) (l : List ℕ). over p1 n l) a k
-            ∙ ap (λ (l : List ℕ). over l (row * 2 + 2) (rowWords p x)) (u .pieces-is)
-            ∙ over-over p (row * 2) xs (rowWords p x) (omega (arith, room .rows-in, words-are));
-        store-is = u .store-is;
-      }
-
-  pub behind-room : (p1 : List ℕ) → length p1 ≡ length p → RoomFor text p1 s byte (row + x .1)
-  behind-room p1 e = record { row-in = omega (arith, room .rows-in); bytes-in = room .bytes-in; narrow = room .narrow }
-
-  pub lengthen-behind : (p1 p' s' : List ℕ) (r : ℕ) → p1 ≡ over p (row * 2) (rowWords p x) → Pushed text p1 s byte (row + x .1) p' s' r → Lengthened false text x row byte p s p' s'
-  lengthen-behind p1 p' s' r e u =
-      let xs : List ℕ = byte ∷ length text ∷ [] in
-      let a : (row + x .1) * 2 ≡ row * 2 + length (rowWords p x) = omega (arith, words-are) in
-      record {
-        pieces-is =
-            u .pieces-is ∙ ap₂ (λ (n : ℕ) (l : List ℕ). over l n xs) a e
-            ∙ over-over p (row * 2) (rowWords p x) xs (omega (arith, room .rows-in, words-are));
-        store-is = u .store-is;
-      }
 
 -- ── room ──
 pub refuses : {ct cp cs : ℕ} (l : Used) (n len : ℕ) → (Room ct cp cs l n len → ⊥) → (false ≡ true → Room ct cp cs l n len) × (false ≡ false → Room ct cp cs l n len → ⊥)

@@ -1,3 +1,5 @@
 pub mod Passing
 pub mod Copying
+pub mod Lengthening
+pub mod Longer
 pub mod Finishing

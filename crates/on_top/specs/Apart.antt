@@ -16,7 +16,6 @@ use Rattle.memory.specs.Layout.{NONE, Place, pieceAt, tabulate}
 use Rattle.memory.specs.WellFormed.{RunIn, ReplacementIn, RunsIn, EntryIn, Readable, among, pieceUses, runUses, replacementUses, listUses, byteUses, Disjoint}
 use Rattle.memory.specs.Laws.{piece-front, among-out}
 use Rattle.texts.specs.Texts.{tabulate-ext}
-use Rattle.on_top.specs.Run.{TopRoom, Lengthened, withPlace, placesOf, new-places}
 
 -- how often the desk uses a row of the piece table, and a byte of the store
 abbrev pub rowUses : List ℕ → ℕ → ℕ
@@ -104,14 +103,3 @@ module _ (t t' p s y y' : List ℕ) (new text : Place) (h : Readable t p s) (d :
                   omega (arith, bytes b, among-most text b)
             ];
       }
-
--- the longer run uses the bytes of the run, and those of the text
-pub lengthened-uses : (front : Bool) (text : List ℕ) (x : Place) (row byte : ℕ) (p s p' s' : List ℕ) → TopRoom x text p s row byte → Lengthened front text x row byte p s p' s'
-    → (b : ℕ) → runUses p' b (row, suc (x .1)) ≡ runUses p b x + among (byte, length text) b
-unfolding runUses
-lengthened-uses front text x row byte p s p' s' room d b =
-    ap (sum (λ (y : Place). among y b)) (new-places front text x row byte p s p' s' room d) ∙ with-sum front (placesOf p x)
-  where
-    with-sum : (front : Bool) (l : List Place) → sum (λ (y : Place). among y b) (withPlace front (byte, length text) l) ≡ sum (λ (y : Place). among y b) l + among (byte, length text) b
-    with-sum true l = omega arith
-    with-sum false l = sum-snoc (λ (y : Place). among y b) l (byte, length text)

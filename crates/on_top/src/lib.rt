@@ -190,7 +190,18 @@ fn copy_rows(p: &mut [u32], at: u32, n: u32, to: usize)
     }
 }
 
-// A run with a text more in front of it or behind, on top of the tables: the rows of the run are copied to `row`, the text goes to `byte`.
+// Whether a text goes behind a run that ends at the row: then no row of it needs to be copied.
+fn ends_at(front: bool, at: u32, n: u32, row: usize) -> bool
+    ensures { λ r. ⌜ (r ≡ true → (front ≡ false) × (at + n ≡ row)) ⌝ }
+{
+    if front {
+        return false;
+    }
+    wide(at) + wide(n) == row
+}
+
+// A run with a text more in front of it or behind, on top of the tables: the text goes to `byte`; the rows of the run are copied to `row`, or stay where they end there.
+// Hands back the run's first row.
 pub fn lengthen(
     p: &mut [u32],
     s: &mut [u8],
@@ -200,15 +211,20 @@ pub fn lengthen(
     n: u32,
     row: usize,
     byte: usize,
-)
+) -> usize
     requires { ⌜ TopRoom (at, n) (now text) (now p) (now s) row byte ⌝ }
-    ensures { λ _. ⌜ Lengthened front (now (text .entry)) (at, n) row byte (now (p .entry)) (now (s .entry)) (now (p .exit)) (now (s .exit)) ⌝ }
+    ensures { λ first. ⌜ Lengthened front (now (text .entry)) (at, n) row byte (now (p .entry)) (now (s .entry)) (now (p .exit)) (now (s .exit)) first ⌝ }
 {
+    if ends_at(front, at, n, row) {
+        carry::push_piece(p, s, text, byte, row);
+        return wide(at);
+    }
     if front {
         carry::push_piece(p, s, text, byte, row);
         copy_rows(p, at, n, row + 1);
-        return;
+        return row;
     }
     copy_rows(p, at, n, row);
     carry::push_piece(p, s, text, byte, row + n as usize);
+    row
 }

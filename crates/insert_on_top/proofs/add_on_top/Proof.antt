@@ -1,7 +1,6 @@
+-- `insert_on_top::add_on_top` meets its contract: the run that is read is the one that the contract names, so there is room to lengthen it.
 use mathlib.Core.Path.{_≡_, refl, sym, ap, _∙_, subst}
-use Prim.Native.Nat.{ℕ, _+_, _*_, _≤_}
 use native.Mathlib.Omega.{arith}
-use lib.ListN.{length, take}
 use Rattle.table.specs.declared.Row.{Row}
 use Rattle.table.specs.Order.{entryOf, entryAt}
 use Rattle.memory.specs.Layout.{Place}
@@ -28,22 +27,33 @@ run-of-requires c κs = search needs
 lengthen-requires : tie.Need-lengthen-requires
 lengthen-requires c κs =
     let start = c .before .before .before .before .before .before .before .before .before in
-    let run-of = c .before .before .run-of in
-    let get-row = c .before .before .before .get-row in
+    let run = c .before .before .run-of in
+    let row = c .before .before .before .get-row in
     let a = start .args in
-    let e : _≡_ {A = Place} (run-of .result .at, run-of .result .n) (side (a .outro) (entryAt (a .chunks .now) (a .i))) = run-of .ensures ∙ ap (λ (r : Row). side (a .outro) (entryOf r)) (get-row .ensures) in
-    subst (λ (y : Place). TopRoom y (a .text .now) (a .pieces .now) (a .store .now) (a .row) (a .byte)) (sym e) (start .pre .1 .1 .0)
+    let e : _≡_ {A = Place} (run .result .at, run .result .n) (side (a .outro) (entryAt (a .chunks .now) (a .i))) =
+    run .ensures ∙ ap (λ (r : Row). side (a .outro) (entryOf r)) (row .ensures) in
+    let k = subst (λ (y : Place). TopRoom y (a .text .now) (a .pieces .now) (a .store .now) (a .row) (a .byte)) (sym e) (start .pre .1 .1 .0) in
+    k
 
 cast-with-run : tie.Need-cast-with-run
-cast-with-run c = search needs
+cast-with-run c =
+    let start = c .before .before .before .before .before .before .before .before .before .before .before .before .before .before .before in
+    let run = c .before .before .before .before .before .before .before .before .run-of in
+    let row = c .before .before .before .before .before .before .before .before .before .get-row in
+    let a = start .args in
+    let e : _≡_ {A = Place} (run .result .at, run .result .n) (side (a .outro) (entryAt (a .chunks .now) (a .i))) =
+    run .ensures ∙ ap (λ (r : Row). side (a .outro) (entryOf r)) (row .ensures) in
+    let k = subst (λ (y : Place). TopRoom y (a .text .now) (a .pieces .now) (a .store .now) (a .row) (a .byte)) (sym e) (start .pre .1 .1 .0) in
+    omega (arith, k .rows-in, start .pre .1 .0, c .before .before .before .before .before .lengthen .ensures .to)
 
 add-with-run : tie.Need-add-with-run
 add-with-run c =
     let start = c .before .before .before .before .before .before .before .before .before .before .before .before .before .before .before .before in
-    let run-of = c .before .before .before .before .before .before .before .before .before .run-of in
-    let get-row = c .before .before .before .before .before .before .before .before .before .before .get-row in
+    let run = c .before .before .before .before .before .before .before .before .before .run-of in
+    let row = c .before .before .before .before .before .before .before .before .before .before .get-row in
     let a = start .args in
-    let e : _≡_ {A = Place} (run-of .result .at, run-of .result .n) (side (a .outro) (entryAt (a .chunks .now) (a .i))) = run-of .ensures ∙ ap (λ (r : Row). side (a .outro) (entryOf r)) (get-row .ensures) in
+    let e : _≡_ {A = Place} (run .result .at, run .result .n) (side (a .outro) (entryAt (a .chunks .now) (a .i))) =
+    run .ensures ∙ ap (λ (r : Row). side (a .outro) (entryOf r)) (row .ensures) in
     let k = subst (λ (y : Place). TopRoom y (a .text .now) (a .pieces .now) (a .store .now) (a .row) (a .byte)) (sym e) (start .pre .1 .1 .0) in
     omega (arith, k .rows-in, start .pre .1 .0)
 
@@ -51,9 +61,32 @@ with-run-requires : tie.Need-with-run-requires
 with-run-requires c κs = search needs
 
 put-row-requires : tie.Need-put-row-requires
-put-row-requires c κs =
-    let start = c .before .before .before .before .before .before .before .before .before .before .before .before .before .before .before .before .before in
-    omega (arith, start .pre .0)
+put-row-requires c κs = omega (arith, c .before .before .before .before .before .before .before .before .before .before .before .before .before .before .before .before .before .pre .0)
+
+cast-result : tie.Need-cast-result
+cast-result c = search needs
+
+add-result : tie.Need-add-result
+add-result c =
+    let start = c .before .before .before .before .before .before .before .before .before .before .before .before .before .before .before .before .before .before .before .before .before in
+    let run = c .before .before .before .before .before .before .before .before .before .before .before .before .before .before .run-of in
+    let row = c .before .before .before .before .before .before .before .before .before .before .before .before .before .before .before .get-row in
+    let a = start .args in
+    let e : _≡_ {A = Place} (run .result .at, run .result .n) (side (a .outro) (entryAt (a .chunks .now) (a .i))) =
+    run .ensures ∙ ap (λ (r : Row). side (a .outro) (entryOf r)) (row .ensures) in
+    let k = subst (λ (y : Place). TopRoom y (a .text .now) (a .pieces .now) (a .store .now) (a .row) (a .byte)) (sym e) (start .pre .1 .1 .0) in
+    omega (arith, k .rows-in, start .pre .1 .0, c .before .before .before .before .before .before .before .before .before .before .before .lengthen .ensures .to)
+
+add-result-2 : tie.Need-add-result-2
+add-result-2 c =
+    let start = c .before .before .before .before .before .before .before .before .before .before .before .before .before .before .before .before .before .before .before .before .before in
+    let run = c .before .before .before .before .before .before .before .before .before .before .before .before .before .before .run-of in
+    let row = c .before .before .before .before .before .before .before .before .before .before .before .before .before .before .before .get-row in
+    let a = start .args in
+    let e : _≡_ {A = Place} (run .result .at, run .result .n) (side (a .outro) (entryAt (a .chunks .now) (a .i))) =
+    run .ensures ∙ ap (λ (r : Row). side (a .outro) (entryOf r)) (row .ensures) in
+    let k = subst (λ (y : Place). TopRoom y (a .text .now) (a .pieces .now) (a .store .now) (a .row) (a .byte)) (sym e) (start .pre .1 .1 .0) in
+    omega (arith, k .rows-in, start .pre .1 .0, c .before .before .before .before .before .before .before .before .before .before .before .lengthen .ensures .to)
 
 same-length : tie.Need-same-length
 same-length c = search needs
@@ -66,14 +99,13 @@ same-length-3 c = search needs
 
 returns : tie.Need-returns
 returns c =
-    let start = c .before .before .before .before .before .before .before .before .before .before .before .before .before .before .before .before .before .before .before .before in
-    let get-row = c .before .before .before .before .before .before .before .before .before .before .before .before .before .before .get-row in
-    let run-of = c .before .before .before .before .before .before .before .before .before .before .before .before .before .run-of in
-    let lengthen = c .before .before .before .before .before .before .before .before .before .before .lengthen in
-    let with-run = c .before .before .before .with-run in
-    let put-row = c .before .before .put-row in
+    let start = c .before .before .before .before .before .before .before .before .before .before .before .before .before .before .before .before .before .before .before .before .before in
+    let run = c .before .before .before .before .before .before .before .before .before .before .before .before .before .before .run-of in
+    let row = c .before .before .before .before .before .before .before .before .before .before .before .before .before .before .before .get-row in
+    let lengthen = c .before .before .before .before .before .before .before .before .before .before .before .lengthen in
     let a = start .args in
-    added-on-top (a .outro) (a .front) (a .text .now) (a .i) (a .row) (a .byte) (get-row .result) (run-of .result) (get-row .ensures) (run-of .ensures) (start .pre .1 .1 .0) (start .pre .1 .1 .1) (lengthen .ensures) (with-run .ensures) (put-row .ensures)
+    added-on-top (a .outro) (a .front) (a .text .now) (a .i) (a .row) (a .byte) (row .result) (run .result) (lengthen .result) _ (row .ensures) (run .ensures)
+    (start .pre .1 .1 .0) (start .pre .1 .1 .1) (lengthen .ensures) (c .before .before .before .before .with-run .ensures) (c .before .before .before .put-row .ensures) refl
 
 pub add-on-top-spec : {M : Type 1} → statement M
 add-on-top-spec =
@@ -86,6 +118,9 @@ add-on-top-spec =
     add-with-run
     with-run-requires
     put-row-requires
+    cast-result
+    add-result
+    add-result-2
     same-length
     same-length-2
     same-length-3

@@ -1,8 +1,6 @@
-use mathlib.Core.Path.{_≡_, refl, sym, ap, _∙_, subst}
-use Prim.Native.Nat.{ℕ, _+_, _*_, _≤_}
+-- `insert_on_top::insert_on_top` meets its contract: a refused cut leaves what is in use as it was, the piece is above it.
 use native.Mathlib.Omega.{arith}
-use lib.ListN.{length, take}
-use Rattle.insert_on_top.specs.TopCalls.{top-ready, top-refused, top-inserted}
+use Rattle.insert_on_top.specs.TopCalls.{top-ready, top-refused, top-inserted, top-above}
 use borrow.Author.Needs.{needs}
 use Rattle.insert_on_top.proofs.insert_on_top.Statement.{statement}
 use Rattle.insert_on_top.proofs.insert_on_top.Tie as tie
@@ -21,16 +19,20 @@ returns : tie.Need-returns
 returns c =
     let start = c .before .before .before .before .before .before .before .before .before .before in
     let split-at = c .before .before .before .split-at in
-    let if1 = c .if1 in
     let a = start .args in
-    top-refused (a .left) (a .front) (a .q) (a .text .now) (start .pre .0) (start .pre .1 .0) (start .pre .1 .1) (split-at .ensures) (split-at .kept .0) (if1 .taken)
+    top-refused (a .left) (a .front) (a .q) (a .text .now) (start .pre .0) (start .pre .1) (split-at .ensures) (split-at .kept .0) (c .if1 .taken)
 
 insert-rows-on-top-requires : tie.Need-insert-rows-on-top-requires
 insert-rows-on-top-requires c κs =
     let start = c .before .before .before .before .before .before .before .before .before .before .before .before .before in
-    let split-at = c .before .before .before .before .before .before .split-at in
     let a = start .args in
-    top-ready (a .left) (a .front) (a .q) (a .text .now) (start .pre .0) (start .pre .1 .0) (start .pre .1 .1) (split-at .ensures)
+    top-ready (a .left) (a .front) (a .q) (a .text .now) (start .pre .0) (start .pre .1) (c .before .before .before .before .before .before .split-at .ensures)
+
+add-count : tie.Need-add-count
+add-count c = omega (arith, c .before .before .before .before .before .before .before .before .before .before .before .before .before .before .before .before .before .before .before .before .before .pre .1 .pieces, c .before .before .before .before .before .before .before .before .before .before .before .before .before .before .before .before .before .before .before .before .before .pre .0 .well-formed .sized .pieces)
+
+add-byte : tie.Need-add-byte
+add-byte c = omega (arith, c .before .before .before .before .before .before .before .before .before .before .before .before .before .before .before .before .before .before .before .before .before .before .pre .1 .places, c .before .before .before .before .before .before .before .before .before .before .before .before .before .before .before .before .before .before .before .before .before .before .pre .0 .well-formed .sized .store)
 
 same-length-2 : tie.Need-same-length-2
 same-length-2 c = search needs
@@ -43,12 +45,16 @@ same-length-4 c = search needs
 
 returns-2 : tie.Need-returns-2
 returns-2 c =
-    let start = c .before .before .before .before .before .before .before .before .before .before .before .before .before .before .before .before .before .before .before .before in
-    let split-at = c .before .before .before .before .before .before .before .before .before .before .before .before .before .split-at in
-    let if1 = c .before .before .before .before .before .before .before .before .before .before .if1 in
-    let rows = c .before .before .before .before .before .before .insert-rows-on-top in
-    let a = start .args in
-    top-inserted (a .left) (a .front) (a .q) (a .text .now) (start .pre .0) (start .pre .1 .0) (start .pre .1 .1) (split-at .ensures) _ _ _ (if1 .left) (rows .ensures) (split-at .kept .0) (rows .kept .0) (rows .kept .1 .0) (rows .kept .1 .1 .0)
+    let start = c .before .before .before .before .before .before .before .before .before .before .before .before .before .before .before .before .before .before .before .before .before .before in
+    let split-at = c .before .before .before .before .before .before .before .before .before .before .before .before .before .before .before .split-at in
+    let if1 = c .before .before .before .before .before .before .before .before .before .before .before .before .if1 in
+    let rows = c .before .before .before .before .before .before .before .before .insert-rows-on-top in
+    let a = start .args in (
+      top-inserted (a .left) (a .front) (a .q) (a .text .now) (start .pre .0) (start .pre .1) (split-at .ensures) _ _ _ (rows .result) (if1 .left) (rows .ensures)
+      (split-at .kept .0) (rows .kept .0) (rows .kept .1 .0) (rows .kept .1 .1 .0),
+      top-above (a .left) (a .front) (a .q) (a .text .now) (start .pre .0) (start .pre .1) (split-at .ensures) _ _ _ (rows .result) (if1 .left) (rows .ensures)
+      (split-at .kept .0) (rows .kept .0) (rows .kept .1 .0) (rows .kept .1 .1 .0),
+    )
 
 pub insert-on-top-spec : {M : Type 1} → statement M
 insert-on-top-spec =
@@ -58,6 +64,8 @@ insert-on-top-spec =
     same-length
     returns
     insert-rows-on-top-requires
+    add-count
+    add-byte
     same-length-2
     same-length-3
     same-length-4

@@ -1,8 +1,7 @@
-use mathlib.Core.Path.{_≡_, refl, sym, ap, _∙_, subst}
-use Prim.Native.Nat.{ℕ, _+_, _*_, _≤_}
-use native.Mathlib.Omega.{arith}
-use lib.ListN.{length, take}
+-- `insert_on_top::insert_rows_on_top` meets its contract, where a chunk is found and where none is.
+use mathlib.Core.Path.{subst}
 use mathlib.Core.Bool.{not}
+use native.Mathlib.Omega.{arith}
 use Rattle.rows.specs.Find.{meets, FoundIn}
 use Rattle.insert_row.specs.Insertion.{found-row}
 use Rattle.insert_on_top.specs.OnTop.{whole-ready, found-ready}
@@ -49,24 +48,23 @@ returns : tie.Need-returns
 returns c =
     let start = c .before .before .before .before .before .before .before .before .before .before .before .before .before .before .before .before .before .before .before in
     let key-for = c .before .before .before .before .before .before .before .before .before .before .before .before .before .key-for in
-    let enum-told = c .before .before .before .before .before .before .before .before .before .before .enum-told in
-    let find = c .before .before .before .before .before .before .before .before .before .before .before .before .find in
     let add-on-top = c .before .before .before .before .before .before .add-on-top in
     let a = start .args in
-    let w = subst (FoundIn (meets (key-for .result) (a .q)) (a .chunks .now)) (enum-told .given .1) (find .ensures) in
-    top-none (a .left) (a .front) (a .q) (a .text .now) (a .pieces .now) (a .store .now) (a .chunks .now) _ _ _ (a .l) (start .pre) (add-on-top .kept .0) (rw (key-for .ensures) at w) (add-on-top .ensures)
+    let w = subst (FoundIn (meets (key-for .result) (a .q)) (a .chunks .now)) (c .before .before .before .before .before .before .before .before .before .before .enum-told .given .1) (c .before .before .before .before .before .before .before .before .before .before .before .before .find .ensures) in
+    top-none (a .left) (a .front) (a .q) (a .text .now) (a .pieces .now) (a .store .now) (a .chunks .now) _ _ _ (a .l) _ (start .pre) (add-on-top .kept .0)
+    (rw (key-for .ensures) at w) (add-on-top .ensures)
 
 add-on-top-requires-2 : tie.Need-add-on-top-requires-2
 add-on-top-requires-2 c κs =
     let start = c .before .before .before .before .before .before .before .before .before .before .before .before .before in
     let key-for = c .before .before .before .before .before .before .before .key-for in
     let i = c .before .before .before .before .i in
-    let find = c .before .before .before .before .before .before .find in
     let a = start .args in
     let h = start .pre in
-    let w = subst (FoundIn (meets (key-for .result) (a .q)) (a .chunks .now)) (i .given .1) (find .ensures) in
+    let w = subst (FoundIn (meets (key-for .result) (a .q)) (a .chunks .now)) (i .given .1) (c .before .before .before .before .before .before .find .ensures) in
     let k = found-ready (a .left) (meets (key-for .result) (a .q)) (a .chunks .now) (a .pieces .now) (a .store .now) (a .text .now) (i .given .0 .0) (a .l) w h in
-    (found-row (meets (key-for .result) (a .q)) (a .chunks .now) (a .pieces .now) (a .store .now) (i .given .0 .0) w (h .readable .linked), (h .lent-pieces, (k .0, k .1)))
+    let r = found-row (meets (key-for .result) (a .q)) (a .chunks .now) (a .pieces .now) (a .store .now) (i .given .0 .0) w (h .readable .linked) in
+    (r, (h .lent-pieces, (k .0, k .1)))
 
 same-length-4 : tie.Need-same-length-4
 same-length-4 c = search needs
@@ -82,11 +80,11 @@ returns-2 c =
     let start = c .before .before .before .before .before .before .before .before .before .before .before .before .before .before .before .before .before .before .before .before in
     let key-for = c .before .before .before .before .before .before .before .before .before .before .before .before .before .before .key-for in
     let i = c .before .before .before .before .before .before .before .before .before .before .before .i in
-    let find = c .before .before .before .before .before .before .before .before .before .before .before .before .before .find in
-    let add-on-top2 = c .before .before .before .before .before .before .add-on-top2 in
+    let add-on-top = c .before .before .before .before .before .before .add-on-top2 in
     let a = start .args in
-    let w = subst (FoundIn (meets (key-for .result) (a .q)) (a .chunks .now)) (i .given .1) (find .ensures) in
-    top-found (a .left) (a .front) (a .q) (a .text .now) (a .pieces .now) (a .store .now) (a .chunks .now) _ _ _ (a .l) (start .pre) (add-on-top2 .kept .0) (i .given .0 .0) (rw (key-for .ensures) at w) (add-on-top2 .ensures)
+    let w = subst (FoundIn (meets (key-for .result) (a .q)) (a .chunks .now)) (i .given .1) (c .before .before .before .before .before .before .before .before .before .before .before .before .before .find .ensures) in
+    top-found (a .left) (a .front) (a .q) (a .text .now) (a .pieces .now) (a .store .now) (a .chunks .now) _ _ _ (a .l) _ (start .pre) (add-on-top .kept .0)
+    (i .given .0 .0) (rw (key-for .ensures) at w) (add-on-top .ensures)
 
 pub insert-rows-on-top-spec : {M : Type 1} → statement M
 insert-rows-on-top-spec =

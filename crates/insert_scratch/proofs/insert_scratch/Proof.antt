@@ -1,3 +1,4 @@
+-- `insert_scratch::insert_scratch` meets its contract: its own tables are clear and long enough.
 use mathlib.Core.Path.{sym}
 use native.Mathlib.Omega.{arith}
 use Rattle.frame.specs.Frame.{zeros-length, zeros-at}
@@ -12,27 +13,33 @@ array-borrow-prefix-t : tie.Need-array-borrow-prefix-t
 array-borrow-prefix-t c = search needs
 
 slice-aggregate-insert-by : tie.Need-slice-aggregate-insert-by
-slice-aggregate-insert-by c =
-    sym (zeros-length 6192 6192 (omega arith))
+slice-aggregate-insert-by c = sym (zeros-length 6192 6192 (omega arith))
 
 array-borrow-prefix-p : tie.Need-array-borrow-prefix-p
 array-borrow-prefix-p c = search needs
 
 slice-aggregate-insert-by-2 : tie.Need-slice-aggregate-insert-by-2
-slice-aggregate-insert-by-2 c =
-    sym (zeros-length 6146 6146 (omega arith))
+slice-aggregate-insert-by-2 c = sym (zeros-length 6146 6146 (omega arith))
 
 array-borrow-prefix-s : tie.Need-array-borrow-prefix-s
 array-borrow-prefix-s c = search needs
 
 slice-aggregate-insert-by-3 : tie.Need-slice-aggregate-insert-by-3
-slice-aggregate-insert-by-3 c =
-    sym (zeros-length 98304 98304 (omega arith))
+slice-aggregate-insert-by-3 c = sym (zeros-length 98304 98304 (omega arith))
 
 insert-by-requires : tie.Need-insert-by-requires
 insert-by-requires c κs =
-    let start = c .before .before .before .before .before .before .before .before .before .before .before in
-    (start .pre, record { scratch = record { chunks = zeros-length 6192 6192 (omega arith); clear = zeros-at 6192 6192; pieces = rw (zeros-length 6146 6146 (omega arith)) (omega arith); store = rw (zeros-length 98304 98304 (omega arith)) (omega arith) }; pieces = zeros-length 6146 6146 (omega arith); store = zeros-length 98304 98304 (omega arith) })
+    (c .before .before .before .before .before .before .before .before .before .before .before .pre, record {
+      scratch =
+          record {
+            chunks = zeros-length 6192 6192 (omega arith);
+            clear = zeros-at 6192 6192;
+            pieces = rw (zeros-length 6146 6146 (omega arith)) (omega arith);
+            store = rw (zeros-length 98304 98304 (omega arith)) (omega arith);
+          };
+      pieces = zeros-length 6146 6146 (omega arith);
+      store = zeros-length 98304 98304 (omega arith);
+    })
 
 same-length : tie.Need-same-length
 same-length c = search needs

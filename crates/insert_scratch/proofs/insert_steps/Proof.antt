@@ -20,7 +20,7 @@ returns c =
     let split-at = c .before .before .before .split-at in
     let if1 = c .if1 in
     let a = start .args in
-    steps-refused (a .left) (a .front) (a .q) (a .text .now) (a .pieces .now) (a .store .now) (a .t .now) _ _ _ _ (start .pre .1 .0) (start .pre .1 .1 .1) (split-at .ensures) (if1 .taken)
+    steps-refused (a .left) (a .front) (a .q) (a .text .now) (a .pieces .now) (a .store .now) (a .t .now) _ _ _ _ (start .pre .1 .0) (split-at .ensures) (if1 .taken)
 
 same-length-2 : tie.Need-same-length-2
 same-length-2 c = search needs
@@ -32,7 +32,7 @@ returns-2 c =
     let if1 = c .before .if1 in
     let if2 = c .if2 in
     let a = start .args in
-    steps-long (a .left) (a .front) (a .q) (a .text .now) (a .pieces .now) (a .store .now) (a .t .now) _ _ _ _ (start .pre .1 .0) (start .pre .1 .1 .1) (split-at .ensures) (if1 .left) (if2 .taken)
+    steps-long (a .left) (a .front) (a .q) (a .text .now) (a .pieces .now) (a .store .now) (a .t .now) _ _ _ _ (start .pre .1 .0) (split-at .ensures) (if1 .left) (if2 .taken)
 
 insert-rows-requires : tie.Need-insert-rows-requires
 insert-rows-requires c κs =
@@ -58,7 +58,7 @@ returns-3 c =
     let if1 = c .before .before .before .before .before .before .before .before .before .before .before .if1 in
     let insert-rows = c .before .before .before .before .before .before .insert-rows in
     let a = start .args in
-    steps-done (a .left) (a .front) (a .q) (a .text .now) (a .pieces .now) (a .store .now) (a .t .now) _ (a .p .now) (a .s .now) _ (start .pre .1 .0) (start .pre .1 .1 .1) (split-at .ensures) (if1 .left) _ _ _ (insert-rows .ensures)
+    steps-done (a .left) (a .front) (a .q) (a .text .now) (a .pieces .now) (a .store .now) (a .t .now) _ (a .p .now) (a .s .now) _ (start .pre .1 .0) (split-at .ensures) (if1 .left) _ _ _ (insert-rows .ensures)
 
 pub insert-steps-spec : {M : Type 1} → statement M
 insert-steps-spec =

@@ -1,5 +1,8 @@
+-- `insert_scratch::whole_by` meets its contract: the piece on the loaded tables is the model's.
+use mathlib.Core.Path.{_∙_}
 use native.Mathlib.Omega.{arith}
-use Rattle.frame.specs.Frame.{loaded-roomy, loaded-readable}
+use Rattle.frame.specs.Frame.{loaded-readable}
+use Rattle.on_top.proofs.Finishing.{formed-usable}
 use Rattle.insert_row.specs.Piece.{loaded-spare}
 use Rattle.insert_row.specs.Insertion.{whole-run, whole-added}
 use Rattle.insert_row.specs.Calls.{loaded-small, whole-ran}
@@ -8,14 +11,15 @@ use Rattle.insert_scratch.proofs.whole_by.Statement.{statement}
 use Rattle.insert_scratch.proofs.whole_by.Tie as tie
 use Rattle.insert_scratch.proofs.whole_by.Reads as reads
 use Rattle.insert_scratch.proofs.whole_by.Lts as lts
-use Rattle.frame.proofs.finish.Reads as finish-reads
 use Rattle.frame.proofs.load.Reads as load-reads
 use Rattle.insert_scratch.proofs.add_piece.Reads as add-piece-reads
+use Rattle.on_top.proofs.finish.Reads as finish-reads
 
 load-requires : tie.Need-load-requires
 load-requires c κs =
     let start = c .before .before .before .before .before .before .before .before .before .before .before .before .before .before in
-    (omega (arith, start .pre .0 .sized .chunks, start .pre .1 .0 .scratch .chunks), omega (arith, start .pre .0 .sized .pieces, start .pre .1 .0 .pieces), omega (arith, start .pre .0 .sized .store, start .pre .1 .0 .store))
+    (omega (arith, start .pre .0 .sized .chunks, start .pre .1 .0 .scratch .chunks), omega (arith, start .pre .0 .sized .pieces, start .pre .1 .0 .pieces),
+    omega (arith, start .pre .0 .sized .store, start .pre .1 .0 .store))
 
 add-piece-requires : tie.Need-add-piece-requires
 add-piece-requires c κs =
@@ -30,10 +34,11 @@ finish-requires : tie.Need-finish-requires
 finish-requires c κs =
     let start = c .before .before .before .before .before .before .before .before .before .before .before .before .before .before .before .before .before .before .before .before .before .before .before .before .before .before .before .before .before .before .before .before .before .before .before .before .before .before .before in
     let load = c .before .before .before .before .before .before .before .before .before .before .before .before .before .before .before .before .before .before .before .before .before .before .before .before .load in
-    let add-piece = c .before .before .before .before .before .before .before .before .before .before .before .before .add-piece in
+    let added = c .before .before .before .before .before .before .before .before .before .before .before .before .add-piece in
     let a = start .args in
     let h = loaded-readable (start .pre .0) (start .pre .1 .0 .scratch) (load .ensures) in
-    (whole-added (a .outro) (a .front) (a .text .now) (a .pieces .now) (a .store .now) _ _ _ _ h (add-piece .ensures) (add-piece .kept .1 .1 .1 .0) (a .source .now) .readable, start .pre .0 .sized)
+    let did = whole-added (a .outro) (a .front) (a .text .now) (a .pieces .now) (a .store .now) _ _ _ _ h (added .ensures) (added .kept .1 .1 .1 .0) (a .source .now) in
+    (did .readable, formed-usable (start .pre .0))
 
 same-length : tie.Need-same-length
 same-length c = search needs
@@ -45,10 +50,10 @@ same-length-3 : tie.Need-same-length-3
 same-length-3 c = search needs
 
 same-length-4 : tie.Need-same-length-4
-same-length-4 c = search needs
+same-length-4 c = c .before .before .before .before .before .before .before .before .before .before .before .before .before .before .before .before .before .before .before .add-piece .kept .1 .1 .1 .0 ∙ c .before .before .before .before .before .before .before .before .before .before .before .before .before .before .before .before .before .before .before .before .before .before .before .before .before .before .before .before .before .before .before .load .kept .1 .1 .1 .0
 
 same-length-5 : tie.Need-same-length-5
-same-length-5 c = search needs
+same-length-5 c = c .before .before .before .before .before .before .before .before .before .before .before .before .before .before .before .before .before .before .before .add-piece .kept .1 .1 .1 .1 .0 ∙ c .before .before .before .before .before .before .before .before .before .before .before .before .before .before .before .before .before .before .before .before .before .before .before .before .before .before .before .before .before .before .before .load .kept .1 .1 .1 .1 .0
 
 same-length-6 : tie.Need-same-length-6
 same-length-6 c = search needs
@@ -57,12 +62,12 @@ returns : tie.Need-returns
 returns c =
     let start = c .before .before .before .before .before .before .before .before .before .before .before .before .before .before .before .before .before .before .before .before .before .before .before .before .before .before .before .before .before .before .before .before .before .before .before .before .before .before .before .before .before .before .before .before .before .before in
     let load = c .before .before .before .before .before .before .before .before .before .before .before .before .before .before .before .before .before .before .before .before .before .before .before .before .before .before .before .before .before .before .before .load in
-    let add-piece = c .before .before .before .before .before .before .before .before .before .before .before .before .before .before .before .before .before .before .before .add-piece in
+    let added = c .before .before .before .before .before .before .before .before .before .before .before .before .before .before .before .before .before .before .before .add-piece in
     let finish = c .before .before .before .before .before .before .finish in
     let a = start .args in
     let h = loaded-readable (start .pre .0) (start .pre .1 .0 .scratch) (load .ensures) in
-    whole-ran (a .outro) (a .front) (a .text .now) (start .pre .0) (start .pre .1 .0) (load .ensures)
-    (whole-added (a .outro) (a .front) (a .text .now) (a .pieces .now) (a .store .now) _ _ _ _ h (add-piece .ensures) (add-piece .kept .1 .1 .1 .0)) (finish .ensures)
+    let did = whole-added (a .outro) (a .front) (a .text .now) (a .pieces .now) (a .store .now) _ _ _ _ h (added .ensures) (added .kept .1 .1 .1 .0) in
+    (whole-ran (a .outro) (a .front) (a .text .now) (start .pre .0) (start .pre .1 .0) (load .ensures) did (finish .ensures .0), finish .ensures .1)
 
 pub whole-by-spec : {M : Type 1} → statement M
 whole-by-spec =

@@ -1,6 +1,8 @@
+-- `insert_scratch::whole_scratch` meets its contract: a text longer than the store passes the limits, and its own tables are clear and long enough.
 use mathlib.Core.Path.{sym}
 use native.Mathlib.Omega.{arith}
 use Rattle.frame.specs.Frame.{zeros-length, zeros-at}
+use Rattle.on_top.proofs.Finishing.{formed-usable}
 use Rattle.insert_row.specs.Calls.{whole-long}
 use borrow.Author.Needs.{needs}
 use Rattle.insert_scratch.proofs.whole_scratch.Statement.{statement}
@@ -8,40 +10,10 @@ use Rattle.insert_scratch.proofs.whole_scratch.Tie as tie
 use Rattle.insert_scratch.proofs.whole_scratch.Reads as reads
 use Rattle.insert_scratch.proofs.whole_scratch.Lts as lts
 use Rattle.insert_scratch.proofs.whole_by.Reads as whole-by-reads
+use Rattle.on_top.proofs.counted.Reads as counted-reads
 
-returns : tie.Need-returns
-returns c =
-    let start = c .before .before .before .before .before .before in
-    let if1 = c .if1 in
-    let a = start .args in
-    whole-long (a .outro) (a .front) (a .text .now) (start .pre) (if1 .taken)
-
-array-borrow-prefix-t : tie.Need-array-borrow-prefix-t
-array-borrow-prefix-t c = search needs
-
-slice-aggregate-whole-by : tie.Need-slice-aggregate-whole-by
-slice-aggregate-whole-by c =
-    sym (zeros-length 6192 6192 (omega arith))
-
-array-borrow-prefix-p : tie.Need-array-borrow-prefix-p
-array-borrow-prefix-p c = search needs
-
-slice-aggregate-whole-by-2 : tie.Need-slice-aggregate-whole-by-2
-slice-aggregate-whole-by-2 c =
-    sym (zeros-length 6146 6146 (omega arith))
-
-array-borrow-prefix-s : tie.Need-array-borrow-prefix-s
-array-borrow-prefix-s c = search needs
-
-slice-aggregate-whole-by-3 : tie.Need-slice-aggregate-whole-by-3
-slice-aggregate-whole-by-3 c =
-    sym (zeros-length 98304 98304 (omega arith))
-
-whole-by-requires : tie.Need-whole-by-requires
-whole-by-requires c κs =
-    let start = c .before .before .before .before .before .before .before .before .before .before .before .before in
-    let if1 = c .before .before .before .before .before .before .if1 in
-    (start .pre, (record { scratch = record { chunks = zeros-length 6192 6192 (omega arith); clear = zeros-at 6192 6192; pieces = rw (zeros-length 6146 6146 (omega arith)) (omega arith); store = rw (zeros-length 98304 98304 (omega arith)) (omega arith) }; pieces = zeros-length 6146 6146 (omega arith); store = zeros-length 98304 98304 (omega arith) }, if1 .left))
+counted-requires : tie.Need-counted-requires
+counted-requires c κs = formed-usable (c .before .before .before .before .before .before .before .before .before .pre)
 
 same-length : tie.Need-same-length
 same-length c = search needs
@@ -52,6 +24,55 @@ same-length-2 c = search needs
 same-length-3 : tie.Need-same-length-3
 same-length-3 c = search needs
 
+returns : tie.Need-returns
+returns c =
+    let start = c .before .before .before .before .before .before .before .before .before .before in
+    let a = start .args in
+    (rw (c .counted .ensures .0) (whole-long (a .outro) (a .front) (a .text .now) (start .pre) (c .before .before .before .before .if1 .taken)), c .counted .ensures .1)
+
+array-borrow-prefix-t : tie.Need-array-borrow-prefix-t
+array-borrow-prefix-t c = search needs
+
+slice-aggregate-whole-by : tie.Need-slice-aggregate-whole-by
+slice-aggregate-whole-by c = sym (zeros-length 6192 6192 (omega arith))
+
+array-borrow-prefix-p : tie.Need-array-borrow-prefix-p
+array-borrow-prefix-p c = search needs
+
+slice-aggregate-whole-by-2 : tie.Need-slice-aggregate-whole-by-2
+slice-aggregate-whole-by-2 c = sym (zeros-length 6146 6146 (omega arith))
+
+array-borrow-prefix-s : tie.Need-array-borrow-prefix-s
+array-borrow-prefix-s c = search needs
+
+slice-aggregate-whole-by-3 : tie.Need-slice-aggregate-whole-by-3
+slice-aggregate-whole-by-3 c = sym (zeros-length 98304 98304 (omega arith))
+
+whole-by-requires : tie.Need-whole-by-requires
+whole-by-requires c κs = (
+    c .before .before .before .before .before .before .before .before .before .before .before .before .pre,
+    (record {
+      scratch =
+          record {
+            chunks = zeros-length 6192 6192 (omega arith);
+            clear = zeros-at 6192 6192;
+            pieces = rw (zeros-length 6146 6146 (omega arith)) (omega arith);
+            store = rw (zeros-length 98304 98304 (omega arith)) (omega arith);
+          };
+      pieces = zeros-length 6146 6146 (omega arith);
+      store = zeros-length 98304 98304 (omega arith);
+    }, c .before .before .before .before .before .before .if1 .left),
+)
+
+same-length-4 : tie.Need-same-length-4
+same-length-4 c = search needs
+
+same-length-5 : tie.Need-same-length-5
+same-length-5 c = search needs
+
+same-length-6 : tie.Need-same-length-6
+same-length-6 c = search needs
+
 returns-2 : tie.Need-returns-2
 returns-2 c = search needs
 
@@ -59,6 +80,10 @@ pub whole-scratch-spec : {M : Type 1} → statement M
 whole-scratch-spec =
     tie.close
     (tie.spec
+    counted-requires
+    same-length
+    same-length-2
+    same-length-3
     returns
     array-borrow-prefix-t
     slice-aggregate-whole-by
@@ -67,7 +92,7 @@ whole-scratch-spec =
     array-borrow-prefix-s
     slice-aggregate-whole-by-3
     whole-by-requires
-    same-length
-    same-length-2
-    same-length-3
+    same-length-4
+    same-length-5
+    same-length-6
     returns-2)
