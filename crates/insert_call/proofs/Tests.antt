@@ -22,14 +22,12 @@ record Given (e : Edit) (text qs : List ℕ) : Type 0 where
   busy : idle e ≡ false
 
 insertion-given : (left front : Bool) (q : ℕ) (text : List ℕ) → Given (insertion left front q text) text (q ∷ [])
-unfolding idle
 insertion-given true true q text = record { options = refl; its-texts = refl; its-positions = refl; busy = refl }
 insertion-given true false q text = record { options = refl; its-texts = refl; its-positions = refl; busy = refl }
 insertion-given false true q text = record { options = refl; its-texts = refl; its-positions = refl; busy = refl }
 insertion-given false false q text = record { options = refl; its-texts = refl; its-positions = refl; busy = refl }
 
 addition-given : (tail : Bool) (text : List ℕ) → Given (addition tail text) text []
-unfolding idle
 addition-given true text = record { options = refl; its-texts = refl; its-positions = refl; busy = refl }
 addition-given false text = record { options = refl; its-texts = refl; its-positions = refl; busy = refl }
 

@@ -15,13 +15,13 @@ use Rattle.model.specs.MagicString.{MagicString, Result, ok, err, and-then, wit
 use Rattle.model.specs.Limits.{within, chunk-pieces, chunk-bytes, byte-count, piece-count}
 use Rattle.memory.specs.Layout.{magicStringOf}
 use Rattle.memory.specs.WellFormed.{limitsOf, Readable}
-use Rattle.memory.specs.Calls.{may-write}
+use Rattle.memory.specs.Calls.{Ran}
 use Rattle.memory.specs.Laws.{chunk-count, source-of, keeps-within}
 use Rattle.texts.specs.Carry.{withText}
 use Rattle.rows.specs.Find.{meets, First}
 use Rattle.uses.specs.Kept.{Kept, kept-same, kept-apart, fewer-pieces, fewer-bytes}
-use Rattle.frame.specs.Frame.{Did, may-write-0, may-write-6}
-use Rattle.in_place.specs.InPlace.{ran-in-place, ran-rows, above-kept}
+use Rattle.frame.specs.Frame.{Did, may-write-0, ran-same}
+use Rattle.in_place.specs.InPlace.{ran-in-place, above-kept}
 use Rattle.split.specs.Cuts.{CutsDone, CutsLeave, formed-spans, stop}
 use Rattle.memory_used.specs.declared.Used.{Used}
 use Rattle.memory_used.specs.Above.{Above, Desk}
@@ -29,7 +29,7 @@ use Rattle.on_top.specs.Live.{Room, read-below}
 use Rattle.on_top.proofs.Finishing.{bytes-below}
 use Rattle.insert_row.specs.Piece.{with-length}
 use Rattle.insert_row.specs.Insertion.{add-to, whole-add, insert-step, insert-at, key-of, inserted-found, inserted-whole, whole-added}
-use Rattle.insert_row.specs.Calls.{InsertRan, WholeRan, with-sum, six}
+use Rattle.insert_row.specs.Calls.{InsertRan, WholeRan, with-sum}
 use Rattle.insert_on_top.specs.OnTop.{AddedOnTop, OnTop, cut, found-on-top, whole-on-top, TopReady}
 
 -- ── the limits ──
@@ -223,12 +223,11 @@ module _ (left front : Bool) (q : ℕ) (text : List ℕ) {source t P S t1 : List
   pub top-refused : length t1 ≡ length t → (r ≡ 0 → ⊥) → InsertRan left front q text source t P S t1 P S r × Above t1 P S l
   top-refused len n = (
     λ e h q' i.
-        ran-rows (w .well-formed) h
-        (record {
-          readable = leave .readable;
-          result = q' (magicStringOf source t P S) ∙ leave .result (insert-step left front q text) ∙ stop r (magicStringOf source t1 P S) (insert-step left front q text) n;
-        })
-        (subst (λ (x : ℕ). may-write e x ≡ true) (sym (six (c .number) n)) (may-write-6 e)) len (c .kept),
+        let z : t1 ≡ t = c .alone refl n in
+        let step = insert-step left front q text in
+        subst (λ (u : List ℕ). Ran e source t P S u P S r) (sym z)
+        (ran-same e source t P S r (w .well-formed) h
+        (q' (magicStringOf source t P S) ∙ leave .result step ∙ stop r (magicStringOf source t1 P S) step n ∙ ap (λ (u : List ℕ). err r (magicStringOf source u P S)) z)),
     above-kept (c .kept) cut-low (w .above),
   )
 

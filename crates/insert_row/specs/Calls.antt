@@ -11,9 +11,9 @@ use lib.ListN.{length, length-append}
 use borrow.Author.Tests.{lt-leb}
 use Rattle.utf8.specs.Chars.{All, nil, cons}
 use Rattle.table.specs.Order.{Entry, entryAt, entries, order, countOf, Linked, inside-at}
-use Rattle.model.specs.Text.{Text, sum}
+use Rattle.model.specs.Text.{Text, sum, is-some}
 use Rattle.model.specs.Chunk.{Chunk, Texts, with-texts, start-of, end-of}
-use Rattle.model.specs.MagicString.{MagicString, Result, ok, err, and-then, with-chunks, with-intro, with-outro, by-start, by-end, at-start, at-end, found, holder, refuses-split, split-holder, split-at}
+use Rattle.model.specs.MagicString.{MagicString, Result, ok, err, and-then, with-chunks, with-intro, with-outro, by-start, by-end, at-start, at-end, holder, refuses-split, split-holder, split-at}
 use Rattle.model.specs.Limits.{full, within, chunk-bytes, byte-count, piece-count}
 use Rattle.model.specs.Call.{Edit, steps, refused-before}
 use Rattle.model.specs.Lists.{sum-append}
@@ -98,7 +98,7 @@ six (inr h) n = h
 -- a cut that is refused leaves the desk as it was
 cut-refused : (q : ℕ) (m n : MagicString) → ((step : MagicString → Result) → and-then (split-at q m) step ≡ and-then (err 6 n) step) → split-at q m ≡ err 6 m
 unfolding split-at
-cut-refused q m n = go (eqb q 0 || (leb (length (m .source)) q || found (by-end q (m .chunks)))) (refuses-split (holder q (m .chunks))) (with-chunks m (split-holder q (m .chunks)))
+cut-refused q m n = go (eqb q 0 || (leb (length (m .source)) q || is-some (by-end q (m .chunks)))) (refuses-split (holder q (m .chunks))) (with-chunks m (split-holder q (m .chunks)))
   where
     go : (a b : Bool) (k : MagicString) → ((step : MagicString → Result) → and-then (cond a (ok m) (cond b (err 6 m) (ok k))) step ≡ and-then (err 6 n) step)
         → cond a (ok m) (cond b (err 6 m) (ok k)) ≡ err 6 m

@@ -56,6 +56,9 @@ pub record CutsDone (ps : List ℕ) (t t' : List ℕ) (r : ℕ) : Type 0 where
   pub linked : Linked t'
   pub count : countOf t' ≤ countOf t + length ps
   pub kept : Kept t t'
+  -- where there is nothing to cut nothing is refused, and a single cut that is refused writes nothing
+  pub none : length ps ≡ 0 → r ≡ 0
+  pub alone : length ps ≡ 1 → (r ≡ 0 → ⊥) → t' ≡ t
 
 -- ── the model's cut, where the chunk that contains the position is known ──
 Out : ℕ → Chunk → Type 0
@@ -126,6 +129,8 @@ none-found q t l n =
       linked = l;
       count = omega arith;
       kept = kept-same t;
+      none = λ _. refl;
+      alone = λ _ _. refl;
     }
 
 module _ (q : ℕ) (t : List ℕ) (i : ℕ) (w : First (meets Inside q) t i) where
@@ -211,7 +216,7 @@ module _ (q : ℕ) (t : List ℕ) (i : ℕ) (w : First (meets Inside q) t i) whe
         }
 
   pub found-filled : Linked t → filled (entryAt t i) ≡ true → CutsDone (q ∷ []) t t 6
-  found-filled l f = record { leave = λ source p s h v. refused-leave source p s h v f; readable = λ p s h. h; small = λ p s h. h; number = inr refl; linked = l; count = omega arith; kept = kept-same t }
+  found-filled l f = record { leave = λ source p s h v. refused-leave source p s h v f; readable = λ p s h. h; small = λ p s h. h; number = inr refl; linked = l; count = omega arith; kept = kept-same t; none = λ (z : length (q ∷ []) ≡ 0). absurd (omega arith); alone = λ _ _. refl }
 
   pub found-split : Linked t → (t' : List ℕ) → SplitRow t t' i q → filled (entryAt t i) ≡ false → CutsDone (q ∷ []) t t' 0
   found-split l t' d f =
@@ -223,6 +228,8 @@ module _ (q : ℕ) (t : List ℕ) (i : ℕ) (w : First (meets Inside q) t i) whe
         linked = d .linked;
         count = omega (arith, d .count);
         kept = split-kept t t' i q l (record { us = w .us; bs = w .bs; place = w .place }) d (not-filled (entryAt t i) f);
+        none = λ _. refl;
+        alone = λ _ n. absurd (n refl);
       }
 
 -- ── cuts one after another ──
@@ -247,6 +254,8 @@ cuts-stop q ps t t' r d n =
       linked = d .linked;
       count = omega (arith, d .count);
       kept = d .kept;
+      none = λ (z : length (q ∷ ps) ≡ 0). absurd (omega arith);
+      alone = λ _ _. d .alone refl n;
     }
 
 pub cuts-spans : {ps : List ℕ} {source t p s t' : List ℕ} {r : ℕ} → CutsLeave ps source t p s t' r → r ≡ 0 → Spans source t p s → Spans source t' p s
@@ -269,6 +278,8 @@ cuts-more q ps t t' t'' r r' d z e =
       linked = e .linked;
       count = omega (arith, d .count, e .count);
       kept = kept-then (d .kept) (e .kept);
+      none = λ (z : length (q ∷ ps) ≡ 0). absurd (omega arith);
+      alone = λ (l : length (q ∷ ps) ≡ 1) n. absurd (n (e .none (omega arith)));
     }
 
 pub cut-roomy : {n : ℕ} {q : ℕ} {t t' : List ℕ} {r : ℕ} → Roomy (suc n) t → CutsDone (q ∷ []) t t' r → length t' ≡ length t → Roomy n t'
