@@ -1,7 +1,8 @@
 // append.rs: a piece at the back of a piece list.
 ghost use Rattle.model.specs.Call.{append-left, append-right, append};
-ghost use Rattle.memory.specs.WellFormed.{WellFormed};
-ghost use Rattle.memory.specs.Calls.{Ran};
+ghost use Rattle.memory_used.specs.Above.{Desk, Leaves};
+use memory_used::Outcome;
+use memory_used::Used;
 
 // `append_left`: 1, 3, then the cut and the piece.
 pub fn append_left(
@@ -11,12 +12,13 @@ pub fn append_left(
     store: &mut [u8],
     at: u32,
     text: &[u8],
-) -> u32
-    requires { ⌜ WellFormed (now source) (now chunks) (now pieces) (now store) ⌝ }
-    ensures { λ r. ⌜ Ran (append-left at (now (text .entry))) (now (source .entry)) (now (chunks .entry)) (now (pieces .entry)) (now (store .entry))
-        (now (chunks .exit)) (now (pieces .exit)) (now (store .exit)) r ⌝ }
+    used: Used,
+) -> Outcome
+    requires { ⌜ Desk (now source) (now chunks) (now pieces) (now store) used ⌝ }
+    ensures { λ o. ⌜ Leaves (append-left at (now (text .entry))) (now (source .entry)) (now (chunks .entry)) (now (pieces .entry)) (now (store .entry))
+        (now (chunks .exit)) (now (pieces .exit)) (now (store .exit)) o ⌝ }
 {
-    insert_call::insert_at(source, chunks, pieces, store, at, text, true, false)
+    insert_call::insert_at(source, chunks, pieces, store, at, text, true, false, used)
 }
 
 // `append_right`: 1, 3, then the cut and the piece.
@@ -27,12 +29,13 @@ pub fn append_right(
     store: &mut [u8],
     at: u32,
     text: &[u8],
-) -> u32
-    requires { ⌜ WellFormed (now source) (now chunks) (now pieces) (now store) ⌝ }
-    ensures { λ r. ⌜ Ran (append-right at (now (text .entry))) (now (source .entry)) (now (chunks .entry)) (now (pieces .entry)) (now (store .entry))
-        (now (chunks .exit)) (now (pieces .exit)) (now (store .exit)) r ⌝ }
+    used: Used,
+) -> Outcome
+    requires { ⌜ Desk (now source) (now chunks) (now pieces) (now store) used ⌝ }
+    ensures { λ o. ⌜ Leaves (append-right at (now (text .entry))) (now (source .entry)) (now (chunks .entry)) (now (pieces .entry)) (now (store .entry))
+        (now (chunks .exit)) (now (pieces .exit)) (now (store .exit)) o ⌝ }
 {
-    insert_call::insert_at(source, chunks, pieces, store, at, text, false, false)
+    insert_call::insert_at(source, chunks, pieces, store, at, text, false, false, used)
 }
 
 // `append`: 1, then the piece for the tail.
@@ -42,10 +45,11 @@ pub fn append(
     pieces: &mut [u32],
     store: &mut [u8],
     text: &[u8],
-) -> u32
-    requires { ⌜ WellFormed (now source) (now chunks) (now pieces) (now store) ⌝ }
-    ensures { λ r. ⌜ Ran (append (now (text .entry))) (now (source .entry)) (now (chunks .entry)) (now (pieces .entry)) (now (store .entry))
-        (now (chunks .exit)) (now (pieces .exit)) (now (store .exit)) r ⌝ }
+    used: Used,
+) -> Outcome
+    requires { ⌜ Desk (now source) (now chunks) (now pieces) (now store) used ⌝ }
+    ensures { λ o. ⌜ Leaves (append (now (text .entry))) (now (source .entry)) (now (chunks .entry)) (now (pieces .entry)) (now (store .entry))
+        (now (chunks .exit)) (now (pieces .exit)) (now (store .exit)) o ⌝ }
 {
-    insert_call::add_whole(source, chunks, pieces, store, text, true)
+    insert_call::add_whole(source, chunks, pieces, store, text, true, used)
 }

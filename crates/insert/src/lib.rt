@@ -1,7 +1,9 @@
 // What append.rs and prepend.rs share: a piece more at the front or the back of a chunk's intro or outro, or of the head or the tail.
 ghost use Prim.Native.Nat.{_+_};
-ghost use Rattle.memory.specs.WellFormed.{WellFormed};
+ghost use Rattle.memory_used.specs.Above.{Above, Desk};
 ghost use Rattle.insert_row.specs.Calls.{InsertRan, WholeRan};
+use memory_used::Outcome;
+use memory_used::Used;
 
 // An insertion past its tests: `append_left`, `append_right`, `prepend_left`, `prepend_right`. On the lent tables themselves where 13 cannot arise and there is room
 // above all that the desk uses; else on scratch tables.
@@ -14,22 +16,25 @@ pub fn insert_with(
     q: u32,
     left: bool,
     front: bool,
-) -> u32
-    requires { ⌜ WellFormed (now source) (now chunks) (now pieces) (now store) ⌝ }
-    ensures { λ r. ⌜ InsertRan left front q (now (text .entry)) (now (source .entry)) (now (chunks .entry)) (now (pieces .entry)) (now (store .entry))
-        (now (chunks .exit)) (now (pieces .exit)) (now (store .exit)) r ⌝ }
+    used: Used,
+) -> Outcome
+    requires { ⌜ Desk (now source) (now chunks) (now pieces) (now store) used ⌝ }
+    ensures { λ o. ⌜ InsertRan left front q (now (text .entry)) (now (source .entry)) (now (chunks .entry)) (now (pieces .entry)) (now (store .entry))
+        (now (chunks .exit)) (now (pieces .exit)) (now (store .exit)) (o .number)
+        × Above (now (chunks .exit)) (now (pieces .exit)) (now (store .exit)) (o .used) ⌝ }
 {
-    let l = on_top::live(chunks, pieces, store);
     let z = table::get_row(chunks, 0);
     if on_top::has_room(
-        l,
+        used,
         z.start + 1,
         text.len(),
         chunks.len(),
         pieces.len(),
         store.len(),
     ) {
-        return insert_on_top::insert_on_top(source, chunks, pieces, store, text, q, left, front, l);
+        return insert_on_top::insert_on_top(
+            source, chunks, pieces, store, text, q, left, front, used,
+        );
     }
     insert_scratch::insert_scratch(source, chunks, pieces, store, text, q, left, front)
 }
@@ -43,15 +48,15 @@ pub fn whole_with(
     text: &[u8],
     outro: bool,
     front: bool,
-) -> u32
-    requires { ⌜ WellFormed (now source) (now chunks) (now pieces) (now store) ⌝ }
-    ensures { λ r. ⌜ WholeRan outro front (now (text .entry)) (now (source .entry)) (now (chunks .entry)) (now (pieces .entry)) (now (store .entry))
-        (now (chunks .exit)) (now (pieces .exit)) (now (store .exit)) r ⌝ }
+    used: Used,
+) -> Outcome
+    requires { ⌜ Desk (now source) (now chunks) (now pieces) (now store) used ⌝ }
+    ensures { λ o. ⌜ WholeRan outro front (now (text .entry)) (now (source .entry)) (now (chunks .entry)) (now (pieces .entry)) (now (store .entry))
+        (now (chunks .exit)) (now (pieces .exit)) (now (store .exit)) (o .number)
+        × Above (now (chunks .exit)) (now (pieces .exit)) (now (store .exit)) (o .used) ⌝ }
 {
-    let l = on_top::live(chunks, pieces, store);
-    if on_top::has_room(l, 0, text.len(), chunks.len(), pieces.len(), store.len()) {
-        insert_on_top::add_on_top(chunks, pieces, store, text, 0, outro, front, l.row, l.byte);
-        return 0;
+    if on_top::has_room(used, 0, text.len(), chunks.len(), pieces.len(), store.len()) {
+        return insert_on_top::whole_on_top(source, chunks, pieces, store, text, outro, front, used);
     }
     insert_scratch::whole_scratch(source, chunks, pieces, store, text, outro, front)
 }

@@ -1,8 +1,9 @@
 // What append.rs and prepend.rs share as calls: the tests of the text and the position, then the insertion.
 ghost use mathlib.Core.Bool.{Bool};
-ghost use Rattle.memory.specs.WellFormed.{WellFormed};
-ghost use Rattle.memory.specs.Calls.{Ran};
+ghost use Rattle.memory_used.specs.Above.{Desk, Leaves};
 ghost use Rattle.insert_call.specs.Insertions.{insertion, addition};
+use memory_used::Outcome;
+use memory_used::Used;
 
 // `append_left`, `append_right`, `prepend_left`, `prepend_right`: 1, 3, then the cut and the piece, left or right of the position, at the front or the back of the list.
 pub fn insert_at(
@@ -14,18 +15,19 @@ pub fn insert_at(
     text: &[u8],
     left: bool,
     front: bool,
-) -> u32
-    requires { ⌜ WellFormed (now source) (now chunks) (now pieces) (now store) ⌝ }
-    ensures { λ r. ⌜ Ran (insertion left front at (now (text .entry))) (now (source .entry)) (now (chunks .entry)) (now (pieces .entry)) (now (store .entry))
-        (now (chunks .exit)) (now (pieces .exit)) (now (store .exit)) r ⌝ }
+    used: Used,
+) -> Outcome
+    requires { ⌜ Desk (now source) (now chunks) (now pieces) (now store) used ⌝ }
+    ensures { λ o. ⌜ Leaves (insertion left front at (now (text .entry))) (now (source .entry)) (now (chunks .entry)) (now (pieces .entry)) (now (store .entry))
+        (now (chunks .exit)) (now (pieces .exit)) (now (store .exit)) o ⌝ }
 {
     if utf8::valid(text) {
         if utf8::boundary(source, at as usize) {
-            return insert::insert_with(source, chunks, pieces, store, text, at, left, front);
+            return insert::insert_with(source, chunks, pieces, store, text, at, left, front, used);
         }
-        return 3;
+        return Outcome { number: 3, used };
     }
-    1
+    Outcome { number: 1, used }
 }
 
 // `append` and `prepend`: 1, then the piece at the back of the tail or at the front of the head.
@@ -36,13 +38,14 @@ pub fn add_whole(
     store: &mut [u8],
     text: &[u8],
     tail: bool,
-) -> u32
-    requires { ⌜ WellFormed (now source) (now chunks) (now pieces) (now store) ⌝ }
-    ensures { λ r. ⌜ Ran (addition tail (now (text .entry))) (now (source .entry)) (now (chunks .entry)) (now (pieces .entry)) (now (store .entry))
-        (now (chunks .exit)) (now (pieces .exit)) (now (store .exit)) r ⌝ }
+    used: Used,
+) -> Outcome
+    requires { ⌜ Desk (now source) (now chunks) (now pieces) (now store) used ⌝ }
+    ensures { λ o. ⌜ Leaves (addition tail (now (text .entry))) (now (source .entry)) (now (chunks .entry)) (now (pieces .entry)) (now (store .entry))
+        (now (chunks .exit)) (now (pieces .exit)) (now (store .exit)) o ⌝ }
 {
     if utf8::valid(text) {
-        return insert::whole_with(source, chunks, pieces, store, text, tail, !tail);
+        return insert::whole_with(source, chunks, pieces, store, text, tail, !tail, used);
     }
-    1
+    Outcome { number: 1, used }
 }

@@ -1,7 +1,8 @@
 // prepend.rs: a piece at the front of a piece list.
 ghost use Rattle.model.specs.Call.{prepend-left, prepend-right, prepend};
-ghost use Rattle.memory.specs.WellFormed.{WellFormed};
-ghost use Rattle.memory.specs.Calls.{Ran};
+ghost use Rattle.memory_used.specs.Above.{Desk, Leaves};
+use memory_used::Outcome;
+use memory_used::Used;
 
 // `prepend_left`: 1, 3, then the cut and the piece.
 pub fn prepend_left(
@@ -11,12 +12,13 @@ pub fn prepend_left(
     store: &mut [u8],
     at: u32,
     text: &[u8],
-) -> u32
-    requires { ⌜ WellFormed (now source) (now chunks) (now pieces) (now store) ⌝ }
-    ensures { λ r. ⌜ Ran (prepend-left at (now (text .entry))) (now (source .entry)) (now (chunks .entry)) (now (pieces .entry)) (now (store .entry))
-        (now (chunks .exit)) (now (pieces .exit)) (now (store .exit)) r ⌝ }
+    used: Used,
+) -> Outcome
+    requires { ⌜ Desk (now source) (now chunks) (now pieces) (now store) used ⌝ }
+    ensures { λ o. ⌜ Leaves (prepend-left at (now (text .entry))) (now (source .entry)) (now (chunks .entry)) (now (pieces .entry)) (now (store .entry))
+        (now (chunks .exit)) (now (pieces .exit)) (now (store .exit)) o ⌝ }
 {
-    insert_call::insert_at(source, chunks, pieces, store, at, text, true, true)
+    insert_call::insert_at(source, chunks, pieces, store, at, text, true, true, used)
 }
 
 // `prepend_right`: 1, 3, then the cut and the piece.
@@ -27,12 +29,13 @@ pub fn prepend_right(
     store: &mut [u8],
     at: u32,
     text: &[u8],
-) -> u32
-    requires { ⌜ WellFormed (now source) (now chunks) (now pieces) (now store) ⌝ }
-    ensures { λ r. ⌜ Ran (prepend-right at (now (text .entry))) (now (source .entry)) (now (chunks .entry)) (now (pieces .entry)) (now (store .entry))
-        (now (chunks .exit)) (now (pieces .exit)) (now (store .exit)) r ⌝ }
+    used: Used,
+) -> Outcome
+    requires { ⌜ Desk (now source) (now chunks) (now pieces) (now store) used ⌝ }
+    ensures { λ o. ⌜ Leaves (prepend-right at (now (text .entry))) (now (source .entry)) (now (chunks .entry)) (now (pieces .entry)) (now (store .entry))
+        (now (chunks .exit)) (now (pieces .exit)) (now (store .exit)) o ⌝ }
 {
-    insert_call::insert_at(source, chunks, pieces, store, at, text, false, true)
+    insert_call::insert_at(source, chunks, pieces, store, at, text, false, true, used)
 }
 
 // `prepend`: 1, then the piece for the head.
@@ -42,10 +45,11 @@ pub fn prepend(
     pieces: &mut [u32],
     store: &mut [u8],
     text: &[u8],
-) -> u32
-    requires { ⌜ WellFormed (now source) (now chunks) (now pieces) (now store) ⌝ }
-    ensures { λ r. ⌜ Ran (prepend (now (text .entry))) (now (source .entry)) (now (chunks .entry)) (now (pieces .entry)) (now (store .entry))
-        (now (chunks .exit)) (now (pieces .exit)) (now (store .exit)) r ⌝ }
+    used: Used,
+) -> Outcome
+    requires { ⌜ Desk (now source) (now chunks) (now pieces) (now store) used ⌝ }
+    ensures { λ o. ⌜ Leaves (prepend (now (text .entry))) (now (source .entry)) (now (chunks .entry)) (now (pieces .entry)) (now (store .entry))
+        (now (chunks .exit)) (now (pieces .exit)) (now (store .exit)) o ⌝ }
 {
-    insert_call::add_whole(source, chunks, pieces, store, text, false)
+    insert_call::add_whole(source, chunks, pieces, store, text, false, used)
 }

@@ -1,10 +1,10 @@
-use mathlib.Core.Path.{_≡_, refl, sym, ap, _∙_, subst}
-use Prim.Native.Nat.{ℕ, _+_, _*_, _≤_}
+-- `insert::insert_with` meets its contract, by either way. Where `has_room` says so, there is room for what `insert_on_top` puts there.
+use mathlib.Core.Path.{ap, subst}
+use Prim.Native.Nat.{_+_}
 use native.Mathlib.Omega.{arith}
-use lib.ListN.{length, take}
+use lib.ListN.{length}
 use Rattle.table.specs.declared.Row.{Row}
-use Rattle.on_top.specs.Live.{Room, live-small}
-use Rattle.insert_on_top.specs.TopCalls.{bare-within}
+use Rattle.on_top.specs.Live.{Room, above-small}
 use borrow.Author.Needs.{needs}
 use Rattle.insert.proofs.insert_with.Statement.{statement}
 use Rattle.insert.proofs.insert_with.Tie as tie
@@ -13,39 +13,25 @@ use Rattle.insert.proofs.insert_with.Lts as lts
 use Rattle.insert_on_top.proofs.insert_on_top.Reads as insert-on-top-reads
 use Rattle.insert_scratch.proofs.insert_scratch.Reads as insert-scratch-reads
 use Rattle.on_top.proofs.has_room.Reads as has-room-reads
-use Rattle.on_top.proofs.live.Reads as live-reads
 use Rattle.table.proofs.get_row.Reads as get-row-reads
-
-live-requires : tie.Need-live-requires
-live-requires c κs =
-    let start = c .before .before .before .before .before .before .before .before in
-    (start .pre .readable, (bare-within (start .pre), start .pre .sized))
 
 get-row-requires : tie.Need-get-row-requires
 get-row-requires c κs = search needs
 
 add-has-room : tie.Need-add-has-room
 add-has-room c =
-    let start = c .before .before .before .before .before .before .before .before .before .before .before .before in
-    let get-row = c .before .get-row in
-    let a = start .args in
-    omega (arith, ap (λ (r : Row). r .start) (get-row .ensures), start .pre .readable .linked .room, start .pre .sized .chunks)
+    let h = c .before .before .before .before .before .before .before .before .pre .well-formed in
+    omega (arith, ap (λ (r : Row). r .start) (c .before .get-row .ensures), h .readable .linked .room, h .sized .chunks)
 
 has-room-requires : tie.Need-has-room-requires
-has-room-requires c κs =
-    let start = c .before .before .before .before .before .before .before .before .before .before .before .before in
-    let live = c .before .before .before .live in
-    (live-small (live .ensures), start .pre .sized .some)
+has-room-requires c κs = (above-small (c .before .before .before .before .before .before .before .before .pre .above), c .before .before .before .before .before .before .before .before .pre .well-formed .sized .some)
 
 insert-on-top-requires : tie.Need-insert-on-top-requires
 insert-on-top-requires c κs =
-    let start = c .before .before .before .before .before .before .before .before .before .before .before .before .before .before .before .before .before in
-    let live = c .before .before .before .before .before .before .before .before .live in
-    let get-row = c .before .before .before .before .before .before .get-row in
-    let has-room = c .before .before .before .before .has-room in
-    let if1 = c .before .before .before .if1 in
+    let start = c .before .before .before .before .before .before .before .before .before .before .before .before .before in
     let a = start .args in
-    (start .pre, (live .ensures, subst (λ (r : Row). Room (length (a .chunks .now)) (length (a .pieces .now)) (length (a .store .now)) (live .result) (r .start + 1) (length (a .text .now))) (get-row .ensures) (has-room .ensures .0 (if1 .taken))))
+    let room = c .before .before .before .before .has-room .ensures .0 (c .before .before .before .if1 .taken) in
+    (start .pre, subst (λ (r : Row). Room (length (a .chunks .now)) (length (a .pieces .now)) (length (a .store .now)) (a .used) (r .start + 1) (length (a .text .now))) (c .before .before .before .before .before .before .get-row .ensures) room)
 
 same-length : tie.Need-same-length
 same-length c = search needs
@@ -57,10 +43,10 @@ same-length-3 : tie.Need-same-length-3
 same-length-3 c = search needs
 
 returns : tie.Need-returns
-returns c = search needs
+returns c = c .before .before .before .before .before .before .insert-on-top .ensures
 
 insert-scratch-requires : tie.Need-insert-scratch-requires
-insert-scratch-requires c κs = c .before .before .before .before .before .before .before .before .before .before .before .before .before .before .before .before .before .pre
+insert-scratch-requires c κs = c .before .before .before .before .before .before .before .before .before .before .before .before .before .pre .well-formed
 
 same-length-4 : tie.Need-same-length-4
 same-length-4 c = search needs
@@ -72,13 +58,12 @@ same-length-6 : tie.Need-same-length-6
 same-length-6 c = search needs
 
 returns-2 : tie.Need-returns-2
-returns-2 c = search needs
+returns-2 c = c .before .before .before .before .before .before .insert-scratch .ensures
 
 pub insert-with-spec : {M : Type 1} → statement M
 insert-with-spec =
     tie.close
     (tie.spec
-    live-requires
     get-row-requires
     add-has-room
     has-room-requires

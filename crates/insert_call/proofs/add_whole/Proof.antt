@@ -1,3 +1,4 @@
+-- `insert_call::add_whole` meets its contract: a refusal by the test leaves all as it was, else it is what `whole_with` gives.
 use mathlib.Core.Path.{sym, _∙_}
 use Rattle.insert_call.proofs.Tests.{addition-invalid, addition-ran}
 use borrow.Author.Needs.{needs}
@@ -6,14 +7,13 @@ use Rattle.insert_call.proofs.add_whole.Tie as tie
 use Rattle.insert_call.proofs.add_whole.Reads as reads
 use Rattle.insert_call.proofs.add_whole.Lts as lts
 use Rattle.insert.proofs.whole_with.Reads as whole-with-reads
+use Rattle.utf8.proofs.valid.Reads as valid-reads
 
 valid-requires : tie.Need-valid-requires
 valid-requires c κs = search needs
 
 whole-with-requires : tie.Need-whole-with-requires
-whole-with-requires c κs =
-    let start = c .before .before .before .before .before .before .before .before .before .before in
-    start .pre
+whole-with-requires c κs = c .before .before .before .before .before .before .before .before .before .before .pre
 
 same-length : tie.Need-same-length
 same-length c = search needs
@@ -27,17 +27,13 @@ same-length-3 c = search needs
 returns : tie.Need-returns
 returns c =
     let start = c .before .before .before .before .before .before .before .before .before .before .before .before .before .before .before .before .before in
-    let valid = c .before .before .before .before .before .before .before .before .before .before .before .valid in
-    let if1 = c .before .before .before .before .before .before .before .before .before .before .if1 in
-    let whole-with = c .before .before .before .before .before .before .whole-with in
-    addition-ran _ (start .pre) (start .args .tail) (sym (valid .ensures) ∙ if1 .taken) (whole-with .ensures)
+    let made = c .before .before .before .before .before .before .whole-with .ensures in
+    record { ran = addition-ran _ (start .pre .well-formed) (start .args .tail) (sym (c .before .before .before .before .before .before .before .before .before .before .before .valid .ensures) ∙ c .before .before .before .before .before .before .before .before .before .before .if1 .taken) (made .0); above = made .1 }
 
 returns-2 : tie.Need-returns-2
 returns-2 c =
     let start = c .before .before .before .before .before .before .before in
-    let valid = c .before .valid in
-    let if1 = c .if1 in
-    addition-invalid _ (start .pre) (start .args .tail) (sym (valid .ensures) ∙ if1 .left)
+    record { ran = addition-invalid _ (start .pre .well-formed) (start .args .tail) (sym (c .before .valid .ensures) ∙ c .if1 .left); above = start .pre .above }
 
 pub add-whole-spec : {M : Type 1} → statement M
 add-whole-spec =

@@ -1,3 +1,4 @@
+-- `insert_call::insert_at` meets its contract: a refusal by the tests leaves all as it was, else it is what `insert_with` gives.
 use mathlib.Core.Path.{sym, _∙_}
 use Rattle.memory.specs.Laws.{valid-source}
 use Rattle.insert_call.proofs.Tests.{insertion-invalid, insertion-outside, insertion-ran}
@@ -7,19 +8,17 @@ use Rattle.insert_call.proofs.insert_at.Tie as tie
 use Rattle.insert_call.proofs.insert_at.Reads as reads
 use Rattle.insert_call.proofs.insert_at.Lts as lts
 use Rattle.insert.proofs.insert_with.Reads as insert-with-reads
+use Rattle.utf8.proofs.boundary.Reads as boundary-reads
+use Rattle.utf8.proofs.valid.Reads as valid-reads
 
 valid-requires : tie.Need-valid-requires
 valid-requires c κs = search needs
 
 boundary-requires : tie.Need-boundary-requires
-boundary-requires c κs =
-    let start = c .before .before .before .before .before .before .before in
-    valid-source (start .pre)
+boundary-requires c κs = valid-source (c .before .before .before .before .before .before .before .pre .well-formed)
 
 insert-with-requires : tie.Need-insert-with-requires
-insert-with-requires c κs =
-    let start = c .before .before .before .before .before .before .before .before .before .before .before .before in
-    start .pre
+insert-with-requires c κs = c .before .before .before .before .before .before .before .before .before .before .before .before .pre
 
 same-length : tie.Need-same-length
 same-length c = search needs
@@ -33,28 +32,25 @@ same-length-3 c = search needs
 returns : tie.Need-returns
 returns c =
     let start = c .before .before .before .before .before .before .before .before .before .before .before .before .before .before .before .before .before .before .before in
-    let valid = c .before .before .before .before .before .before .before .before .before .before .before .before .before .valid in
-    let if1 = c .before .before .before .before .before .before .before .before .before .before .before .before .if1 in
-    let boundary = c .before .before .before .before .before .before .before .before .before .before .before .boundary in
-    let if2 = c .before .before .before .before .before .before .before .before .before .before .if2 in
-    let insert-with = c .before .before .before .before .before .before .insert-with in
-    insertion-ran _ (start .pre) (start .args .left) (start .args .front) (start .args .at) (sym (valid .ensures) ∙ if1 .taken) (sym (boundary .ensures) ∙ if2 .taken) (insert-with .ensures)
+    let a = start .args in
+    let text-is = sym (c .before .before .before .before .before .before .before .before .before .before .before .before .before .valid .ensures) ∙ c .before .before .before .before .before .before .before .before .before .before .before .before .if1 .taken in
+    let place-is = sym (c .before .before .before .before .before .before .before .before .before .before .before .boundary .ensures) ∙ c .before .before .before .before .before .before .before .before .before .before .if2 .taken in
+    let made = c .before .before .before .before .before .before .insert-with .ensures in
+    record { ran = insertion-ran _ (start .pre .well-formed) (a .left) (a .front) (a .at) text-is place-is (made .0); above = made .1 }
 
 returns-2 : tie.Need-returns-2
 returns-2 c =
     let start = c .before .before .before .before .before .before .before .before .before in
-    let valid = c .before .before .before .valid in
-    let if1 = c .before .before .if1 in
-    let boundary = c .before .boundary in
-    let if2 = c .if2 in
-    insertion-outside _ (start .pre) (start .args .left) (start .args .front) (start .args .at) (sym (valid .ensures) ∙ if1 .taken) (sym (boundary .ensures) ∙ if2 .left)
+    let a = start .args in
+    let text-is = sym (c .before .before .before .valid .ensures) ∙ c .before .before .if1 .taken in
+    let place-is = sym (c .before .boundary .ensures) ∙ c .if2 .left in
+    record { ran = insertion-outside _ (start .pre .well-formed) (a .left) (a .front) (a .at) text-is place-is; above = start .pre .above }
 
 returns-3 : tie.Need-returns-3
 returns-3 c =
     let start = c .before .before .before .before .before .before .before in
-    let valid = c .before .valid in
-    let if1 = c .if1 in
-    insertion-invalid _ (start .pre) (start .args .left) (start .args .front) (start .args .at) (sym (valid .ensures) ∙ if1 .left)
+    let a = start .args in
+    record { ran = insertion-invalid _ (start .pre .well-formed) (a .left) (a .front) (a .at) (sym (c .before .valid .ensures) ∙ c .if1 .left); above = start .pre .above }
 
 pub insert-at-spec : {M : Type 1} → statement M
 insert-at-spec =
