@@ -129,7 +129,15 @@ fn by_guess(
 {
     let size = 16384usize;
     let mut out = [0u8; 16384];
-    guessed_in(source, chunks, pieces, store, exclude, &mut out[..size], used)
+    guessed_in(
+        source,
+        chunks,
+        pieces,
+        store,
+        exclude,
+        &mut out[..size],
+        used,
+    )
 }
 
 // With an indentor: 1, 3; an empty one leaves everything.

@@ -27,8 +27,7 @@ indent-by-requires : tie.Need-indent-by-requires
 indent-by-requires c κs =
     let start = c .before .before .before .before .before .before .before .before .before .before .before .before in
     let pieces = zeros-length 7170 7170 (omega arith) in
-    let store = zeros-length 98304 98304 (omega arith) in
-    (
+    let store = zeros-length 98304 98304 (omega arith) in (
       start .pre,
       record {
         scratch = record { chunks = zeros-length 6192 6192 (omega arith); clear = zeros-at 6192 6192; pieces = rw pieces (omega arith); store = rw store (omega arith) };
