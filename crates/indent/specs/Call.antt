@@ -41,7 +41,7 @@ indentor-of has t = cond has (some t) none
 -- scratch tables with room for the indentor, for the head, the tail and the intros written anew, and for the bytes of a full store twice
 pub record IndentScratch (t p s : List ℕ) : Type 0 where
   pub scratch : Scratch t p s
-  pub pieces : length p ≡ 9300
+  pub pieces : length p ≡ 7170
   pub store : length s ≡ 98304
 
 module _ {source t p s t₀ p₀ s₀ t1 p1 s1 : List ℕ} (w : WellFormed source t p s) (f : IndentScratch t₀ p₀ s₀) (d : Loaded t p s t₀ p₀ s₀ t1 p1 s1) where

@@ -70,10 +70,10 @@ fn indent_tables(
         × Above (now (chunks .exit)) (now (pieces .exit)) (now (store .exit)) (o .used) ⌝ }
 {
     let rows = 6192usize;
-    let words = 9300usize;
+    let words = 7170usize;
     let size = 98304usize;
     let mut t = [0u32; 6192];
-    let mut p = [0u32; 9300];
+    let mut p = [0u32; 7170];
     let mut s = [0u8; 98304];
     indent_by(
         source,

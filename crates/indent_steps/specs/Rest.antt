@@ -28,14 +28,14 @@ use Rattle.indent_run.specs.Own.{Runs, side, OwnReady, OwnDone, OwnIndented}
 use Rattle.indent_rows.specs.Walk.{chunksOf, closedOf, WalkReady, ChunksIndented, WalkDone}
 use Rattle.preservation.specs.Indent.{pieces-length}
 
--- the head lies below row 3073 and a byte; the tail stands in the lent tables; there is room
-pub record RestReady (indentor source pieces store t p s : List ℕ) (byte : ℕ) : Type 0 where
-  pub walk : WalkReady indentor source store t p s 3073 byte
-  pub head : Below p byte 3073 (entryAt t 0 .intro)
+-- the head lies below a row and a byte; the tail stands in the lent tables; there is room
+pub record RestReady (indentor source pieces store t p s : List ℕ) (top byte : ℕ) : Type 0 where
+  pub walk : WalkReady indentor source store t p s top byte
+  pub head : Below p byte top (entryAt t 0 .intro)
   pub inside : RunIn pieces store (entryAt t 0 .outro)
   pub valid : All Valid (runOf pieces store (entryAt t 0 .outro))
-  pub few : sum chunk-pieces (chunksOf t p s) + entryAt t 0 .outro .1 ≤ 1024
-  pub long-pieces : length p ≡ 9300
+  pub few : (top + sum chunk-pieces (chunksOf t p s)) + entryAt t 0 .outro .1 ≤ 3073
+  pub long-pieces : length p ≡ 7170
   pub long-store : length s ≡ 98304
 
 -- the tail, with the mark that the chunks leave
@@ -62,14 +62,14 @@ pub record RestDone (indentor exclude source pieces store t p s : List ℕ) (mar
   pub past : r ≡ 13 → (512 < length (closedOf indentor exclude source t p s mark .chunks))
       ⊎ (length s < byte + (sum chunk-bytes (closedOf indentor exclude source t p s mark .chunks) + length (concat (tailOf indentor exclude source pieces store t p s mark .pieces))))
 
-module _ (indentor exclude source pieces store t p s : List ℕ) (mark : Bool) (byte : ℕ) (w : RestReady indentor source pieces store t p s byte) where
+module _ (indentor exclude source pieces store t p s : List ℕ) (mark : Bool) (top byte : ℕ) (w : RestReady indentor source pieces store t p s top byte) where
   abbrev closed : IndentedChunks
   closed = closedOf indentor exclude source t p s mark
 
   abbrev tail : Pieces
   tail = tailOf indentor exclude source pieces store t p s mark
 
-  module _ {t1 p1 s1 : List ℕ} {number : ℕ} {mark1 : Bool} {top1 byte1 : ℕ} (y : WalkDone indentor exclude source t p s mark 3073 byte t1 p1 s1 number mark1 top1 byte1) where
+  module _ {t1 p1 s1 : List ℕ} {number : ℕ} {mark1 : Bool} {top1 byte1 : ℕ} (y : WalkDone indentor exclude source t p s mark top byte t1 p1 s1 number mark1 top1 byte1) where
     -- the chunks pass a limit
     pub rest-chunks : (number ≡ 0 → ⊥) → (t' p' s' : List ℕ) → RestDone indentor exclude source pieces store t p s mark byte t' p' s' 13
     rest-chunks n t' p' s' =
@@ -83,7 +83,7 @@ module _ (indentor exclude source pieces store t p s : List ℕ) (mark : Bool) (
         }
 
     module _ (z : number ≡ 0) where
-      k : ChunksIndented indentor exclude source t p s mark 3073 byte t1 p1 s1 mark1 top1 byte1
+      k : ChunksIndented indentor exclude source t p s mark top byte t1 p1 s1 mark1 top1 byte1
       k = y .done z
 
       -- row 0's runs are as they were
@@ -148,7 +148,7 @@ module _ (indentor exclude source pieces store t p s : List ℕ) (mark : Bool) (
 
           -- the head stays
           head-1 : Below p1 byte1 top1 (entryAt t 0 .intro)
-          head-1 = run-still 3073 byte p p1 (k .rows) top1 byte1 (k .top-up) (k .byte-up) (entryAt t 0 .intro) (w .head)
+          head-1 = run-still top byte p p1 (k .rows) top1 byte1 (k .top-up) (k .byte-up) (entryAt t 0 .intro) (w .head)
 
           abbrev top2 : ℕ
           top2 = top1 + length ts
@@ -181,7 +181,7 @@ module _ (indentor exclude source pieces store t p s : List ℕ) (mark : Bool) (
                           desk-same source
                           (ap (runOf p2 s2) new-head
                           ∙ run-same top1 byte1 p1 s1 p2 s2 (o .put .rows) (o .put .bytes) (entryAt t 0 .intro) head-1
-                          ∙ run-same 3073 byte p s p1 s1 (k .rows) (k .bytes) (entryAt t 0 .intro) (w .head))
+                          ∙ run-same top byte p s p1 s1 (k .rows) (k .bytes) (entryAt t 0 .intro) (w .head))
                           (ap (runOf p2 s2) new-tail ∙ o .put .run ∙ ap (λ (x : Pieces). x .pieces) tail-is)
                           (ap (map (chunkOf p2 s2)) (o .desk .chunks) ∙ entries-same top1 byte1 p1 s1 p2 s2 (o .put .rows) (o .put .bytes) (k .low) ∙ k .chunks);
                     };

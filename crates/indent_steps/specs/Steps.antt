@@ -47,7 +47,7 @@ pub record StepsReady (source t p s p1 s1 : List ℕ) : Type 0 where
   pub after : List ℕ
   pub pieces-is : p1 ≡ p ++ behind
   pub store-is : s1 ≡ s ++ after
-  pub long-pieces : length p1 ≡ 9300
+  pub long-pieces : length p1 ≡ 7170
   pub long-store : length s1 ≡ 98304
 
 -- what the steps leave: the model's desk, or 13 where that passes the limits
@@ -122,6 +122,9 @@ module _ (indentor exclude source t p s p1 s1 : List ℕ) (w : StepsReady source
   unfolding magicStringOf
   outro-valid = w .desk .formed .outro
 
+  pub steps-head-end : (12 ≤ length t) × (entryAt t 0 .intro .1 ≤ 1024)
+  steps-head-end = (omega (arith, w .chunks), omega (arith, counted))
+
   pub steps-lay : LayRoom p1 s1
   steps-lay = record { rows = omega (arith, w .long-pieces); bytes = omega (arith, w .long-store); rows-narrow = omega (arith, w .long-pieces); narrow = omega (arith, w .long-store) }
 
@@ -195,21 +198,20 @@ module _ (indentor exclude source t p s p1 s1 : List ℕ) (w : StepsReady source
         tail-at : entryAt t3 0 .outro ≡ entryAt t 0 .outro
         tail-at = ap (λ (x : Runs). x .1) (o .desk .desk)
 
-        head-low : Below p3 byte 3073 (2049, length (head .pieces))
-        head-low k h = let b = o .put .low k h in (omega (arith, b .0, head-length, counted), b .1)
-
         store-front : take (length s) s3 ≡ s
         store-front =
             sym (take-take (length s) 32768 s3 (w .store)) ∙ ap (take (length s)) (bytes-kept .bytes) ∙ take-take (length s) 32768 s1 (w .store) ∙ ap (take (length s)) (w .store-is) ∙ take-at s (w .after) (length s) refl
 
-        pub rest-ready : RestReady indentor source p s t3 p3 s3 byte
-        rest-ready =
+        -- the rows behind the head are free
+        pub rest-ready : (top : ℕ) → top ≡ 2049 + entryAt t 0 .intro .1 → RestReady indentor source p s t3 p3 s3 top byte
+        rest-ready top n =
+            let head-low : Below p3 byte top (2049, length (head .pieces)) = λ k h. let b = o .put .low k h in (omega (arith, b .0, head-length), b .1) in
             record {
               walk =
                   record {
                     linked = o .desk .linked;
                     formed = subst (λ (x : List Chunk). model.Formed (bodyOf source x)) (sym chunks-are) formed;
-                    low = subst (All (EntryLow p3 3073 byte)) (sym (o .desk .chunks)) (entries-still 2048 32768 p1 p3 rows-kept 3073 byte (omega arith) (omega (arith, up)) low);
+                    low = subst (All (EntryLow p3 top byte)) (sym (o .desk .chunks)) (entries-still 2048 32768 p1 p3 rows-kept top byte (omega arith) (omega (arith, up)) low);
                     texts-low = subst (All (λ e. TextLow (length s) (e .text))) (sym (o .desk .chunks)) (texts-low p s (w .readable .chunks));
                     store-front = store-front;
                     store-low = omega (arith, up, w .store);
@@ -217,7 +219,7 @@ module _ (indentor exclude source t p s p1 s1 : List ℕ) (w : StepsReady source
                         let x = y .row l in
                         record {
                           text = run-same 2049 65536 p2 s2 p3 s3 (o .put .rows) (o .put .bytes) (2048, 1) (x .low) ∙ x .text;
-                          low = run-still 2049 65536 p2 p3 (o .put .rows) 3073 byte (omega arith) up (2048, 1) (x .low);
+                          low = run-still 2049 65536 p2 p3 (o .put .rows) top byte (omega arith) up (2048, 1) (x .low);
                         };
                     few = omega (arith, o .desk .count, few-chunks source t p s (w .desk .limits));
                     chunk-rows = omega (arith, o .len, w .chunks);
@@ -237,7 +239,7 @@ module _ (indentor exclude source t p s p1 s1 : List ℕ) (w : StepsReady source
                     bytes = omega (arith, up, bytes-kept .len, w .long-store);
                     narrow = omega (arith, bytes-kept .len, w .long-store);
                   };
-              head = subst (Below p3 byte 3073) (sym head-at) head-low;
+              head = subst (Below p3 byte top) (sym head-at) head-low;
               inside = subst (RunIn p s) (sym tail-at) (w .readable .desk .outro);
               valid = subst (λ (x : Place). All model.Valid (runOf p s x)) (sym tail-at) outro-valid;
               few = omega (arith, counted, ap (sum chunk-pieces) chunks-are, ap (λ (x : Place). x .1) tail-at);

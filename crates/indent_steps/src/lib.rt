@@ -1,9 +1,13 @@
 // indent.rs: the steps of `indent_with` on scratch tables: the head, the chunks, the tail.
+ghost use mathlib.Core.Path.{_≡_};
 ghost use mathlib.Core.Bool.{true};
+ghost use Prim.Native.Nat.{_+_, _≤_};
+ghost use lib.ListN.{length};
+ghost use Rattle.table.specs.Order.{entryAt};
 ghost use Rattle.indent_steps.specs.Rest.{RestReady, RestDone};
 ghost use Rattle.indent_steps.specs.Steps.{StepsReady, IndentSteps};
 
-// Behind the head: the chunks, then the tail. 13 where the desk would pass a limit.
+// Behind the head, which ends before row `top`: the chunks, then the tail. 13 where the desk would pass a limit.
 fn indent_rest(
     source: &[u8],
     pieces: &[u32],
@@ -14,13 +18,14 @@ fn indent_rest(
     indentor: &[u8],
     exclude: &[u32],
     mark: bool,
+    top: u32,
     byte: u32,
 ) -> u32
-    requires { ⌜ RestReady (now indentor) (now source) (now pieces) (now store) (now t) (now p) (now s) byte ⌝ }
+    requires { ⌜ RestReady (now indentor) (now source) (now pieces) (now store) (now t) (now p) (now s) top byte ⌝ }
     ensures { λ r. ⌜ RestDone (now (indentor .entry)) (now (exclude .entry)) (now (source .entry)) (now (pieces .entry)) (now (store .entry))
         (now (t .entry)) (now (p .entry)) (now (s .entry)) mark byte (now (t .exit)) (now (p .exit)) (now (s .exit)) r ⌝ }
 {
-    let w = indent_rows::indent_chunks(source, store, indentor, exclude, t, p, s, mark, 3073, byte);
+    let w = indent_rows::indent_chunks(source, store, indentor, exclude, t, p, s, mark, top, byte);
     if w.number != 0 {
         return 13;
     }
@@ -42,6 +47,15 @@ fn indent_rest(
     0
 }
 
+// The row behind those that the head takes from row 2049 on.
+fn head_end(t: &[u32]) -> u32
+    requires { ⌜ (12 ≤ length (now t)) × (entryAt (now t) 0 .intro .1 ≤ 1024) ⌝ }
+    ensures { λ r. ⌜ r ≡ 2049 + entryAt (now (t .entry)) 0 .intro .1 ⌝ }
+{
+    let z = table::get_row(t, 0);
+    2049 + z.intro_n
+}
+
 // The indentor as a piece, the head from row 2049 and byte 65,536 on, then the rest. The desk lies in the rows t and the lent pieces and store.
 pub fn indent_steps(
     source: &[u8],
@@ -57,6 +71,7 @@ pub fn indent_steps(
     ensures { λ r. ⌜ IndentSteps (now (indentor .entry)) (now (exclude .entry)) (now (source .entry)) (now (t .entry)) (now (pieces .entry)) (now (store .entry))
         (now (t .exit)) (now (p .exit)) (now (s .exit)) r ⌝ }
 {
+    let top = head_end(t);
     indent_run::lay_indentor(p, s, indentor);
     let h = indent_run::indent_own(pieces, store, t, p, s, false, 2049, 65536, true, indentor);
     if !h.fits {
@@ -72,6 +87,7 @@ pub fn indent_steps(
         indentor,
         exclude,
         h.mark,
+        top,
         h.byte,
     )
 }

@@ -14,7 +14,13 @@ positions-between-requires c κs = valid-source (c .before .before .before .befo
 returns : tie.Need-returns
 returns c =
     let start = c .before .before .before .before .before .before .before .before .before .before .before in
-    let ran = given-empty (start .pre .0 .well-formed) (start .args .exclude .now) (start .pre .1) (start .args .indentor .now) (sym (c .before .before .before .before .valid .ensures) ∙ c .before .before .before .if1 .taken) (sym (c .before .before .positions-between .ensures) ∙ c .before .if2 .taken) (c .if3 .taken) in
+    let valid = c .before .before .before .before .valid in
+    let if1 = c .before .before .before .if1 in
+    let positions-between = c .before .before .positions-between in
+    let if2 = c .before .if2 in
+    let ran =
+    given-empty (start .pre .0 .well-formed) (start .args .exclude .now) (start .pre .1) (start .args .indentor .now) (sym (valid .ensures) ∙ if1 .taken)
+    (sym (positions-between .ensures) ∙ if2 .taken) (c .if3 .taken) in
     record { ran = ran; above = start .pre .0 .above }
 
 indent-tables-requires : tie.Need-indent-tables-requires
@@ -35,12 +41,25 @@ returns-2 : tie.Need-returns-2
 returns-2 c =
     let start = c .before .before .before .before .before .before .before .before .before .before .before .before .before .before .before .before .before .before .before .before .before in
     let tables = c .before .before .before .before .before .before .indent-tables in
-    record { ran = given-ran (start .pre .0 .well-formed) (start .args .exclude .now) (start .pre .1) (start .args .indentor .now) (sym (c .before .before .before .before .before .before .before .before .before .before .before .before .before .before .valid .ensures) ∙ c .before .before .before .before .before .before .before .before .before .before .before .before .before .if1 .taken) (sym (c .before .before .before .before .before .before .before .before .before .before .before .before .positions-between .ensures) ∙ c .before .before .before .before .before .before .before .before .before .before .before .if2 .taken) (c .before .before .before .before .before .before .before .before .before .before .if3 .left) (tables .ensures .0); above = tables .ensures .1 }
+    let valid = c .before .before .before .before .before .before .before .before .before .before .before .before .before .before .valid in
+    let if1 = c .before .before .before .before .before .before .before .before .before .before .before .before .before .if1 in
+    let positions-between = c .before .before .before .before .before .before .before .before .before .before .before .before .positions-between in
+    let if2 = c .before .before .before .before .before .before .before .before .before .before .before .if2 in
+    let if3 = c .before .before .before .before .before .before .before .before .before .before .if3 in
+    let ran =
+    given-ran (start .pre .0 .well-formed) (start .args .exclude .now) (start .pre .1) (start .args .indentor .now) (sym (valid .ensures) ∙ if1 .taken)
+    (sym (positions-between .ensures) ∙ if2 .taken) (if3 .left) (tables .ensures .0) in
+    record { ran = ran; above = tables .ensures .1 }
 
 returns-3 : tie.Need-returns-3
 returns-3 c =
     let start = c .before .before .before .before .before .before .before .before .before .before in
-    let ran = given-inside (start .pre .0 .well-formed) (start .args .exclude .now) (start .pre .1) (start .args .indentor .now) (sym (c .before .before .before .valid .ensures) ∙ c .before .before .if1 .taken) (sym (c .before .positions-between .ensures) ∙ c .if2 .left) in
+    let valid = c .before .before .before .valid in
+    let if1 = c .before .before .if1 in
+    let positions-between = c .before .positions-between in
+    let ran =
+    given-inside (start .pre .0 .well-formed) (start .args .exclude .now) (start .pre .1) (start .args .indentor .now) (sym (valid .ensures) ∙ if1 .taken)
+    (sym (positions-between .ensures) ∙ c .if2 .left) in
     record { ran = ran; above = start .pre .0 .above }
 
 returns-4 : tie.Need-returns-4

@@ -16,17 +16,24 @@ cast-n c = search needs
 put-indentor-requires : tie.Need-put-indentor-requires
 put-indentor-requires c κs =
     let start = c .before .before .before .before .before .before .before .before .before in
-    guess-room (start .args .source .now) (c .before .before .guess-indentor .result) (c .before .before .guess-indentor .ensures) (short-source (start .pre .0 .well-formed)) (start .args .out .now) (start .pre .1 .0)
+    let guess-indentor = c .before .before .guess-indentor in
+    guess-room (start .args .source .now) (guess-indentor .result) (guess-indentor .ensures) (short-source (start .pre .0 .well-formed)) (start .args .out .now) (start .pre .1 .0)
 
 slice-reshare-prefix-indent-tables : tie.Need-slice-reshare-prefix-indent-tables
 slice-reshare-prefix-indent-tables c =
     let start = c .before .before .before .before .before .before .before .before .before .before .before .before .before .before .before in
-    guess-in (start .args .source .now) (c .before .before .before .before .before .before .before .before .guess-indentor .result) (c .before .before .before .before .before .before .before .before .guess-indentor .ensures) _ _ (c .before .before .before .before .before .before .before .indentor-len .result) (c .before .before .before .before .before .before .before .indentor-len .ensures) (c .before .before .before .before .before .put-indentor .ensures)
+    let guess-indentor = c .before .before .before .before .before .before .before .before .guess-indentor in
+    let indentor-len = c .before .before .before .before .before .before .before .indentor-len in
+    let put-indentor = c .before .before .before .before .before .put-indentor in
+    guess-in (start .args .source .now) (guess-indentor .result) (guess-indentor .ensures) _ _ (indentor-len .result) (indentor-len .ensures) (put-indentor .ensures)
 
 slice-aggregate-indent-tables : tie.Need-slice-aggregate-indent-tables
 slice-aggregate-indent-tables c =
     let start = c .before .before .before .before .before .before .before .before .before .before .before .before .before .before .before .before in
-    guess-part (start .args .source .now) (c .before .before .before .before .before .before .before .before .before .guess-indentor .result) (c .before .before .before .before .before .before .before .before .before .guess-indentor .ensures) _ _ (c .before .before .before .before .before .before .before .before .indentor-len .result) (c .before .before .before .before .before .before .before .before .indentor-len .ensures) (c .before .before .before .before .before .before .put-indentor .ensures)
+    let guess-indentor = c .before .before .before .before .before .before .before .before .before .guess-indentor in
+    let indentor-len = c .before .before .before .before .before .before .before .before .indentor-len in
+    let put-indentor = c .before .before .before .before .before .before .put-indentor in
+    guess-part (start .args .source .now) (guess-indentor .result) (guess-indentor .ensures) _ _ (indentor-len .result) (indentor-len .ensures) (put-indentor .ensures)
 
 indent-tables-requires : tie.Need-indent-tables-requires
 indent-tables-requires c κs =
@@ -49,7 +56,14 @@ returns : tie.Need-returns
 returns c =
     let start = c .before .before .before .before .before .before .before .before .before .before .before .before .before .before .before .before .before .before .before .before .before .before .before in
     let tables = c .before .before .before .before .before .before .indent-tables in
-    record { ran = none-ran (start .pre .0 .well-formed) (start .args .exclude .now) (start .pre .1 .1 .0) (start .pre .1 .1 .1) _ (guess-is (start .args .source .now) (c .before .before .before .before .before .before .before .before .before .before .before .before .before .before .before .before .guess-indentor .result) (c .before .before .before .before .before .before .before .before .before .before .before .before .before .before .before .before .guess-indentor .ensures) _ _ (c .before .before .before .before .before .before .before .before .before .before .before .before .before .before .before .indentor-len .result) (c .before .before .before .before .before .before .before .before .before .before .before .before .before .before .before .indentor-len .ensures) (c .before .before .before .before .before .before .before .before .before .before .before .before .before .put-indentor .ensures)) (tables .ensures .0); above = tables .ensures .1 }
+    let guess-indentor = c .before .before .before .before .before .before .before .before .before .before .before .before .before .before .before .before .guess-indentor in
+    let indentor-len = c .before .before .before .before .before .before .before .before .before .before .before .before .before .before .before .indentor-len in
+    let put-indentor = c .before .before .before .before .before .before .before .before .before .before .before .before .before .put-indentor in
+    let ran =
+    none-ran (start .pre .0 .well-formed) (start .args .exclude .now) (start .pre .1 .1 .0) (start .pre .1 .1 .1) _
+    (guess-is (start .args .source .now) (guess-indentor .result) (guess-indentor .ensures) _ _ (indentor-len .result) (indentor-len .ensures) (put-indentor .ensures))
+    (tables .ensures .0) in
+    record { ran = ran; above = tables .ensures .1 }
 
 pub guessed-in-spec : {M : Type 1} → statement M
 guessed-in-spec =

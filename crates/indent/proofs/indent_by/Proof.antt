@@ -9,7 +9,9 @@ use Rattle.indent.proofs.indent_by.Tie as tie
 load-requires : tie.Need-load-requires
 load-requires c κs =
     let start = c .before .before .before .before .before .before .before .before .before .before .before .before .before .before .before in
-    (omega (arith, start .pre .0 .well-formed .sized .chunks, start .pre .1 .scratch .chunks), omega (arith, start .pre .0 .well-formed .sized .pieces, start .pre .1 .pieces), omega (arith, start .pre .0 .well-formed .sized .store, start .pre .1 .store))
+    let z = start .pre .0 .well-formed .sized in
+    let f = start .pre .1 in
+    (omega (arith, z .chunks, f .scratch .chunks), omega (arith, z .pieces, f .pieces), omega (arith, z .store, f .store))
 
 indent-steps-requires : tie.Need-indent-steps-requires
 indent-steps-requires c κs =
@@ -37,12 +39,17 @@ same-length-6 c = search needs
 returns : tie.Need-returns
 returns c =
     let start = c .before .before .before .before .before .before .before .before .before .before .before .before .before .before .before .before .before .before .before .before .before .before .before .before .before .before .before .before .before .before .before .before .before .before .before in
-    (indent-past (start .pre .0 .well-formed) (start .pre .1) (c .before .before .before .before .before .before .before .before .before .before .before .before .before .before .before .before .before .before .before .load .ensures) (c .before .before .before .before .before .before .before .indent-steps .ensures) (c .if1 .taken), start .pre .0 .above)
+    let load = c .before .before .before .before .before .before .before .before .before .before .before .before .before .before .before .before .before .before .before .load in
+    let indent-steps = c .before .before .before .before .before .before .before .indent-steps in
+    (indent-past (start .pre .0 .well-formed) (start .pre .1) (load .ensures) (indent-steps .ensures) (c .if1 .taken), start .pre .0 .above)
 
 finish-requires : tie.Need-finish-requires
 finish-requires c κs =
     let start = c .before .before .before .before .before .before .before .before .before .before .before .before .before .before .before .before .before .before .before .before .before .before .before .before .before .before .before .before .before .before .before .before .before .before .before .before .before .before .before .before .before in
-    (indent-readable (start .pre .0 .well-formed) (start .pre .1) (c .before .before .before .before .before .before .before .before .before .before .before .before .before .before .before .before .before .before .before .before .before .before .before .before .before .load .ensures) (c .before .before .before .before .before .before .before .before .before .before .before .before .before .indent-steps .ensures) (c .before .before .before .before .before .before .if1 .left), formed-usable (start .pre .0 .well-formed))
+    let load = c .before .before .before .before .before .before .before .before .before .before .before .before .before .before .before .before .before .before .before .before .before .before .before .before .before .load in
+    let indent-steps = c .before .before .before .before .before .before .before .before .before .before .before .before .before .indent-steps in
+    let if1 = c .before .before .before .before .before .before .if1 in
+    (indent-readable (start .pre .0 .well-formed) (start .pre .1) (load .ensures) (indent-steps .ensures) (if1 .left), formed-usable (start .pre .0 .well-formed))
 
 same-length-7 : tie.Need-same-length-7
 same-length-7 c = search needs
@@ -72,7 +79,10 @@ returns-2 : tie.Need-returns-2
 returns-2 c =
     let start = c .before .before .before .before .before .before .before .before .before .before .before .before .before .before .before .before .before .before .before .before .before .before .before .before .before .before .before .before .before .before .before .before .before .before .before .before .before .before .before .before .before .before .before .before .before .before .before .before in
     let finish = c .before .before .before .before .before .before .finish in
-    (indent-ran (start .pre .0 .well-formed) (start .pre .1) (c .before .before .before .before .before .before .before .before .before .before .before .before .before .before .before .before .before .before .before .before .before .before .before .before .before .before .before .before .before .before .before .before .load .ensures) (c .before .before .before .before .before .before .before .before .before .before .before .before .before .before .before .before .before .before .before .before .indent-steps .ensures) (c .before .before .before .before .before .before .before .before .before .before .before .before .before .if1 .left) (finish .ensures .0), finish .ensures .1)
+    let load = c .before .before .before .before .before .before .before .before .before .before .before .before .before .before .before .before .before .before .before .before .before .before .before .before .before .before .before .before .before .before .before .before .load in
+    let indent-steps = c .before .before .before .before .before .before .before .before .before .before .before .before .before .before .before .before .before .before .before .before .indent-steps in
+    let if1 = c .before .before .before .before .before .before .before .before .before .before .before .before .before .if1 in
+    (indent-ran (start .pre .0 .well-formed) (start .pre .1) (load .ensures) (indent-steps .ensures) (if1 .left) (finish .ensures .0), finish .ensures .1)
 
 pub indent-by-spec : {M : Type 1} → statement M
 indent-by-spec =

@@ -15,7 +15,7 @@ array-borrow-prefix-p : tie.Need-array-borrow-prefix-p
 array-borrow-prefix-p c = search needs
 
 slice-aggregate-indent-by-2 : tie.Need-slice-aggregate-indent-by-2
-slice-aggregate-indent-by-2 c = sym (zeros-length 9300 9300 (omega arith))
+slice-aggregate-indent-by-2 c = sym (zeros-length 7170 7170 (omega arith))
 
 array-borrow-prefix-s : tie.Need-array-borrow-prefix-s
 array-borrow-prefix-s c = search needs
@@ -26,7 +26,15 @@ slice-aggregate-indent-by-3 c = sym (zeros-length 98304 98304 (omega arith))
 indent-by-requires : tie.Need-indent-by-requires
 indent-by-requires c κs =
     let start = c .before .before .before .before .before .before .before .before .before .before .before .before in
-    (start .pre, record { scratch = record { chunks = zeros-length 6192 6192 (omega arith); clear = zeros-at 6192 6192; pieces = rw (zeros-length 9300 9300 (omega arith)) (omega arith); store = rw (zeros-length 98304 98304 (omega arith)) (omega arith) }; pieces = zeros-length 9300 9300 (omega arith); store = zeros-length 98304 98304 (omega arith) })
+    let pieces = zeros-length 7170 7170 (omega arith) in
+    let store = zeros-length 98304 98304 (omega arith) in (
+      start .pre,
+      record {
+        scratch = record { chunks = zeros-length 6192 6192 (omega arith); clear = zeros-at 6192 6192; pieces = rw pieces (omega arith); store = rw store (omega arith) };
+        pieces = pieces;
+        store = store;
+      },
+    )
 
 same-length : tie.Need-same-length
 same-length c = search needs

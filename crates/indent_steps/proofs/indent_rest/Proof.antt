@@ -19,12 +19,19 @@ same-length-3 c = search needs
 returns : tie.Need-returns
 returns c =
     let a = c .before .before .before .before .before .before .before .before .before .before .before .before .before .before .before .before .before .before .before .before .args in
-    rest-chunks (a .indentor .now) (a .exclude .now) (a .source .now) (a .pieces .now) (a .store .now) (a .t .now) (a .p .now) (a .s .now) (a .mark) (a .byte) (c .before .before .before .before .before .before .before .before .before .before .before .before .before .before .before .before .before .before .before .before .pre) (c .before .before .before .before .before .before .before .before .indent-chunks .ensures) (c .if1 .taken) _ _ _
+    let start = c .before .before .before .before .before .before .before .before .before .before .before .before .before .before .before .before .before .before .before .before in
+    let indent-chunks = c .before .before .before .before .before .before .before .before .indent-chunks in
+    rest-chunks (a .indentor .now) (a .exclude .now) (a .source .now) (a .pieces .now) (a .store .now) (a .t .now) (a .p .now) (a .s .now) (a .mark) (a .top) (a .byte) (start .pre)
+    (indent-chunks .ensures) (c .if1 .taken) _ _ _
 
 indent-own-requires : tie.Need-indent-own-requires
 indent-own-requires c κs =
     let a = c .before .before .before .before .before .before .before .before .before .before .before .before .before .before .before .before .before .before .before .before .before .before .before .args in
-    tail-ready (a .indentor .now) (a .exclude .now) (a .source .now) (a .pieces .now) (a .store .now) (a .t .now) (a .p .now) (a .s .now) (a .mark) (a .byte) (c .before .before .before .before .before .before .before .before .before .before .before .before .before .before .before .before .before .before .before .before .before .before .before .pre) (c .before .before .before .before .before .before .before .before .before .before .before .indent-chunks .ensures) (c .before .before .before .if1 .left)
+    let start = c .before .before .before .before .before .before .before .before .before .before .before .before .before .before .before .before .before .before .before .before .before .before .before in
+    let indent-chunks = c .before .before .before .before .before .before .before .before .before .before .before .indent-chunks in
+    let if1 = c .before .before .before .if1 in
+    tail-ready (a .indentor .now) (a .exclude .now) (a .source .now) (a .pieces .now) (a .store .now) (a .t .now) (a .p .now) (a .s .now) (a .mark) (a .top) (a .byte) (start .pre)
+    (indent-chunks .ensures) (if1 .left)
 
 same-length-4 : tie.Need-same-length-4
 same-length-4 c = search needs
@@ -38,7 +45,12 @@ same-length-6 c = search needs
 returns-2 : tie.Need-returns-2
 returns-2 c =
     let a = c .before .before .before .before .before .before .before .before .before .before .before .before .before .before .before .before .before .before .before .before .before .before .before .before .before .before .before .before .before .before .before .before .args in
-    rest-tail (a .indentor .now) (a .exclude .now) (a .source .now) (a .pieces .now) (a .store .now) (a .t .now) (a .p .now) (a .s .now) (a .mark) (a .byte) (c .before .before .before .before .before .before .before .before .before .before .before .before .before .before .before .before .before .before .before .before .before .before .before .before .before .before .before .before .before .before .before .before .pre) (c .before .before .before .before .before .before .before .before .before .before .before .before .before .before .before .before .before .before .before .before .indent-chunks .ensures) (c .before .before .before .before .before .before .before .before .before .before .before .before .if1 .left) (c .before .before .before .before .before .before .before .before .indent-own .ensures) (not-true _ (c .if2 .taken)) _ _ _
+    let start = c .before .before .before .before .before .before .before .before .before .before .before .before .before .before .before .before .before .before .before .before .before .before .before .before .before .before .before .before .before .before .before .before in
+    let indent-chunks = c .before .before .before .before .before .before .before .before .before .before .before .before .before .before .before .before .before .before .before .before .indent-chunks in
+    let if1 = c .before .before .before .before .before .before .before .before .before .before .before .before .if1 in
+    let indent-own = c .before .before .before .before .before .before .before .before .indent-own in
+    rest-tail (a .indentor .now) (a .exclude .now) (a .source .now) (a .pieces .now) (a .store .now) (a .t .now) (a .p .now) (a .s .now) (a .mark) (a .top) (a .byte) (start .pre)
+    (indent-chunks .ensures) (if1 .left) (indent-own .ensures) (not-true _ (c .if2 .taken)) _ _ _
 
 same-length-7 : tie.Need-same-length-7
 same-length-7 c = search needs
@@ -52,7 +64,12 @@ same-length-9 c = search needs
 returns-3 : tie.Need-returns-3
 returns-3 c =
     let a = c .before .before .before .before .before .before .before .before .before .before .before .before .before .before .before .before .before .before .before .before .before .before .before .before .before .before .before .before .before .before .before .before .args in
-    rest-done (a .indentor .now) (a .exclude .now) (a .source .now) (a .pieces .now) (a .store .now) (a .t .now) (a .p .now) (a .s .now) (a .mark) (a .byte) (c .before .before .before .before .before .before .before .before .before .before .before .before .before .before .before .before .before .before .before .before .before .before .before .before .before .before .before .before .before .before .before .before .pre) (c .before .before .before .before .before .before .before .before .before .before .before .before .before .before .before .before .before .before .before .before .indent-chunks .ensures) (c .before .before .before .before .before .before .before .before .before .before .before .before .if1 .left) (c .before .before .before .before .before .before .before .before .indent-own .ensures) (not-false _ (c .if2 .left))
+    let start = c .before .before .before .before .before .before .before .before .before .before .before .before .before .before .before .before .before .before .before .before .before .before .before .before .before .before .before .before .before .before .before .before in
+    let indent-chunks = c .before .before .before .before .before .before .before .before .before .before .before .before .before .before .before .before .before .before .before .before .indent-chunks in
+    let if1 = c .before .before .before .before .before .before .before .before .before .before .before .before .if1 in
+    let indent-own = c .before .before .before .before .before .before .before .before .indent-own in
+    rest-done (a .indentor .now) (a .exclude .now) (a .source .now) (a .pieces .now) (a .store .now) (a .t .now) (a .p .now) (a .s .now) (a .mark) (a .top) (a .byte) (start .pre)
+    (indent-chunks .ensures) (if1 .left) (indent-own .ensures) (not-false _ (c .if2 .left))
 
 pub indent-rest-spec : {M : Type 1} → statement M
 indent-rest-spec =

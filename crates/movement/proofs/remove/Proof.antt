@@ -56,7 +56,9 @@ returns-3 c =
     let if2 = c .before .before .before .before .before .before .before .before .before .before .before .if2 in
     let if3 = c .before .before .before .before .before .before .before .before .before .before .if3 in
     let range-with = c .before .before .before .before .before .before .range-with in
-    record { ran = remove-range _ _ (start .pre .well-formed) (sym (between-both .ensures) ∙ if1 .taken) (omega (arith, if2 .left, if3 .left)) (range-with .ensures .0); above = range-with .ensures .1 }
+    let ran =
+    remove-range _ _ (start .pre .well-formed) (sym (between-both .ensures) ∙ if1 .taken) (omega (arith, if2 .left, if3 .left)) (range-with .ensures .0) in
+    record { ran = ran; above = range-with .ensures .1 }
 
 returns-4 : tie.Need-returns-4
 returns-4 c =

@@ -1,5 +1,6 @@
 use borrow.Author.Tests.{eqb-true, eqb-false}
 use mathlib.Core.Path.{sym, _∙_}
+use Prim.Native.Nat.{_<_}
 use native.Mathlib.Omega.{arith}
 use Rattle.relocate_scratch.specs.Call.{relocate-outside, relocate-inside, relocate-nothing, relocate-reversed, relocate-past, relocate-tested}
 use Rattle.memory.specs.Laws.{valid-source}
@@ -43,15 +44,31 @@ returns-3 c =
 returns-4 : tie.Need-returns-4
 returns-4 c =
     let start = c .before .before .before .before .before .before .before .before .before .before .before in
-    let placed = sym (c .before .before .before .before .before .before .between-three .ensures) ∙ c .before .before .before .before .before .if1 .taken in
-    let ran = relocate-past _ _ _ (start .pre .well-formed) placed (sym (c .before .before .before .before .inside-range .ensures) ∙ c .before .before .before .if2 .left) (omega (arith, eqb-false (start .args .start) (start .args .end) (c .before .before .if3 .left), c .before .if4 .left)) (c .if5 .taken) in
+    let between-three = c .before .before .before .before .before .before .between-three in
+    let if1 = c .before .before .before .before .before .if1 in
+    let inside-range = c .before .before .before .before .inside-range in
+    let if2 = c .before .before .before .if2 in
+    let if3 = c .before .before .if3 in
+    let if4 = c .before .if4 in
+    let placed = sym (between-three .ensures) ∙ if1 .taken in
+    let ran =
+    relocate-past _ _ _ (start .pre .well-formed) placed (sym (inside-range .ensures) ∙ if2 .left)
+    (omega (arith, eqb-false (start .args .start) (start .args .end) (if3 .left), if4 .left)) (c .if5 .taken) in
     record { ran = ran; above = start .pre .above }
 
 relocate-with-requires : tie.Need-relocate-with-requires
 relocate-with-requires c κs =
     let start = c .before .before .before .before .before .before .before .before .before .before .before .before .before .before in
-    let placed = sym (c .before .before .before .before .before .before .before .before .before .between-three .ensures) ∙ c .before .before .before .before .before .before .before .before .if1 .taken in
-    (start .pre, relocate-tested _ _ _ (start .pre .well-formed) placed (sym (c .before .before .before .before .before .before .before .inside-range .ensures) ∙ c .before .before .before .before .before .before .if2 .left) (omega (arith, eqb-false (start .args .start) (start .args .end) (c .before .before .before .before .before .if3 .left), c .before .before .before .before .if4 .left)) (omega (arith, c .before .before .before .if5 .left)))
+    let between-three = c .before .before .before .before .before .before .before .before .before .between-three in
+    let if1 = c .before .before .before .before .before .before .before .before .if1 in
+    let inside-range = c .before .before .before .before .before .before .before .inside-range in
+    let if2 = c .before .before .before .before .before .before .if2 in
+    let if3 = c .before .before .before .before .before .if3 in
+    let if4 = c .before .before .before .before .if4 in
+    let if5 = c .before .before .before .if5 in
+    let placed = sym (between-three .ensures) ∙ if1 .taken in
+    let ascends : start .args .start < start .args .end = omega (arith, eqb-false (start .args .start) (start .args .end) (if3 .left), if4 .left) in
+    (start .pre, relocate-tested _ _ _ (start .pre .well-formed) placed (sym (inside-range .ensures) ∙ if2 .left) ascends (omega (arith, if5 .left)))
 
 same-length : tie.Need-same-length
 same-length c = search needs

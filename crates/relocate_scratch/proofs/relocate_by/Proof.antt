@@ -26,7 +26,8 @@ finish-requires : tie.Need-finish-requires
 finish-requires c κs =
     let start = c .before .before .before .before .before .before .before .before .before .before .before .before .before .before .before .before .before .before .before .before .before .before .before .before .before .before .before .before .before .before in
     let load = c .before .before .before .before .before .before .before .before .before .before .before .before .before .before .before .before .load in
-    (relocated-readable (start .pre .0) (start .pre .1 .0) (load .ensures) (start .pre .1 .1) (c .before .before .before .before .before .before .before .before .relocate-rows .ensures), formed-usable (start .pre .0))
+    let relocate-rows = c .before .before .before .before .before .before .before .before .relocate-rows in
+    (relocated-readable (start .pre .0) (start .pre .1 .0) (load .ensures) (start .pre .1 .1) (relocate-rows .ensures), formed-usable (start .pre .0))
 
 same-length : tie.Need-same-length
 same-length c = search needs

@@ -67,7 +67,9 @@ returns-4 c =
     let if3 = c .before .before .before .before .before .before .before .before .before .before .before .if3 in
     let if4 = c .before .before .before .before .before .before .before .before .before .before .if4 in
     let range-with = c .before .before .before .before .before .before .range-with in
-    record { ran = reset-range _ _ (start .pre .well-formed) (sym (between-both .ensures) ∙ if1 .taken) (omega (arith, if2 .left, if3 .left)) (if4 .left) (range-with .ensures .0); above = range-with .ensures .1 }
+    let ran =
+    reset-range _ _ (start .pre .well-formed) (sym (between-both .ensures) ∙ if1 .taken) (omega (arith, if2 .left, if3 .left)) (if4 .left) (range-with .ensures .0) in
+    record { ran = ran; above = range-with .ensures .1 }
 
 returns-5 : tie.Need-returns-5
 returns-5 c =
