@@ -5,6 +5,10 @@ ghost use Rattle.memory.specs.Calls.{Edited};
 ghost use Rattle.indent.specs.Call.{indentor-of};
 ghost use Rattle.magic_string.specs.Exported.{flag};
 use texts::Answer;
+use well_formed::Seen;
+
+// The answer for memory that holds no well-formed desk.
+const NO_DESK: u32 = 2;
 
 #[no_mangle]
 pub extern "C" fn magic_string_remove(
@@ -18,12 +22,15 @@ pub extern "C" fn magic_string_remove(
     ensures { λ r. ⌜ Edited (remove start end) (now (source .entry)) (now (chunks .entry)) (now (pieces .entry)) (now (store .entry))
         (now (chunks .exit)) (now (pieces .exit)) (now (store .exit)) (r .number) × (r .value ≡ 0) ⌝ }
 {
-    if well_formed::well_formed(source, chunks, pieces, store) {
-        let number = movement::remove(source, chunks, pieces, store, start, end);
-        return Answer { number, value: 0 };
-    }
+    let Seen::Desk(used) = well_formed::taken(source, chunks, pieces, store) else {
+        return Answer {
+            number: NO_DESK,
+            value: 0,
+        };
+    };
+    let o = movement::remove(source, chunks, pieces, store, start, end, used);
     Answer {
-        number: 2,
+        number: o.number,
         value: 0,
     }
 }
@@ -42,21 +49,25 @@ pub extern "C" fn magic_string_update_with(
     ensures { λ r. ⌜ Edited (update-with start end (now (text .entry)) (flag overwrite)) (now (source .entry)) (now (chunks .entry)) (now (pieces .entry)) (now (store .entry))
         (now (chunks .exit)) (now (pieces .exit)) (now (store .exit)) (r .number) × (r .value ≡ 0) ⌝ }
 {
-    if well_formed::well_formed(source, chunks, pieces, store) {
-        let number = update::update_with(
-            source,
-            chunks,
-            pieces,
-            store,
-            start,
-            end,
-            text,
-            overwrite != 0,
-        );
-        return Answer { number, value: 0 };
-    }
+    let Seen::Desk(used) = well_formed::taken(source, chunks, pieces, store) else {
+        return Answer {
+            number: NO_DESK,
+            value: 0,
+        };
+    };
+    let o = update::update_with(
+        source,
+        chunks,
+        pieces,
+        store,
+        start,
+        end,
+        text,
+        overwrite != 0,
+        used,
+    );
     Answer {
-        number: 2,
+        number: o.number,
         value: 0,
     }
 }
@@ -73,12 +84,15 @@ pub extern "C" fn magic_string_reset(
     ensures { λ r. ⌜ Edited (reset start end) (now (source .entry)) (now (chunks .entry)) (now (pieces .entry)) (now (store .entry))
         (now (chunks .exit)) (now (pieces .exit)) (now (store .exit)) (r .number) × (r .value ≡ 0) ⌝ }
 {
-    if well_formed::well_formed(source, chunks, pieces, store) {
-        let number = reset::reset(source, chunks, pieces, store, start, end);
-        return Answer { number, value: 0 };
-    }
+    let Seen::Desk(used) = well_formed::taken(source, chunks, pieces, store) else {
+        return Answer {
+            number: NO_DESK,
+            value: 0,
+        };
+    };
+    let o = reset::reset(source, chunks, pieces, store, start, end, used);
     Answer {
-        number: 2,
+        number: o.number,
         value: 0,
     }
 }
@@ -95,12 +109,15 @@ pub extern "C" fn magic_string_append_left(
     ensures { λ r. ⌜ Edited (append-left at (now (text .entry))) (now (source .entry)) (now (chunks .entry)) (now (pieces .entry)) (now (store .entry))
         (now (chunks .exit)) (now (pieces .exit)) (now (store .exit)) (r .number) × (r .value ≡ 0) ⌝ }
 {
-    if well_formed::well_formed(source, chunks, pieces, store) {
-        let number = append::append_left(source, chunks, pieces, store, at, text);
-        return Answer { number, value: 0 };
-    }
+    let Seen::Desk(used) = well_formed::taken(source, chunks, pieces, store) else {
+        return Answer {
+            number: NO_DESK,
+            value: 0,
+        };
+    };
+    let o = append::append_left(source, chunks, pieces, store, at, text, used);
     Answer {
-        number: 2,
+        number: o.number,
         value: 0,
     }
 }
@@ -117,12 +134,15 @@ pub extern "C" fn magic_string_append_right(
     ensures { λ r. ⌜ Edited (append-right at (now (text .entry))) (now (source .entry)) (now (chunks .entry)) (now (pieces .entry)) (now (store .entry))
         (now (chunks .exit)) (now (pieces .exit)) (now (store .exit)) (r .number) × (r .value ≡ 0) ⌝ }
 {
-    if well_formed::well_formed(source, chunks, pieces, store) {
-        let number = append::append_right(source, chunks, pieces, store, at, text);
-        return Answer { number, value: 0 };
-    }
+    let Seen::Desk(used) = well_formed::taken(source, chunks, pieces, store) else {
+        return Answer {
+            number: NO_DESK,
+            value: 0,
+        };
+    };
+    let o = append::append_right(source, chunks, pieces, store, at, text, used);
     Answer {
-        number: 2,
+        number: o.number,
         value: 0,
     }
 }
@@ -139,12 +159,15 @@ pub extern "C" fn magic_string_prepend_left(
     ensures { λ r. ⌜ Edited (prepend-left at (now (text .entry))) (now (source .entry)) (now (chunks .entry)) (now (pieces .entry)) (now (store .entry))
         (now (chunks .exit)) (now (pieces .exit)) (now (store .exit)) (r .number) × (r .value ≡ 0) ⌝ }
 {
-    if well_formed::well_formed(source, chunks, pieces, store) {
-        let number = prepend::prepend_left(source, chunks, pieces, store, at, text);
-        return Answer { number, value: 0 };
-    }
+    let Seen::Desk(used) = well_formed::taken(source, chunks, pieces, store) else {
+        return Answer {
+            number: NO_DESK,
+            value: 0,
+        };
+    };
+    let o = prepend::prepend_left(source, chunks, pieces, store, at, text, used);
     Answer {
-        number: 2,
+        number: o.number,
         value: 0,
     }
 }
@@ -161,12 +184,15 @@ pub extern "C" fn magic_string_prepend_right(
     ensures { λ r. ⌜ Edited (prepend-right at (now (text .entry))) (now (source .entry)) (now (chunks .entry)) (now (pieces .entry)) (now (store .entry))
         (now (chunks .exit)) (now (pieces .exit)) (now (store .exit)) (r .number) × (r .value ≡ 0) ⌝ }
 {
-    if well_formed::well_formed(source, chunks, pieces, store) {
-        let number = prepend::prepend_right(source, chunks, pieces, store, at, text);
-        return Answer { number, value: 0 };
-    }
+    let Seen::Desk(used) = well_formed::taken(source, chunks, pieces, store) else {
+        return Answer {
+            number: NO_DESK,
+            value: 0,
+        };
+    };
+    let o = prepend::prepend_right(source, chunks, pieces, store, at, text, used);
     Answer {
-        number: 2,
+        number: o.number,
         value: 0,
     }
 }
@@ -182,12 +208,15 @@ pub extern "C" fn magic_string_append(
     ensures { λ r. ⌜ Edited (append (now (text .entry))) (now (source .entry)) (now (chunks .entry)) (now (pieces .entry)) (now (store .entry))
         (now (chunks .exit)) (now (pieces .exit)) (now (store .exit)) (r .number) × (r .value ≡ 0) ⌝ }
 {
-    if well_formed::well_formed(source, chunks, pieces, store) {
-        let number = append::append(source, chunks, pieces, store, text);
-        return Answer { number, value: 0 };
-    }
+    let Seen::Desk(used) = well_formed::taken(source, chunks, pieces, store) else {
+        return Answer {
+            number: NO_DESK,
+            value: 0,
+        };
+    };
+    let o = append::append(source, chunks, pieces, store, text, used);
     Answer {
-        number: 2,
+        number: o.number,
         value: 0,
     }
 }
@@ -203,12 +232,15 @@ pub extern "C" fn magic_string_prepend(
     ensures { λ r. ⌜ Edited (prepend (now (text .entry))) (now (source .entry)) (now (chunks .entry)) (now (pieces .entry)) (now (store .entry))
         (now (chunks .exit)) (now (pieces .exit)) (now (store .exit)) (r .number) × (r .value ≡ 0) ⌝ }
 {
-    if well_formed::well_formed(source, chunks, pieces, store) {
-        let number = prepend::prepend(source, chunks, pieces, store, text);
-        return Answer { number, value: 0 };
-    }
+    let Seen::Desk(used) = well_formed::taken(source, chunks, pieces, store) else {
+        return Answer {
+            number: NO_DESK,
+            value: 0,
+        };
+    };
+    let o = prepend::prepend(source, chunks, pieces, store, text, used);
     Answer {
-        number: 2,
+        number: o.number,
         value: 0,
     }
 }
@@ -226,12 +258,15 @@ pub extern "C" fn magic_string_relocate(
     ensures { λ r. ⌜ Edited (relocate start end to) (now (source .entry)) (now (chunks .entry)) (now (pieces .entry)) (now (store .entry))
         (now (chunks .exit)) (now (pieces .exit)) (now (store .exit)) (r .number) × (r .value ≡ 0) ⌝ }
 {
-    if well_formed::well_formed(source, chunks, pieces, store) {
-        let number = relocate::relocate(source, chunks, pieces, store, start, end, to);
-        return Answer { number, value: 0 };
-    }
+    let Seen::Desk(used) = well_formed::taken(source, chunks, pieces, store) else {
+        return Answer {
+            number: NO_DESK,
+            value: 0,
+        };
+    };
+    let o = relocate::relocate(source, chunks, pieces, store, start, end, to, used);
     Answer {
-        number: 2,
+        number: o.number,
         value: 0,
     }
 }
@@ -247,12 +282,15 @@ pub extern "C" fn magic_string_trim(
     ensures { λ r. ⌜ Edited (trim pattern) (now (source .entry)) (now (chunks .entry)) (now (pieces .entry)) (now (store .entry))
         (now (chunks .exit)) (now (pieces .exit)) (now (store .exit)) (r .number) × (r .value ≡ 0) ⌝ }
 {
-    if well_formed::well_formed(source, chunks, pieces, store) {
-        let number = trim::trim(source, chunks, pieces, store, pattern);
-        return Answer { number, value: 0 };
-    }
+    let Seen::Desk(used) = well_formed::taken(source, chunks, pieces, store) else {
+        return Answer {
+            number: NO_DESK,
+            value: 0,
+        };
+    };
+    let o = trim::trim(source, chunks, pieces, store, pattern, used);
     Answer {
-        number: 2,
+        number: o.number,
         value: 0,
     }
 }
@@ -268,12 +306,15 @@ pub extern "C" fn magic_string_trim_start(
     ensures { λ r. ⌜ Edited (trim-start pattern) (now (source .entry)) (now (chunks .entry)) (now (pieces .entry)) (now (store .entry))
         (now (chunks .exit)) (now (pieces .exit)) (now (store .exit)) (r .number) × (r .value ≡ 0) ⌝ }
 {
-    if well_formed::well_formed(source, chunks, pieces, store) {
-        let number = trim::trim_start(source, chunks, pieces, store, pattern);
-        return Answer { number, value: 0 };
-    }
+    let Seen::Desk(used) = well_formed::taken(source, chunks, pieces, store) else {
+        return Answer {
+            number: NO_DESK,
+            value: 0,
+        };
+    };
+    let o = trim::trim_start(source, chunks, pieces, store, pattern, used);
     Answer {
-        number: 2,
+        number: o.number,
         value: 0,
     }
 }
@@ -289,12 +330,15 @@ pub extern "C" fn magic_string_trim_end(
     ensures { λ r. ⌜ Edited (trim-end pattern) (now (source .entry)) (now (chunks .entry)) (now (pieces .entry)) (now (store .entry))
         (now (chunks .exit)) (now (pieces .exit)) (now (store .exit)) (r .number) × (r .value ≡ 0) ⌝ }
 {
-    if well_formed::well_formed(source, chunks, pieces, store) {
-        let number = trim::trim_end(source, chunks, pieces, store, pattern);
-        return Answer { number, value: 0 };
-    }
+    let Seen::Desk(used) = well_formed::taken(source, chunks, pieces, store) else {
+        return Answer {
+            number: NO_DESK,
+            value: 0,
+        };
+    };
+    let o = trim::trim_end(source, chunks, pieces, store, pattern, used);
     Answer {
-        number: 2,
+        number: o.number,
         value: 0,
     }
 }
@@ -309,12 +353,15 @@ pub extern "C" fn magic_string_trim_lines(
     ensures { λ r. ⌜ Edited (trim-lines) (now (source .entry)) (now (chunks .entry)) (now (pieces .entry)) (now (store .entry))
         (now (chunks .exit)) (now (pieces .exit)) (now (store .exit)) (r .number) × (r .value ≡ 0) ⌝ }
 {
-    if well_formed::well_formed(source, chunks, pieces, store) {
-        let number = trim::trim_lines(source, chunks, pieces, store);
-        return Answer { number, value: 0 };
-    }
+    let Seen::Desk(used) = well_formed::taken(source, chunks, pieces, store) else {
+        return Answer {
+            number: NO_DESK,
+            value: 0,
+        };
+    };
+    let o = trim::trim_lines(source, chunks, pieces, store, used);
     Answer {
-        number: 2,
+        number: o.number,
         value: 0,
     }
 }
@@ -332,20 +379,24 @@ pub extern "C" fn magic_string_indent_with(
     ensures { λ r. ⌜ Edited (indent-with (indentor-of (flag «has_indentor») (now (indentor .entry))) (now (exclude .entry))) (now (source .entry)) (now (chunks .entry)) (now (pieces .entry)) (now (store .entry))
         (now (chunks .exit)) (now (pieces .exit)) (now (store .exit)) (r .number) × (r .value ≡ 0) ⌝ }
 {
-    if well_formed::well_formed(source, chunks, pieces, store) {
-        let number = indent::indent_with(
-            source,
-            chunks,
-            pieces,
-            store,
-            has_indentor != 0,
-            indentor,
-            exclude,
-        );
-        return Answer { number, value: 0 };
-    }
+    let Seen::Desk(used) = well_formed::taken(source, chunks, pieces, store) else {
+        return Answer {
+            number: NO_DESK,
+            value: 0,
+        };
+    };
+    let o = indent::indent_with(
+        source,
+        chunks,
+        pieces,
+        store,
+        has_indentor != 0,
+        indentor,
+        exclude,
+        used,
+    );
     Answer {
-        number: 2,
+        number: o.number,
         value: 0,
     }
 }

@@ -8,6 +8,14 @@ ghost use Rattle.table.specs.Order.{countOf};
 ghost use Rattle.memory.specs.WellFormed.{Sized, Full, WellFormed, Taken};
 ghost use Rattle.counts.specs.Counts.{Decides};
 ghost use Rattle.well_formed.specs.Rows.{Shaped, Chunked, Pieced};
+ghost use Rattle.well_formed.specs.Seen.{Sees};
+use memory_used::Used;
+
+// What the check has seen: no desk, or a desk and what it uses.
+pub enum Seen {
+    NoDesk,
+    Desk(Used),
+}
 
 // Whether the tables have whole rows, a chunk's at least, and are not longer than the full sizes.
 fn sized(chunks: &[u32], pieces: &[u32], store: &[u8]) -> bool
@@ -120,4 +128,16 @@ pub fn well_formed(source: &[u8], chunks: &[u32], pieces: &[u32], store: &[u8]) 
         return holds_desk(source, chunks, pieces, store);
     }
     false
+}
+
+// The same for calls that change the desk, with what it uses.
+pub fn taken(source: &[u8], chunks: &[u32], pieces: &[u32], store: &[u8]) -> Seen
+    ensures { λ r. ⌜ Sees (Taken (now (source .entry)) (now (chunks .entry)) (now (pieces .entry)) (now (store .entry)))
+        (now (chunks .entry)) (now (pieces .entry)) (now (store .entry)) r ⌝ }
+{
+    if well_formed(source, chunks, pieces, store) {
+        let used = on_top::live(chunks, pieces, store);
+        return Seen::Desk(used);
+    }
+    Seen::NoDesk
 }

@@ -51,9 +51,9 @@ returns-2 c =
     let rows = c .before .before .before .before .before .before .before .before .insert-rows-on-top in
     let a = start .args in (
       top-inserted (a .left) (a .front) (a .q) (a .text .now) (start .pre .0) (start .pre .1) (split-at .ensures) _ _ _ (rows .result) (if1 .left) (rows .ensures)
-      (split-at .kept .0) (rows .kept .0) (rows .kept .1 .0) (rows .kept .1 .1 .0),
+          (split-at .kept .0) (rows .kept .0) (rows .kept .1 .0) (rows .kept .1 .1 .0),
       top-above (a .left) (a .front) (a .q) (a .text .now) (start .pre .0) (start .pre .1) (split-at .ensures) _ _ _ (rows .result) (if1 .left) (rows .ensures)
-      (split-at .kept .0) (rows .kept .0) (rows .kept .1 .0) (rows .kept .1 .1 .0),
+          (split-at .kept .0) (rows .kept .0) (rows .kept .1 .0) (rows .kept .1 .1 .0),
     )
 
 pub insert-on-top-spec : {M : Type 1} → statement M
