@@ -5,7 +5,7 @@ ghost use Prim.Native.Nat.{_+_, _-_, _≤_, _<_};
 ghost use lib.ListN.{length};
 ghost use Rattle.utf8.specs.Chars.{concat};
 ghost use Rattle.table.specs.Order.{entryOf};
-ghost use Rattle.model.specs.Slice.{part as partOf};
+ghost use Rattle.model.specs.Text.{part as partOf};
 ghost use Rattle.memory.specs.Layout.{runOf};
 ghost use Rattle.memory.specs.WellFormed.{RunIn, EntryIn};
 ghost use Rattle.texts.specs.Texts.{SpanIn};
