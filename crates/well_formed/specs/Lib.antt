@@ -1,3 +1,4 @@
 pub mod Rows
 pub mod Chunks
 pub mod Bridge
+pub mod Seen
