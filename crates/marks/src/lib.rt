@@ -1,14 +1,23 @@
 // Marks at the piece rows and bytes that runs and texts take, so that none is taken twice; and the words of a row that say which.
 ghost use mathlib.Core.Path.{_≡_};
-ghost use Prim.Native.Nat.{_+_, _*_, _≤_, _<_};
+ghost use Prim.Native.Nat.{_+_, _*_, _≤_, _<_, max};
 ghost use lib.ListN.{length};
 ghost use Rattle.memory.specs.WellFormed.{among};
-ghost use Rattle.marks.specs.Marks.{cell, Bits, Marked};
+ghost use Rattle.marks.specs.Marks.{cell, markAt, Bits, Marked};
 
 // In a row: where its two runs stand.
 pub const INTRO: usize = 4;
 
 pub const OUTRO: usize = 6;
+
+pub fn larger(a: usize, b: usize) -> usize
+    ensures { λ r. ⌜ r ≡ max a b ⌝ }
+{
+    if a < b {
+        return b;
+    }
+    a
+}
 
 pub fn wide(x: u32) -> usize
     ensures { λ r. ⌜ (r ≡ x) × (r < 4294967296) ⌝ }
@@ -26,8 +35,8 @@ pub fn word(t: &[u32], i: u32, k: usize) -> usize
 
 // Marks n places from at on. False if they are not inside, or one is marked already. The marks met are joined, so that no byte is tested by itself.
 pub fn mark(marks: &mut [u8], at: usize, n: usize) -> bool
-    requires { ⌜ Bits (now marks) ⌝ }
-    ensures { λ r. ⌜ Marked r (now (marks .entry)) (at + n ≤ length (now (marks .entry))) (among (at, n)) (now (marks .exit)) ⌝ }
+    requires { ⌜ Bits (markAt (now marks)) ⌝ }
+    ensures { λ r. ⌜ Marked r (markAt (now (marks .entry))) (at + n ≤ length (now (marks .entry))) (among (at, n)) (markAt (now (marks .exit))) ⌝ }
 {
     if n > marks.len() {
         return false;

@@ -1,7 +1,7 @@
 -- What lies below a row and a byte is read from there alone.
 use mathlib.Core.Path.{_≡_, ap, ap₂}
 use mathlib.Core.List.{List}
-use Prim.Native.Nat.{ℕ, _+_, _*_, _≤_, _<_}
+use Prim.Native.Nat.{ℕ, _+_, _*_, _/_, _≤_, _<_}
 use native.Mathlib.Omega.{arith}
 use lib.ListN.{length, getD, take}
 use lib.Seq.{length-take-le, getD-take}
@@ -38,3 +38,24 @@ module _ (p s : List ℕ) (byte row : ℕ) (hr : row * 2 ≤ length p) (hb : byt
   pub entries-below : {es : List Entry} → All (EntryBelow p byte row) es → All (EntryIn (take (row * 2) p) (take byte s)) es
   entries-below nil = nil
   entries-below (cons {x = e} h k) = cons (entry-below e h) (entries-below k)
+
+-- and lies inside the tables themselves
+module _ (p s : List ℕ) (byte row : ℕ) (hr : row * 2 ≤ length p) (hb : byte ≤ length s) where
+  pub run-inside : (x : Place) → Below p byte row x → RunIn p s x
+  unfolding RunIn
+  run-inside x h k g = let a = h k g in record { row = omega arith; text = omega arith }
+
+  pub entry-inside : (e : Entry) → EntryBelow p byte row e → EntryIn p s e
+  unfolding ReplacementIn
+  entry-inside e h =
+      record { runs = record { intro = run-inside (e .intro) (h .intro); outro = run-inside (e .outro) (h .outro) }; replacement = λ n. omega (arith, h .text n) }
+
+-- what lies inside the tables lies below their ends
+module _ (p s : List ℕ) where
+  pub inside-run : (x : Place) → RunIn p s x → Below p (length s) (length p / 2) x
+  unfolding RunIn
+  inside-run x h k g = let a = h k g in (omega (arith, a .row), a .text)
+
+  pub inside-entry : (e : Entry) → EntryIn p s e → EntryBelow p (length s) (length p / 2) e
+  unfolding ReplacementIn
+  inside-entry e h = record { intro = inside-run (e .intro) (h .runs .intro); outro = inside-run (e .outro) (h .runs .outro); text = λ n. h .replacement n }

@@ -7,18 +7,19 @@ use native.Mathlib.Omega.{arith}
 use borrow.Author.Tests.{le-leb, lt-leb}
 use lib.ListN.{length, take}
 use Rattle.utf8.specs.Rfc3629.{utf8, between}
-use Rattle.utf8.specs.Chars.{nil, cons}
+use Rattle.utf8.specs.Chars.{All, nil, cons}
 use Rattle.utf8.specs.Boundaries.{between-zero, between-past}
 use Rattle.table.specs.declared.Row.{Row}
 use Rattle.table.specs.Table.{rowAt, Put}
 use Rattle.table.specs.Ring.{follow, ring-of}
 use Rattle.table.specs.Order.{Entry, entryOf, entryAt, nextOf, prevOf, countOf, order, Linked}
+use Rattle.model.specs.WellFormed.{Valid, ValidReplacement, ValidTexts}
 use Rattle.model.specs.Chunk.{Chunk, new-chunk}
 use Rattle.model.specs.MagicString.{new}
 use Rattle.model.specs.Limits.{piece-count}
 use Rattle.model.specs.Call.{opened}
-use Rattle.memory.specs.Layout.{NONE, runOf, replacementOf, chunkOf, magicStringOf}
-use Rattle.memory.specs.WellFormed.{limitsOf, Sized, Full, ReplacementIn, RunsIn, EntryIn, Readable, pieceUses, runUses, byteUses, WellFormed}
+use Rattle.memory.specs.Layout.{NONE, runOf, replacementOf, textsOf, chunkOf, magicStringOf}
+use Rattle.memory.specs.WellFormed.{limitsOf, Sized, Full, Lengths, ReplacementIn, RunsIn, EntryIn, Readable, pieceUses, runUses, byteUses, WellFormed}
 use Rattle.memory.specs.Calls.{Opened}
 use Rattle.memory.specs.Laws.{sized-as, among-none, no-run, no-run-in, no-uses, desk-same, all-same}
 use Rattle.memory_used.specs.declared.Used.{Used}
@@ -26,7 +27,10 @@ use Rattle.memory_used.specs.declared.Outcome.{Outcome}
 use Rattle.memory_used.specs.Above.{Above}
 use Rattle.counts.specs.Sums.{indicator-in}
 use Rattle.spans.specs.Spans.{Spans, Edged, Edges, startsOf, endsOf}
-use Rattle.marks.specs.Marks.{RowsIn, BothIn, RunsApart, pieceCount, pieceTotal, RunTexts, BothTexts, ReplacementText, EntryTexts, TextsApart}
+use Rattle.memory_used.specs.Below.{EntryBelow}
+use Rattle.marks.specs.Marks.{pieceCount, pieceTotal}
+use Rattle.texts_apart.specs.Places.{Placed}
+use Rattle.texts_valid.specs.Valid.{ListsValid, TextsValid}
 use Rattle.well_formed.specs.Bridge.{rows-formed}
 use Rattle.opening.specs.Fresh.{deskRow, chunkRow, Fresh}
 use Rattle.opening.specs.OpenedWith.{OpenedWith}
@@ -51,17 +55,12 @@ module _ (p s : List ℕ) where
   unfolding runOf replacementOf
   bare-chunk a e = refl
 
-  rows-empty : (words at : ℕ) → RowsIn words (at, 0)
-  unfolding RowsIn
-  rows-empty words at k h = absurd (omega arith)
+  run-empty : (at : ℕ) → All Valid (runOf p s (at, 0))
+  run-empty at = rw (no-run p s at) nil
 
-  texts-empty : (at : ℕ) → RunTexts p s (at, 0)
-  unfolding RunTexts
-  texts-empty at k h = absurd (omega arith)
-
-  text-none : ReplacementText s (NONE, 0)
-  unfolding ReplacementText
-  text-none h = absurd (h refl)
+  text-none : ValidReplacement (replacementOf s (NONE, 0))
+  unfolding replacementOf
+  text-none = tt
 
   uses-empty : (at b : ℕ) → runUses p b (at, 0) ≡ 0
   unfolding runUses
@@ -161,22 +160,28 @@ module _ (t₀ t source p s : List ℕ) (f : Fresh t₀ t (length source)) where
   no-byte : (i a e : ℕ) → entryAt t i ≡ bareEntry a e → (b : ℕ) → byteUses p b (entryAt t i) ≡ 0
   no-byte i a e q b = ap (byteUses p b) q ∙ omega (arith, uses-empty p s 0 b, no-uses b)
 
-  fresh-runs : (words : ℕ) → RunsApart t 1 words
-  fresh-runs words =
-      let x : (a e : ℕ) → BothIn words (bareEntry a e) = λ a e. (rows-empty p s words 0, rows-empty p s words 0) in
+  fresh-placed : (size : ℕ) → Placed t p 1 size
+  fresh-placed size =
+      let x : (a e : ℕ) → EntryBelow p size (length p / 2) (bareEntry a e) =
+      λ a e. record { intro = λ k h. absurd (omega arith); outro = λ k h. absurd (omega arith); text = λ h. absurd (h refl) } in
+      let d = subst (EntryBelow p size (length p / 2)) (sym desk-entry) (x 1 0) in
       record {
-        desk = subst (BothIn words) (sym desk-entry) (x 1 0);
-        chunks = only (λ i. BothIn words (entryAt t i)) (subst (BothIn words) (sym chunk-entry) (x 0 (length source)));
-        once = λ j. omega (arith, none-used 0 1 0 desk-entry j, none-used 1 0 (length source) chunk-entry j);
+        below = record {
+          desk = (d .intro, d .outro);
+          chunks = only (λ i. EntryBelow p size (length p / 2) (entryAt t i)) (subst (EntryBelow p size (length p / 2)) (sym chunk-entry) (x 0 (length source)));
+        };
+        apart = record {
+          pieces = λ j. omega (arith, none-used 0 1 0 desk-entry j, none-used 1 0 (length source) chunk-entry j);
+          bytes = λ b. omega (arith, no-byte 0 1 0 desk-entry b, no-byte 1 0 (length source) chunk-entry b);
+        };
       }
 
-  fresh-texts : TextsApart t p s 1
+  fresh-texts : TextsValid t p s 1
   fresh-texts =
-      let x : (a e : ℕ) → BothTexts p s (bareEntry a e) = λ a e. (texts-empty p s 0, texts-empty p s 0) in
       record {
-        desk = subst (BothTexts p s) (sym desk-entry) (x 1 0);
-        chunks = only (λ i. EntryTexts p s (entryAt t i)) (subst (EntryTexts p s) (sym chunk-entry) (x 0 (length source), text-none p s));
-        once = λ b. omega (arith, no-byte 0 1 0 desk-entry b, no-byte 1 0 (length source) chunk-entry b);
+        desk = subst (ListsValid p s) (sym desk-entry) (record { intro = run-empty p s 0; outro = run-empty p s 0 });
+        chunks = only (λ i. ValidTexts (textsOf p s (entryAt t i)))
+        (subst (λ (e : Entry). ValidTexts (textsOf p s e)) (sym chunk-entry) (record { intro = run-empty p s 0; outro = run-empty p s 0; replacement = text-none p s }));
       }
 
   fresh-count : pieceTotal t 1 ≤ length p / 4
@@ -196,7 +201,7 @@ module _ (t₀ t source p s : List ℕ) (f : Fresh t₀ t (length source)) where
           spans = rw count-is fresh-spans;
           edges = rw count-is (fresh-edges u);
         };
-        pieced = record { count = rw count-is fresh-count; runs = rw count-is (fresh-runs (length p)); texts = rw count-is fresh-texts };
+        pieced = record { count = rw count-is fresh-count; placed = rw count-is (fresh-placed (length s)); texts = rw count-is fresh-texts };
       })
 
 -- ── the answers ──

@@ -1,105 +1,90 @@
-// Whether the runs of a chunk table lie inside the piece table and apart from each other, and how many pieces they have.
+// Marks of a row's runs: of the piece rows that they take and of their pieces' texts, so that none is taken twice; and what they use.
 ghost use mathlib.Core.Path.{_≡_};
-ghost use Prim.Native.Nat.{ℕ, _+_, _*_, _≤_, _<_};
-ghost use lib.ListN.{length, getD};
+ghost use Prim.Native.Nat.{_+_, _*_, _≤_, _<_};
+ghost use lib.ListN.{length};
 ghost use Rattle.table.specs.Order.{entryAt};
-ghost use Rattle.memory.specs.WellFormed.{among, pieceUses};
-ghost use Rattle.counts.specs.Counts.{Decides, sum-to};
-ghost use Rattle.marks.specs.Marks.{placeAt, RowsIn, BothIn, RunsApart, pieceCount, pieceTotal, Bits, Marked};
+ghost use Rattle.marks.specs.Marks.{placeAt};
+ghost use Rattle.runs_apart.specs.Runs.{Markable, RunPassed, ListsPassed};
+use memory_used::Used;
 
-// Marks the run whose place stands at word k of row i.
-fn mark_run(t: &[u32], i: u32, k: usize, marks: &mut [u8]) -> bool
+// Whether runs and their texts lie inside the tables and apart from those before; and what all of them use.
+pub struct Step {
+    pub ok: bool,
+    pub used: Used,
+}
+
+// Marks a run that is not empty, and its texts.
+fn mark_some(
+    pieces: &[u32],
+    rows: &mut [u8],
+    marks: &mut [u64],
+    size: usize,
+    at: usize,
+    n: usize,
+    used: Used,
+) -> Step
+    requires { ⌜ Markable size (now pieces) (now rows) (now marks) ⌝ }
+    requires { ⌜ (0 < n) × (used .pieces ≤ 0x2000_0000_0000) ⌝ }
+    ensures { λ r. ⌜ RunPassed r size (now (pieces .entry)) (now (rows .entry)) (now (marks .entry)) used (at, n) (now (rows .exit)) (now (marks .exit)) ⌝ }
+{
+    if marks::mark(rows, at, n) {
+        let top = text_marks::mark_texts(pieces, marks, size, at, n, used.byte);
+        return Step {
+            ok: top.ok,
+            used: Used {
+                pieces: used.pieces + n,
+                row: marks::larger(used.row, at + n),
+                byte: top.byte,
+            },
+        };
+    }
+    Step { ok: false, used }
+}
+
+// Marks the run whose place stands at word k of row i, and its texts.
+fn mark_run(
+    t: &[u32],
+    i: u32,
+    k: usize,
+    pieces: &[u32],
+    rows: &mut [u8],
+    marks: &mut [u64],
+    size: usize,
+    used: Used,
+) -> Step
     requires { ⌜ (i * 12 + 12 ≤ length (now t)) × (k < 11) ⌝ }
-    requires { ⌜ Bits (now marks) ⌝ }
-    ensures { λ r. ⌜ Marked r (now (marks .entry)) (RowsIn (length (now (marks .entry)) * 2) (placeAt (now (t .entry)) i k))
-        (among (placeAt (now (t .entry)) i k)) (now (marks .exit)) ⌝ }
+    requires { ⌜ Markable size (now pieces) (now rows) (now marks) ⌝ }
+    requires { ⌜ used .pieces ≤ 0x2000_0000_0000 ⌝ }
+    ensures { λ r. ⌜ RunPassed r size (now (pieces .entry)) (now (rows .entry)) (now (marks .entry)) used (placeAt (now (t .entry)) i k)
+        (now (rows .exit)) (now (marks .exit)) ⌝ }
 {
     let n = marks::word(t, i, k + 1);
     if n == 0 {
-        return true;
+        return Step { ok: true, used };
     }
     let at = marks::word(t, i, k);
-    marks::mark(marks, at, n)
+    mark_some(pieces, rows, marks, size, at, n, used)
 }
 
-// Marks both runs of row i.
-fn mark_runs(t: &[u32], i: u32, marks: &mut [u8]) -> bool
+// Marks both runs of row i, and their texts.
+pub fn mark_lists(
+    t: &[u32],
+    i: u32,
+    pieces: &[u32],
+    rows: &mut [u8],
+    marks: &mut [u64],
+    size: usize,
+    used: Used,
+) -> Step
     requires { ⌜ i * 12 + 12 ≤ length (now t) ⌝ }
-    requires { ⌜ Bits (now marks) ⌝ }
-    ensures { λ r. ⌜ Marked r (now (marks .entry)) (BothIn (length (now (marks .entry)) * 2) (entryAt (now (t .entry)) i))
-        (λ j. pieceUses j (entryAt (now (t .entry)) i)) (now (marks .exit)) ⌝ }
+    requires { ⌜ Markable size (now pieces) (now rows) (now marks) ⌝ }
+    requires { ⌜ used .pieces ≤ 0x1000_0000_0000 ⌝ }
+    ensures { λ r. ⌜ ListsPassed r size (now (pieces .entry)) (now (rows .entry)) (now (marks .entry)) used (entryAt (now (t .entry)) i)
+        (now (rows .exit)) (now (marks .exit)) ⌝ }
 {
-    if mark_run(t, i, marks::INTRO, marks) {
-        return mark_run(t, i, marks::OUTRO, marks);
+    let a = mark_run(t, i, marks::INTRO, pieces, rows, marks, size, used);
+    if a.ok {
+        return mark_run(t, i, marks::OUTRO, pieces, rows, marks, size, a.used);
     }
-    false
-}
-
-// Marks the runs of rows 1 to n.
-fn mark_chunk_runs(t: &[u32], n: u32, marks: &mut [u8]) -> bool
-    requires { ⌜ n * 12 + 12 ≤ length (now t) ⌝ }
-    requires { ⌜ Bits (now marks) ⌝ }
-    ensures { λ r. ⌜ Marked r (now (marks .entry)) ((k : ℕ) → k < n → BothIn (length (now (marks .entry)) * 2) (entryAt (now (t .entry)) (k + 1)))
-        (λ j. sum-to (λ k. pieceUses j (entryAt (now (t .entry)) (k + 1))) n) (now (marks .exit)) ⌝ }
-{
-    let mut k = 0;
-    while k < n {
-        k += 1;
-        if mark_runs(t, k, marks) {
-            continue;
-        }
-        return false;
-    }
-    true
-}
-
-// Whether the runs of rows 0 to n lie inside a table of as many pieces as there are marks, and no piece belongs to two. The marks are clear.
-fn runs_by(t: &[u32], n: u32, marks: &mut [u8]) -> bool
-    requires { ⌜ n * 12 + 12 ≤ length (now t) ⌝ }
-    requires { ⌜ ((b : ℕ) → getD (now marks) b 0 ≡ 0) ⌝ }
-    ensures { λ r. ⌜ Decides r (RunsApart (now (t .entry)) n (length (now (marks .entry)) * 2)) ⌝ }
-{
-    if mark_runs(t, 0, marks) {
-        return mark_chunk_runs(t, n, marks);
-    }
-    false
-}
-
-// The same with marks of its own, for a table of `rows` pieces.
-pub fn runs_apart(t: &[u32], n: u32, rows: usize) -> bool
-    requires { ⌜ n * 12 + 12 ≤ length (now t) ⌝ }
-    requires { ⌜ rows ≤ 2048 ⌝ }
-    ensures { λ r. ⌜ Decides r (RunsApart (now (t .entry)) n (rows * 2)) ⌝ }
-{
-    let mut marks = [0u8; 2048];
-    runs_by(t, n, &mut marks[..rows])
-}
-
-// How many pieces the two runs of row i have.
-fn piece_count(t: &[u32], i: u32) -> usize
-    requires { ⌜ i * 12 + 12 ≤ length (now t) ⌝ }
-    ensures { λ r. ⌜ (r ≡ pieceCount (entryAt (now (t .entry)) i)) × (r < 8589934592) ⌝ }
-{
-    marks::word(t, i, marks::INTRO + 1) + marks::word(t, i, marks::OUTRO + 1)
-}
-
-// Whether rows 0 to n have at most `limit` pieces together.
-pub fn pieces_within(t: &[u32], n: u32, limit: usize) -> bool
-    requires { ⌜ n * 12 + 12 ≤ length (now t) ⌝ }
-    requires { ⌜ limit ≤ 1024 ⌝ }
-    ensures { λ r. ⌜ Decides r (pieceTotal (now (t .entry)) n ≤ limit) ⌝ }
-{
-    let mut total = piece_count(t, 0);
-    let mut k = 0;
-    while k < n {
-        if total > limit {
-            return false;
-        }
-        k += 1;
-        total += piece_count(t, k);
-    }
-    if total > limit {
-        return false;
-    }
-    true
+    a
 }

@@ -1,104 +1,75 @@
-// Marks of texts: one text, which is read too, a piece, a run of pieces.
+// Marks of texts, and the byte behind them all: of one text, of a piece's, of those of a run of pieces.
 ghost use mathlib.Core.Path.{_≡_};
-ghost use Prim.Native.Nat.{ℕ, _+_, _*_, _≤_, _<_};
-ghost use lib.ListN.{length, getD, take, drop};
-ghost use Rattle.utf8.specs.Rfc3629.{utf8 as isText};
+ghost use Prim.Native.Nat.{_+_, _*_, _≤_, _<_};
+ghost use lib.ListN.{length};
 ghost use Rattle.memory.specs.Layout.{pieceAt};
 ghost use Rattle.memory.specs.WellFormed.{among, runUses};
-ghost use Rattle.marks.specs.Marks.{placeAt, RowsIn, TextAt, RunTexts, Bits, Marked};
+ghost use Rattle.text_marks.specs.Texts.{Enough, RunEnds, TextsPassed};
 
-// The bits of all bytes, joined: at least as large as each of them.
-fn joined_bits(s: &[u8]) -> u8
-    ensures { λ r. ⌜ ((j : ℕ) → j < length (now (s .entry)) → getD (now (s .entry)) j 0 ≤ r) ⌝ }
-{
-    let mut bits: u8 = 0;
-    let mut i = 0;
-    while i < s.len() {
-        bits |= s[i];
-        i += 1;
-    }
-    bits
+// Whether texts lie inside the store and apart from those before; and the byte behind them all.
+pub struct Top {
+    pub ok: bool,
+    pub byte: usize,
 }
 
-// Whether s is UTF-8. ASCII, however short, is told without a test of each byte.
-fn text_valid(s: &[u8]) -> bool
-    ensures { λ r. ⌜ r ≡ isText (now (s .entry)) ⌝ }
+// Marks one text of a store of `size` bytes.
+pub fn mark_text(marks: &mut [u64], size: usize, at: usize, n: usize, byte: usize) -> Top
+    requires { ⌜ Enough size (now marks) ⌝ }
+    requires { ⌜ (at < 4294967296) × (n < 4294967296) ⌝ }
+    ensures { λ r. ⌜ TextsPassed r size (now (marks .entry)) byte (λ w. at + n ≤ w) (among (at, n)) (now (marks .exit)) ⌝ }
 {
-    if joined_bits(s) < 0x80 {
-        return true;
+    let end = at + n;
+    if end > size {
+        return Top { ok: false, byte };
     }
-    utf8::valid(s)
-}
-
-// Whether n bytes of the store from at on are UTF-8.
-fn part_valid(store: &[u8], at: usize, n: usize) -> bool
-    requires { ⌜ at + n ≤ length (now store) ⌝ }
-    ensures { λ r. ⌜ r ≡ isText (take n (drop at (now (store .entry)))) ⌝ }
-{
-    text_valid(&store[at..at + n])
-}
-
-// Marks one text, and reads it. False too if it is not UTF-8.
-pub fn mark_text(store: &[u8], marks: &mut [u8], at: usize, n: usize) -> bool
-    requires { ⌜ length (now marks) ≡ length (now store) ⌝ }
-    requires { ⌜ Bits (now marks) ⌝ }
-    ensures { λ r. ⌜ Marked r (now (marks .entry)) (TextAt (now (store .entry)) (at, n)) (among (at, n)) (now (marks .exit)) ⌝ }
-{
-    if marks::mark(marks, at, n) {
-        return part_valid(store, at, n);
+    if bit_marks::mark_range(marks, at, n) {
+        return Top {
+            ok: true,
+            byte: marks::larger(byte, end),
+        };
     }
-    false
+    Top { ok: false, byte }
 }
 
 // Marks the text of one row of the piece table.
-fn mark_piece(pieces: &[u32], store: &[u8], marks: &mut [u8], row: usize) -> bool
+fn mark_piece(pieces: &[u32], marks: &mut [u64], size: usize, row: usize, byte: usize) -> Top
     requires { ⌜ row * 2 + 2 ≤ length (now pieces) ⌝ }
-    requires { ⌜ length (now marks) ≡ length (now store) ⌝ }
-    requires { ⌜ Bits (now marks) ⌝ }
-    ensures { λ r. ⌜ Marked r (now (marks .entry)) (TextAt (now (store .entry)) (pieceAt (now (pieces .entry)) row))
+    requires { ⌜ Enough size (now marks) ⌝ }
+    ensures { λ r. ⌜ TextsPassed r size (now (marks .entry)) byte (λ w. pieceAt (now (pieces .entry)) row .0 + pieceAt (now (pieces .entry)) row .1 ≤ w)
         (among (pieceAt (now (pieces .entry)) row)) (now (marks .exit)) ⌝ }
 {
     let at = marks::wide(pieces[row * 2]);
     let n = marks::wide(pieces[row * 2 + 1]);
-    mark_text(store, marks, at, n)
+    mark_text(marks, size, at, n, byte)
 }
 
 // Marks the texts of n rows from at on.
-fn mark_texts(pieces: &[u32], store: &[u8], marks: &mut [u8], at: usize, n: usize) -> bool
-    requires { ⌜ RowsIn (length (now pieces)) (at, n) ⌝ }
-    requires { ⌜ length (now marks) ≡ length (now store) ⌝ }
-    requires { ⌜ Bits (now marks) ⌝ }
-    ensures { λ r. ⌜ Marked r (now (marks .entry)) (RunTexts (now (pieces .entry)) (now (store .entry)) (at, n))
+pub fn mark_texts(
+    pieces: &[u32],
+    marks: &mut [u64],
+    size: usize,
+    at: usize,
+    n: usize,
+    byte: usize,
+) -> Top
+    requires { ⌜ (at + n) * 2 ≤ length (now pieces) ⌝ }
+    requires { ⌜ Enough size (now marks) ⌝ }
+    ensures { λ r. ⌜ TextsPassed r size (now (marks .entry)) byte (RunEnds (now (pieces .entry)) (at, n))
         (λ b. runUses (now (pieces .entry)) b (at, n)) (now (marks .exit)) ⌝ }
 {
+    let mut top = byte;
     let mut i = 0;
     while i < n {
-        if mark_piece(pieces, store, marks, at + i) {
+        let r = mark_piece(pieces, marks, size, at + i, top);
+        if r.ok {
+            top = r.byte;
             i += 1;
         } else {
-            return false;
+            return Top { ok: false, byte };
         }
     }
-    true
-}
-
-// Marks the texts of the run whose place stands at word k of row i.
-pub fn mark_run_texts(
-    t: &[u32],
-    i: u32,
-    k: usize,
-    pieces: &[u32],
-    store: &[u8],
-    marks: &mut [u8],
-) -> bool
-    requires { ⌜ (i * 12 + 12 ≤ length (now t)) × (k < 11) ⌝ }
-    requires { ⌜ RowsIn (length (now pieces)) (placeAt (now t) i k) ⌝ }
-    requires { ⌜ length (now marks) ≡ length (now store) ⌝ }
-    requires { ⌜ Bits (now marks) ⌝ }
-    ensures { λ r. ⌜ Marked r (now (marks .entry)) (RunTexts (now (pieces .entry)) (now (store .entry)) (placeAt (now (t .entry)) i k))
-        (λ b. runUses (now (pieces .entry)) b (placeAt (now (t .entry)) i k)) (now (marks .exit)) ⌝ }
-{
-    let at = marks::word(t, i, k);
-    let n = marks::word(t, i, k + 1);
-    mark_texts(pieces, store, marks, at, n)
+    Top {
+        ok: true,
+        byte: top,
+    }
 }

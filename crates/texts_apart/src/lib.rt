@@ -1,105 +1,163 @@
-// Whether the texts of a chunk table lie inside the store, apart from each other, and are UTF-8.
+// Whether the runs and texts of a chunk table lie inside the piece table and the store and apart from each other, and what they use: one pass over the rows.
 ghost use mathlib.Core.Path.{_≡_};
 ghost use Prim.Native.Nat.{ℕ, _+_, _*_, _≤_, _<_};
-ghost use lib.ListN.{length, getD};
+ghost use lib.ListN.{length};
 ghost use Rattle.table.specs.Order.{entryAt};
-ghost use Rattle.memory.specs.WellFormed.{replacementUses, listUses, byteUses};
-ghost use Rattle.counts.specs.Counts.{Decides, sum-to};
-ghost use Rattle.marks.specs.Marks.{placeAt, BothIn, RunsApart, BothTexts, ReplacementText, EntryTexts, TextsApart, Bits, Marked};
+ghost use Rattle.memory.specs.WellFormed.{replacementUses};
+ghost use Rattle.marks.specs.Marks.{placeAt, markAt};
+ghost use Rattle.bit_marks.specs.BitMarks.{bitAt};
+ghost use Rattle.text_marks.specs.Texts.{Enough, TextsPassed};
+ghost use Rattle.runs_apart.specs.Runs.{Markable};
+ghost use Rattle.texts_apart.specs.Places.{TextBelow, EntryPassed, ChunksPassed, Places};
+use memory_used::Used;
+use runs_apart::Step;
+use text_marks::Top;
 
 // In a row's `text_at`: no replacement.
 const NONE: usize = 0xFFFF_FFFF;
 
 const TEXT: usize = 8;
 
-// Marks the texts of both runs of row i.
-fn mark_lists(t: &[u32], i: u32, pieces: &[u32], store: &[u8], marks: &mut [u8]) -> bool
-    requires { ⌜ i * 12 + 12 ≤ length (now t) ⌝ }
-    requires { ⌜ BothIn (length (now pieces)) (entryAt (now t) i) ⌝ }
-    requires { ⌜ length (now marks) ≡ length (now store) ⌝ }
-    requires { ⌜ Bits (now marks) ⌝ }
-    ensures { λ r. ⌜ Marked r (now (marks .entry)) (BothTexts (now (pieces .entry)) (now (store .entry)) (entryAt (now (t .entry)) i))
-        (λ b. listUses (now (pieces .entry)) b (entryAt (now (t .entry)) i)) (now (marks .exit)) ⌝ }
-{
-    if text_marks::mark_run_texts(t, i, marks::INTRO, pieces, store, marks) {
-        return text_marks::mark_run_texts(t, i, marks::OUTRO, pieces, store, marks);
-    }
-    false
-}
-
 // Marks the replacement of row i, if it has one.
-fn mark_replacement(t: &[u32], i: u32, store: &[u8], marks: &mut [u8]) -> bool
+fn mark_replacement(t: &[u32], i: u32, marks: &mut [u64], size: usize, byte: usize) -> Top
     requires { ⌜ i * 12 + 12 ≤ length (now t) ⌝ }
-    requires { ⌜ length (now marks) ≡ length (now store) ⌝ }
-    requires { ⌜ Bits (now marks) ⌝ }
-    ensures { λ r. ⌜ Marked r (now (marks .entry)) (ReplacementText (now (store .entry)) (placeAt (now (t .entry)) i 8))
+    requires { ⌜ Enough size (now marks) ⌝ }
+    ensures { λ r. ⌜ TextsPassed r size (now (marks .entry)) byte (TextBelow (placeAt (now (t .entry)) i 8))
         (λ b. replacementUses b (placeAt (now (t .entry)) i 8)) (now (marks .exit)) ⌝ }
 {
     let at = marks::word(t, i, TEXT);
     if at == NONE {
-        return true;
+        return Top { ok: true, byte };
     }
     let n = marks::word(t, i, TEXT + 1);
-    text_marks::mark_text(store, marks, at, n)
+    text_marks::mark_text(marks, size, at, n, byte)
 }
 
-// Marks all texts of row i.
-fn mark_entry(t: &[u32], i: u32, pieces: &[u32], store: &[u8], marks: &mut [u8]) -> bool
+// Marks all runs and texts of row i.
+fn mark_entry(
+    t: &[u32],
+    i: u32,
+    pieces: &[u32],
+    rows: &mut [u8],
+    marks: &mut [u64],
+    size: usize,
+    used: Used,
+) -> Step
     requires { ⌜ i * 12 + 12 ≤ length (now t) ⌝ }
-    requires { ⌜ BothIn (length (now pieces)) (entryAt (now t) i) ⌝ }
-    requires { ⌜ length (now marks) ≡ length (now store) ⌝ }
-    requires { ⌜ Bits (now marks) ⌝ }
-    ensures { λ r. ⌜ Marked r (now (marks .entry)) (EntryTexts (now (pieces .entry)) (now (store .entry)) (entryAt (now (t .entry)) i))
-        (λ b. byteUses (now (pieces .entry)) b (entryAt (now (t .entry)) i)) (now (marks .exit)) ⌝ }
+    requires { ⌜ Markable size (now pieces) (now rows) (now marks) ⌝ }
+    requires { ⌜ used .pieces ≤ 0x1000_0000_0000 ⌝ }
+    ensures { λ r. ⌜ EntryPassed r size (now (pieces .entry)) (now (rows .entry)) (now (marks .entry)) used (entryAt (now (t .entry)) i)
+        (now (rows .exit)) (now (marks .exit)) ⌝ }
 {
-    if mark_lists(t, i, pieces, store, marks) {
-        return mark_replacement(t, i, store, marks);
+    let a = runs_apart::mark_lists(t, i, pieces, rows, marks, size, used);
+    if a.ok {
+        let top = mark_replacement(t, i, marks, size, a.used.byte);
+        return Step {
+            ok: top.ok,
+            used: Used {
+                pieces: a.used.pieces,
+                row: a.used.row,
+                byte: top.byte,
+            },
+        };
     }
-    false
+    a
 }
 
-// Marks all texts of rows 1 to n.
-fn mark_chunk_texts(t: &[u32], n: u32, pieces: &[u32], store: &[u8], marks: &mut [u8]) -> bool
+// Marks all runs and texts of rows 1 to n.
+fn mark_chunks(
+    t: &[u32],
+    n: u32,
+    pieces: &[u32],
+    rows: &mut [u8],
+    marks: &mut [u64],
+    size: usize,
+    used: Used,
+) -> Step
     requires { ⌜ n * 12 + 12 ≤ length (now t) ⌝ }
-    requires { ⌜ ((k : ℕ) → k < n → BothIn (length (now pieces)) (entryAt (now t) (k + 1))) ⌝ }
-    requires { ⌜ length (now marks) ≡ length (now store) ⌝ }
-    requires { ⌜ Bits (now marks) ⌝ }
-    ensures { λ r. ⌜ Marked r (now (marks .entry)) ((k : ℕ) → k < n → EntryTexts (now (pieces .entry)) (now (store .entry)) (entryAt (now (t .entry)) (k + 1)))
-        (λ b. sum-to (λ k. byteUses (now (pieces .entry)) b (entryAt (now (t .entry)) (k + 1))) n) (now (marks .exit)) ⌝ }
+    requires { ⌜ Markable size (now pieces) (now rows) (now marks) ⌝ }
+    requires { ⌜ used .pieces ≤ 4096 ⌝ }
+    ensures { λ r. ⌜ ChunksPassed r size (now (t .entry)) (now (pieces .entry)) (now (rows .entry)) (now (marks .entry)) n used (now (rows .exit)) (now (marks .exit)) ⌝ }
 {
+    let mut count = used.pieces;
+    let mut row = used.row;
+    let mut byte = used.byte;
     let mut k = 0;
     while k < n {
         k += 1;
-        if mark_entry(t, k, pieces, store, marks) {
+        let a = mark_entry(
+            t,
+            k,
+            pieces,
+            rows,
+            marks,
+            size,
+            Used {
+                pieces: count,
+                row,
+                byte,
+            },
+        );
+        if a.ok {
+            count = a.used.pieces;
+            row = a.used.row;
+            byte = a.used.byte;
             continue;
         }
-        return false;
+        return a;
     }
-    true
+    Step {
+        ok: true,
+        used: Used {
+            pieces: count,
+            row,
+            byte,
+        },
+    }
 }
 
-// Whether the texts of rows 0 to n lie inside a store of as many bytes as there are marks, are UTF-8, and no byte belongs to two. The marks are clear.
-fn texts_by(t: &[u32], n: u32, pieces: &[u32], store: &[u8], marks: &mut [u8]) -> bool
+// Whether the runs and texts of rows 0 to n lie inside the piece table and a store of `size` bytes and apart, and what they use. The marks are clear.
+fn places_by(
+    t: &[u32],
+    n: u32,
+    pieces: &[u32],
+    rows: &mut [u8],
+    marks: &mut [u64],
+    size: usize,
+) -> Step
     requires { ⌜ n * 12 + 12 ≤ length (now t) ⌝ }
-    requires { ⌜ RunsApart (now t) n (length (now pieces)) ⌝ }
-    requires { ⌜ length (now marks) ≡ length (now store) ⌝ }
-    requires { ⌜ ((b : ℕ) → getD (now marks) b 0 ≡ 0) ⌝ }
-    ensures { λ r. ⌜ Decides r (TextsApart (now (t .entry)) (now (pieces .entry)) (now (store .entry)) n) ⌝ }
+    requires { ⌜ Markable size (now pieces) (now rows) (now marks) ⌝ }
+    requires { ⌜ ((j : ℕ) → markAt (now rows) j ≡ 0) × ((b : ℕ) → bitAt (now marks) b ≡ 0) ⌝ }
+    ensures { λ r. ⌜ Places r (now (t .entry)) (now (pieces .entry)) n size ⌝ }
 {
-    if mark_lists(t, 0, pieces, store, marks) {
-        return mark_chunk_texts(t, n, pieces, store, marks);
+    let a = runs_apart::mark_lists(
+        t,
+        0,
+        pieces,
+        rows,
+        marks,
+        size,
+        Used {
+            pieces: 0,
+            row: 0,
+            byte: 0,
+        },
+    );
+    if a.ok {
+        return mark_chunks(t, n, pieces, rows, marks, size, a.used);
     }
-    false
+    a
 }
 
-// The same with marks of its own, for a store of at most 32,768 bytes.
-pub fn texts_apart(t: &[u32], n: u32, pieces: &[u32], store: &[u8]) -> bool
+// The same with marks of its own, for at most 2,048 piece rows and 32,768 bytes.
+pub fn places_apart(t: &[u32], n: u32, pieces: &[u32], size: usize) -> Step
     requires { ⌜ n * 12 + 12 ≤ length (now t) ⌝ }
-    requires { ⌜ RunsApart (now t) n (length (now pieces)) ⌝ }
-    requires { ⌜ length (now store) ≤ 32768 ⌝ }
-    ensures { λ r. ⌜ Decides r (TextsApart (now (t .entry)) (now (pieces .entry)) (now (store .entry)) n) ⌝ }
+    requires { ⌜ length (now pieces) ≤ 4096 ⌝ }
+    requires { ⌜ size ≤ 32768 ⌝ }
+    ensures { λ r. ⌜ Places r (now (t .entry)) (now (pieces .entry)) n size ⌝ }
 {
-    let size = store.len();
-    let mut marks = [0u8; 32768];
-    texts_by(t, n, pieces, store, &mut marks[..size])
+    let count = pieces.len() / 2;
+    let mut rows = [0u8; 2048];
+    let mut marks = [0u64; 512];
+    places_by(t, n, pieces, &mut rows[..count], &mut marks[..512], size)
 }

@@ -1,35 +1,77 @@
 -- How the parts of the check make the whole.
-use mathlib.Core.Path.{_≡_}
-use mathlib.Core.Bool.{Bool, true}
-use mathlib.Core.List.{List}
-use Prim.Native.Nat.{ℕ, _*_, _/_, _≤_}
+use mathlib.Core.Path.{_≡_, sym, subst}
+use mathlib.Core.Bool.{Bool, true, false}
+use mathlib.Core.List.{List, []}
+use Prim.Native.Nat.{ℕ, _+_, _*_, _/_, _≤_, _<_}
 use native.Mathlib.Omega.{arith}
 use lib.ListN.{length}
 use Rattle.utf8.specs.Rfc3629.{utf8}
-use Rattle.table.specs.Order.{countOf, Linked}
-use Rattle.memory.specs.WellFormed.{Sized, Full, WellFormed, Taken}
+use Rattle.table.specs.Order.{entryAt, countOf, Linked}
+use Rattle.memory.specs.WellFormed.{Full, WellFormed, Taken}
 use Rattle.counts.specs.Counts.{Decides}
-use Rattle.counts.specs.Sums.{decides-by}
+use Rattle.counts.specs.Sums.{is-yes, is-no, decides-by}
 use Rattle.spans.specs.Spans.{Spans, Edges}
-use Rattle.marks.specs.Marks.{RunsApart, pieceTotal, TextsApart}
+use Rattle.memory_used.specs.declared.Used.{Used}
+use Rattle.memory_used.specs.Above.{Above}
+use Rattle.memory_used.proofs.Below.{run-below, entry-below}
+use Rattle.marks.specs.Marks.{pieceTotal}
+use Rattle.texts_apart.specs.Places.{Placed, Counted}
+use Rattle.texts_valid.specs.Valid.{TextsValid}
+use Rattle.well_formed.specs.declared.Seen.{Seen}
+use Rattle.well_formed.specs.declared.Seen.the-variants.{NoDesk, Desk}
+use Rattle.well_formed.specs.Seen.{Sees}
+use Rattle.well_formed.specs.Chunks.{all-entries}
 use Rattle.well_formed.specs.Rows.{Shaped, Chunked, Pieced}
-use Rattle.well_formed.specs.Bridge.{rows-formed, formed-rows}
-
--- the rows of the piece table are all of it
-pub whole-rows : {t p s : List ℕ} → Sized t p s → length p / 2 * 2 ≡ length p
-whole-rows z = omega (arith, z .whole-pieces)
+use Rattle.well_formed.specs.Bridge.{count-is, rows-formed, formed-rows}
 
 -- n is the count that was read
 pub chunked-yes : {q : Bool} (source t : List ℕ) (n : ℕ) → n ≡ countOf t → Linked t → Spans t n (length source) → Decides q (Edges source t n) → Decides q (Chunked source t)
 chunked-yes source t n e l x d = decides-by (λ y. record { linked = l; spans = rw e at x; edges = rw e at y }) (λ c. rw e (c .edges)) d
 
-pub pieced-yes : {q : Bool} (t p s : List ℕ) (n : ℕ) → n ≡ countOf t → pieceTotal t n ≤ length p / 4 → RunsApart t n (length p) → Decides q (TextsApart t p s n) → Decides q (Pieced t p s)
-pieced-yes t p s n e k r d = decides-by (λ y. record { count = rw e at k; runs = rw e at r; texts = rw e at y }) (λ c. rw e (c .texts)) d
+-- ── what is seen ──
+module _ (t p s : List ℕ) where
+  -- what was asked may be said in another way
+  pub sees-by : {P Q : Type 0} → (P → Q) → (Q → P) → (r : Seen) → Sees P t p s r → Sees Q t p s r
+  sees-by f g NoDesk n = λ q. n (g q)
+  sees-by f g (Desk u) x = (f (x .0), x .1)
 
-pub formed-yes : {q : Bool} {source t p s : List ℕ} → Shaped source t p s → utf8 source ≡ true → Chunked source t → Decides q (Pieced t p s) → Decides q (WellFormed source t p s)
-formed-yes {source = source} {t = t} {p = p} {s = s} z u c d =
-    decides-by (λ y. rows-formed source t p s (record { shaped = z; text = u; chunked = c; pieced = y })) (λ w. formed-rows source t p s w .pieced) d
+  pub sees-yes : {P : Type 0} {r : Seen} {u : Used} → r ≡ Desk u → Sees P t p s r → Decides true P
+  sees-yes {P} e x = is-yes (subst (Sees P t p s) e x .0)
 
--- the full sizes, and what is checked of every size
-pub taken-yes : {q : Bool} {source t p s : List ℕ} → Full t p s → Decides q (WellFormed source t p s) → Decides q (Taken source t p s)
-taken-yes z d = decides-by (λ w. record { full = z; well-formed = w }) (λ x. x .well-formed) d
+  pub sees-no : {P : Type 0} {r : Seen} → r ≡ NoDesk → Sees P t p s r → Decides false P
+  sees-no {P} e x = is-no (subst (Sees P t p s) e x)
+
+  -- a bound above runs and texts is one of what the desk uses
+  pub above-is : {n : ℕ} {u : Used} → Linked t → n ≡ countOf t → Counted t p n (length s) u → u .pieces ≤ length p / 4 → Above t p s u
+  above-is {n} {u} l e c few =
+      let hr : u .row * 2 ≤ length p = omega (arith, c .row) in
+      let b = rw e at (c .below) in
+      record {
+        pieces = rw (count-is [] t p s l) (omega (arith, rw e at (c .pieces)));
+        few = few;
+        readable = record {
+          linked = l;
+          desk = record {
+            intro = run-below p s (u .byte) (u .row) hr (c .byte) (entryAt t 0 .intro) (b .desk .0);
+            outro = run-below p s (u .byte) (u .row) hr (c .byte) (entryAt t 0 .outro) (b .desk .1);
+          };
+          chunks = all-entries t l (λ k h. entry-below p s (u .byte) (u .row) hr (c .byte) (entryAt t (k + 1)) (b .chunks k h));
+        };
+        row = hr;
+        byte = c .byte;
+      }
+
+  pub pieced-yes : {n : ℕ} {u : Used} → Linked t → n ≡ countOf t → Placed t p n (length s) → Counted t p n (length s) u → u .pieces ≤ length p / 4 → TextsValid t p s n
+      → Pieced t p s × Above t p s u
+  pieced-yes l e x c few v = (record { count = rw (sym e) (omega (arith, c .pieces)); placed = rw e at x; texts = rw e at v }, above-is l e c few)
+
+  pub count-over : {n limit : ℕ} {u : Used} → n ≡ countOf t → Counted t p n (length s) u → limit < u .pieces → pieceTotal t (countOf t) ≤ limit → ⊥
+  count-over e c h x = omega (arith, rw e at (c .pieces))
+
+  pub formed-sees : (source : List ℕ) → Shaped source t p s → utf8 source ≡ true → Chunked source t → (r : Seen) → Sees (Pieced t p s) t p s r → Sees (WellFormed source t p s) t p s r
+  formed-sees source z u c r =
+      sees-by (λ y. rows-formed source t p s (record { shaped = z; text = u; chunked = c; pieced = y })) (λ w. formed-rows source t p s w .pieced) r
+
+  -- the full sizes, and what is checked of every size
+  pub taken-sees : (source : List ℕ) → Full t p s → (r : Seen) → Sees (WellFormed source t p s) t p s r → Sees (Taken source t p s) t p s r
+  taken-sees source z r = sees-by (λ w. record { full = z; well-formed = w }) (λ x. x .well-formed) r

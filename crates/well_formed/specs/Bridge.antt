@@ -2,99 +2,40 @@
 use mathlib.Core.Path.{_≡_, refl, ap, sym, subst, _∙_}
 use mathlib.Core.Bool.{true}
 use mathlib.Core.List.{List, [], _∷_, map}
-use Prim.Native.Nat.{ℕ, _+_, _≤_}
+use Prim.Native.Nat.{ℕ, _+_, _*_, _/_, _≤_}
 use native.Mathlib.Omega.{arith}
-use native.Mathlib.Decide.{ℕ-discrete}
-use borrow.Author.Tests.{eq-eqb, ne-eqb, le-leb, leb-true}
-use lib.Dec.{leb}
 use lib.ListN.{length, length-map}
 use Rattle.utf8.specs.Rfc3629.{utf8}
 use Rattle.utf8.specs.Texts.{utf8-nil}
 use Rattle.utf8.specs.Boundaries.{between-past}
-use Rattle.utf8.specs.Chars.{All}
 use Rattle.table.specs.Ring.{Each}
-use Rattle.table.specs.Order.{Entry, entryAt, order, countOf, Linked, order-length}
+use Rattle.table.specs.Order.{entryAt, order, countOf, Linked, order-length}
 use Rattle.model.specs.Text.{sum}
 use Rattle.model.specs.Chunk.{Chunk, Span}
-use Rattle.model.specs.Limits.{chunk-pieces, piece-count, byte-count}
-use Rattle.model.specs.WellFormed.{Valid, ValidReplacement, ValidTexts, covers, Tiled, Covered, Formed}
-use Rattle.memory.specs.Layout.{NONE, Place, bytesAt, pieceAt, runOf, replacementOf, textsOf, chunkOf, magicStringOf}
-use Rattle.memory.specs.WellFormed.{RunIn, ReplacementIn, RunsIn, EntryIn, Readable, pieceUses, byteUses, Disjoint, WellFormed}
-use Rattle.memory.specs.Laws.{all-tabulate, tabulate-all, length-tabulate, chunk-count, source-of, keeps-within, keeps-desk}
+use Rattle.model.specs.Limits.{chunk-pieces, piece-count}
+use Rattle.model.specs.WellFormed.{covers, Tiled, Covered, Formed}
+use Rattle.memory.specs.Layout.{Place, bytesAt, pieceAt, runOf, chunkOf, magicStringOf}
+use Rattle.memory.specs.WellFormed.{Readable, pieceUses, byteUses, Disjoint, WellFormed}
+use Rattle.memory.specs.Laws.{length-tabulate, chunk-count, source-of, keeps-within, keeps-desk}
 use Rattle.counts.specs.Counts.{sum-to, indicator}
 use Rattle.counts.specs.Sums.{sum-same}
 use Rattle.counts.specs.Once.{In, linked-once}
 use Rattle.spans.specs.Spans.{startsOf, endsOf, Empty, Spans, Edges}
 use Rattle.spans.specs.Spans as spans
-use Rattle.marks.specs.Marks.{RowsIn, BothIn, RunsApart, pieceCount, pieceTotal, RunTexts, BothTexts, ReplacementText, EntryTexts, TextsApart}
+use Rattle.memory_used.proofs.Below.{run-inside, entry-inside, inside-run, inside-entry}
+use Rattle.marks.specs.Marks.{pieceCount, pieceTotal}
+use Rattle.texts_apart.specs.Places.{Placed}
+use Rattle.texts_valid.specs.Valid.{TextsValid}
 use Rattle.well_formed.specs.Rows.{Chunked, ByRows}
 use Rattle.well_formed.specs.Chunks.{chunksOf, sum-entries, all-entries, entries-all, sum-chunks, all-chunks, chunks-all, length-chunks}
 use Rattle.counts.proofs.Bytes.{bytes-fit}
-
--- ── runs and texts ──
-module _ (p s : List ℕ) where
-  run-in : (r : Place) → RowsIn (length p) r → RunTexts p s r → RunIn p s r
-  unfolding RowsIn RunTexts RunIn
-  run-in r h k i l = record { row = h i l; text = k i l .0 }
-
-  run-valid : (r : Place) → RunTexts p s r → All Valid (runOf p s r)
-  unfolding RunTexts runOf
-  run-valid r k = all-tabulate (λ i. bytesAt s (pieceAt p (r .0 + i))) (r .1) (λ i l. k i l .1)
-
-  in-rows : (r : Place) → RunIn p s r → RowsIn (length p) r
-  unfolding RowsIn RunIn
-  in-rows r h i l = h i l .row
-
-  in-texts : (r : Place) → RunIn p s r → All Valid (runOf p s r) → RunTexts p s r
-  unfolding RunTexts RunIn runOf
-  in-texts r h v i l = (h i l .text, tabulate-all (λ i. bytesAt s (pieceAt p (r .0 + i))) (r .1) v i l)
-
-  runs-in : (e : Entry) → BothIn (length p) e → BothTexts p s e → RunsIn p s e
-  runs-in e h k = record { intro = run-in (e .intro) (h .0) (k .0); outro = run-in (e .outro) (h .1) (k .1) }
-
-  in-both : (e : Entry) → RunsIn p s e → BothIn (length p) e
-  in-both e h = (in-rows (e .intro) (h .intro), in-rows (e .outro) (h .outro))
-
-  both-texts : (e : Entry) → RunsIn p s e → All Valid (runOf p s (e .intro)) → All Valid (runOf p s (e .outro)) → BothTexts p s e
-  both-texts e h u v = (in-texts (e .intro) (h .intro) u, in-texts (e .outro) (h .outro) v)
-
-replacement-in : (s : List ℕ) (r : Place) → ReplacementText s r → ReplacementIn s r
-unfolding ReplacementText ReplacementIn
-replacement-in s r h e = h e .0
-
-replacement-valid : (s : List ℕ) (r : Place) → ReplacementText s r → ValidReplacement (replacementOf s r)
-unfolding ReplacementText replacementOf
-replacement-valid s r h =
-    elim (ℕ-discrete (r .0) NONE) [
-      | yes e ↦ rw (eq-eqb (r .0) NONE e) tt
-      | no e ↦ rw (ne-eqb (r .0) NONE e) (h e .1)
-    ]
-
-replacement-text : (s : List ℕ) (r : Place) → ReplacementIn s r → ValidReplacement (replacementOf s r) → ReplacementText s r
-unfolding ReplacementText ReplacementIn replacementOf
-replacement-text s r h v e = (h e, rw (ne-eqb (r .0) NONE e) at v)
-
-module _ (p s : List ℕ) (e : Entry) where
-  entry-in : BothIn (length p) e → EntryTexts p s e → EntryIn p s e
-  entry-in h k = record { runs = runs-in p s e h (k .0); replacement = replacement-in s (e .text) (k .1) }
-
-  entry-valid : EntryTexts p s e → ValidTexts (textsOf p s e)
-  entry-valid k =
-      record {
-        intro = run-valid p s (e .intro) (k .0 .0);
-        outro = run-valid p s (e .outro) (k .0 .1);
-        replacement = replacement-valid s (e .text) (k .1);
-      }
-
-  entry-texts : EntryIn p s e → ValidTexts (textsOf p s e) → EntryTexts p s e
-  entry-texts h v = (both-texts p s e (h .runs) (v .intro) (v .outro), replacement-text s (e .text) (h .replacement) (v .replacement))
 
 -- ── the pieces, counted ──
 run-count : (p s : List ℕ) (r : Place) → length (runOf p s r) ≡ r .1
 unfolding runOf
 run-count p s r = length-tabulate (λ k. bytesAt s (pieceAt p (r .0 + k))) (r .1)
 
-count-is : (source t p s : List ℕ) → Linked t → piece-count (magicStringOf source t p s) ≡ pieceTotal t (countOf t)
+pub count-is : (source t p s : List ℕ) → Linked t → piece-count (magicStringOf source t p s) ≡ pieceTotal t (countOf t)
 unfolding magicStringOf
 count-is source t p s l =
     let c : sum chunk-pieces (chunksOf t p s) ≡ sum-to (λ k. pieceCount (entryAt t (k + 1))) (countOf t) =
@@ -178,19 +119,24 @@ module _ (t p s : List ℕ) (l : Linked t) where
 
 -- ── the whole sentence ──
 module _ (source t p s : List ℕ) where
-  rows-readable : Linked t → RunsApart t (countOf t) (length p) → TextsApart t p s (countOf t) → Readable t p s
-  rows-readable l r x =
+  rows-readable : Linked t → Placed t p (countOf t) (length s) → Readable t p s
+  rows-readable l x =
+      let hr : length p / 2 * 2 ≤ length p = omega arith in
+      let hb : length s ≤ length s = omega arith in
       record {
         linked = l;
-        desk = runs-in p s (entryAt t 0) (r .desk) (x .desk);
-        chunks = all-entries t l (λ k h. entry-in p s (entryAt t (k + 1)) (r .chunks k h) (x .chunks k h));
+        desk = record {
+          intro = run-inside p s (length s) (length p / 2) hr hb (entryAt t 0 .intro) (x .below .desk .0);
+          outro = run-inside p s (length s) (length p / 2) hr hb (entryAt t 0 .outro) (x .below .desk .1);
+        };
+        chunks = all-entries t l (λ k h. entry-inside p s (length s) (length p / 2) hr hb (entryAt t (k + 1)) (x .below .chunks k h));
       }
 
-  rows-disjoint : Linked t → RunsApart t (countOf t) (length p) → TextsApart t p s (countOf t) → Disjoint t p
-  rows-disjoint l r x =
+  rows-disjoint : Linked t → Placed t p (countOf t) (length s) → Disjoint t p
+  rows-disjoint l x =
       record {
-        pieces = λ j. rw (sum-entries t l (pieceUses j)) (r .once j);
-        bytes = λ b. rw (sum-entries t l (byteUses p b)) (x .once b);
+        pieces = λ j. rw (sum-entries t l (pieceUses j)) (x .apart .pieces j);
+        bytes = λ b. rw (sum-entries t l (byteUses p b)) (x .apart .bytes b);
       }
 
   rows-desk : ByRows source t p s → Formed (magicStringOf source t p s)
@@ -201,17 +147,17 @@ module _ (source t p s : List ℕ) where
       record {
         source = h .text;
         covered = spans-covered t p s l source (h .chunked .spans) (h .chunked .edges);
-        intro = run-valid p s (entryAt t 0 .intro) (x .desk .0);
-        outro = run-valid p s (entryAt t 0 .outro) (x .desk .1);
-        texts = all-chunks t l p s (λ k g. entry-valid p s (entryAt t (k + 1)) (x .chunks k g));
+        intro = x .desk .intro;
+        outro = x .desk .outro;
+        texts = all-chunks t l p s (λ k g. x .chunks k g);
       }
 
   pub rows-formed : ByRows source t p s → WellFormed source t p s
   rows-formed h =
       let l = h .chunked .linked in
       let z = h .shaped .sized in
-      let r = rows-readable l (h .pieced .runs) (h .pieced .texts) in
-      let d = rows-disjoint l (h .pieced .runs) (h .pieced .texts) in
+      let r = rows-readable l (h .pieced .placed) in
+      let d = rows-disjoint l (h .pieced .placed) in
       record {
         sized = z;
         readable = r;
@@ -229,15 +175,23 @@ module _ (source t p s : List ℕ) where
         };
       }
 
-  formed-texts : Readable t p s → Disjoint t p → Formed (magicStringOf source t p s) → TextsApart t p s (countOf t)
-  unfolding magicStringOf
-  formed-texts r d f =
+  formed-placed : Readable t p s → Disjoint t p → Placed t p (countOf t) (length s)
+  formed-placed r d =
       let l = r .linked in
       record {
-        desk = both-texts p s (entryAt t 0) (r .desk) (f .intro) (f .outro);
-        chunks = λ k h. entry-texts p s (entryAt t (k + 1)) (entries-all t l (r .chunks) k h) (chunks-all t l p s (f .texts) k h);
-        once = λ b. rw (sum-entries t l (byteUses p b)) at (d .bytes b);
+        below = record {
+          desk = (inside-run p s (entryAt t 0 .intro) (r .desk .intro), inside-run p s (entryAt t 0 .outro) (r .desk .outro));
+          chunks = λ k h. inside-entry p s (entryAt t (k + 1)) (entries-all t l (r .chunks) k h);
+        };
+        apart = record {
+          pieces = λ j. rw (sum-entries t l (pieceUses j)) at (d .pieces j);
+          bytes = λ b. rw (sum-entries t l (byteUses p b)) at (d .bytes b);
+        };
       }
+
+  formed-texts : Linked t → Formed (magicStringOf source t p s) → TextsValid t p s (countOf t)
+  unfolding magicStringOf
+  formed-texts l f = record { desk = record { intro = f .intro; outro = f .outro }; chunks = λ k h. chunks-all t l p s (f .texts) k h }
 
   formed-chunked : Linked t → Formed (magicStringOf source t p s) → Chunked source t
   unfolding magicStringOf
@@ -265,11 +219,7 @@ module _ (source t p s : List ℕ) where
         chunked = formed-chunked l f;
         pieced = record {
           count = rw (count-is source t p s l) at (k .pieces);
-          runs = record {
-            desk = in-both p s (entryAt t 0) (r .desk);
-            chunks = λ i h. in-both p s (entryAt t (i + 1)) (entries-all t l (r .chunks) i h .runs);
-            once = λ j. rw (sum-entries t l (pieceUses j)) at (d .pieces j);
-          };
-          texts = formed-texts r d f;
+          placed = formed-placed r d;
+          texts = formed-texts l f;
         };
       }

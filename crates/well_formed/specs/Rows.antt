@@ -8,7 +8,9 @@ use Rattle.utf8.specs.Rfc3629.{utf8}
 use Rattle.table.specs.Order.{countOf, Linked}
 use Rattle.memory.specs.WellFormed.{Sized}
 use Rattle.spans.specs.Spans.{Spans, Edges}
-use Rattle.marks.specs.Marks.{RunsApart, pieceTotal, TextsApart}
+use Rattle.marks.specs.Marks.{pieceTotal}
+use Rattle.texts_apart.specs.Places.{Placed}
+use Rattle.texts_valid.specs.Valid.{TextsValid}
 
 -- tables of a desk's lengths, and a source that is short enough
 pub record Shaped (source t p s : List ℕ) : Type 0 where
@@ -24,8 +26,8 @@ pub record Chunked (source t : List ℕ) : Type 0 where
 -- runs and texts
 pub record Pieced (t p s : List ℕ) : Type 0 where
   pub count : pieceTotal t (countOf t) ≤ length p / 4
-  pub runs : RunsApart t (countOf t) (length p)
-  pub texts : TextsApart t p s (countOf t)
+  pub placed : Placed t p (countOf t) (length s)
+  pub texts : TextsValid t p s (countOf t)
 
 pub record ByRows (source t p s : List ℕ) : Type 0 where
   pub shaped : Shaped source t p s

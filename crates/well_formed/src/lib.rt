@@ -4,7 +4,7 @@ ghost use mathlib.Core.Bool.{true};
 ghost use Prim.Native.Nat.{_+_, _*_, _≤_};
 ghost use lib.ListN.{length};
 ghost use Rattle.utf8.specs.Rfc3629.{utf8 as isText};
-ghost use Rattle.table.specs.Order.{countOf};
+ghost use Rattle.table.specs.Order.{countOf, Linked};
 ghost use Rattle.memory.specs.WellFormed.{Sized, Full, WellFormed, Taken};
 ghost use Rattle.counts.specs.Counts.{Decides};
 ghost use Rattle.well_formed.specs.Rows.{Shaped, Chunked, Pieced};
@@ -91,24 +91,30 @@ fn chunked(source: &[u8], chunks: &[u32]) -> bool
     false
 }
 
-// Whether the pieces are not too many, and runs and texts lie inside, apart, and are UTF-8.
-fn pieced(chunks: &[u32], pieces: &[u32], store: &[u8]) -> bool
-    requires { ⌜ countOf (now chunks) * 12 + 12 ≤ length (now chunks) ⌝ }
+// Whether runs and texts lie inside the tables and apart, are not too many and are UTF-8; and what they use.
+fn pieced(chunks: &[u32], pieces: &[u32], store: &[u8]) -> Seen
+    requires { ⌜ Linked (now chunks) ⌝ }
     requires { ⌜ Sized (now chunks) (now pieces) (now store) ⌝ }
-    ensures { λ r. ⌜ Decides r (Pieced (now (chunks .entry)) (now (pieces .entry)) (now (store .entry))) ⌝ }
+    ensures { λ r. ⌜ Sees (Pieced (now (chunks .entry)) (now (pieces .entry)) (now (store .entry)))
+        (now (chunks .entry)) (now (pieces .entry)) (now (store .entry)) r ⌝ }
 {
     let n = count(chunks);
-    if runs_apart::pieces_within(chunks, n, pieces.len() / 4) {
-        if runs_apart::runs_apart(chunks, n, pieces.len() / 2) {
-            return texts_apart::texts_apart(chunks, n, pieces, store);
+    let a = texts_apart::places_apart(chunks, n, pieces, store.len());
+    let used = a.used;
+    if a.ok {
+        if used.pieces <= pieces.len() / 4 {
+            if texts_valid::texts_valid(chunks, n, pieces, store, used) {
+                return Seen::Desk(used);
+            }
         }
     }
-    false
+    Seen::NoDesk
 }
 
-// Whether memory of any size up to the full one holds a well-formed desk.
-pub fn holds_desk(source: &[u8], chunks: &[u32], pieces: &[u32], store: &[u8]) -> bool
-    ensures { λ r. ⌜ Decides r (WellFormed (now (source .entry)) (now (chunks .entry)) (now (pieces .entry)) (now (store .entry))) ⌝ }
+// Whether memory of any size up to the full one holds a well-formed desk, and what that uses.
+pub fn holds_desk(source: &[u8], chunks: &[u32], pieces: &[u32], store: &[u8]) -> Seen
+    ensures { λ r. ⌜ Sees (WellFormed (now (source .entry)) (now (chunks .entry)) (now (pieces .entry)) (now (store .entry)))
+        (now (chunks .entry)) (now (pieces .entry)) (now (store .entry)) r ⌝ }
 {
     if shaped(source, chunks, pieces, store) {
         if utf8::valid(source) {
@@ -117,27 +123,26 @@ pub fn holds_desk(source: &[u8], chunks: &[u32], pieces: &[u32], store: &[u8]) -
             }
         }
     }
-    false
+    Seen::NoDesk
 }
 
-// The check of exported calls: a well-formed desk in tables of the full sizes.
-pub fn well_formed(source: &[u8], chunks: &[u32], pieces: &[u32], store: &[u8]) -> bool
-    ensures { λ r. ⌜ Decides r (Taken (now (source .entry)) (now (chunks .entry)) (now (pieces .entry)) (now (store .entry))) ⌝ }
-{
-    if full_size(chunks, pieces, store) {
-        return holds_desk(source, chunks, pieces, store);
-    }
-    false
-}
-
-// The same for calls that change the desk, with what it uses.
+// The check of exported calls: a well-formed desk in tables of the full sizes, and what it uses.
 pub fn taken(source: &[u8], chunks: &[u32], pieces: &[u32], store: &[u8]) -> Seen
     ensures { λ r. ⌜ Sees (Taken (now (source .entry)) (now (chunks .entry)) (now (pieces .entry)) (now (store .entry)))
         (now (chunks .entry)) (now (pieces .entry)) (now (store .entry)) r ⌝ }
 {
-    if well_formed(source, chunks, pieces, store) {
-        let used = on_top::live(chunks, pieces, store);
-        return Seen::Desk(used);
+    if full_size(chunks, pieces, store) {
+        return holds_desk(source, chunks, pieces, store);
     }
     Seen::NoDesk
+}
+
+// The same for calls that need not know what the desk uses.
+pub fn well_formed(source: &[u8], chunks: &[u32], pieces: &[u32], store: &[u8]) -> bool
+    ensures { λ r. ⌜ Decides r (Taken (now (source .entry)) (now (chunks .entry)) (now (pieces .entry)) (now (store .entry))) ⌝ }
+{
+    let Seen::Desk(_) = taken(source, chunks, pieces, store) else {
+        return false;
+    };
+    true
 }

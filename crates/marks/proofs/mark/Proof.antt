@@ -3,7 +3,7 @@ use borrow.Author.Needs.{needs}
 use Prim.Native.Nat.{_+_, _-_, _≤_}
 use native.Mathlib.Omega.{arith}
 use lib.ListN.{length}
-use Rattle.marks.specs.Marking.{Marking, marking-none, marking-more, marking-done, marking-twice, refused}
+use Rattle.marks.proofs.Marking.{Marking, marking-none, marking-more, marking-done, marking-twice, refused}
 use Rattle.marks.proofs.mark.Statement.{statement}
 use Rattle.marks.proofs.mark.Tie as tie
 

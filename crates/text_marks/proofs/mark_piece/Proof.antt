@@ -30,13 +30,15 @@ wide-requires-2 : tie.Need-wide-requires-2
 wide-requires-2 c κs = search needs
 
 mark-text-requires : tie.Need-mark-text-requires
-mark-text-requires c κs = (c .before .before .before .before .before .before .before .before .pre .1 .0, c .before .before .before .before .before .before .before .before .pre .1 .1)
+mark-text-requires c κs = search needs
 
 same-length : tie.Need-same-length
-same-length c = c .before .before .mark-text .kept .1 .0
+same-length c = search needs
 
 returns : tie.Need-returns
-returns c = rw (c .before .before .before .before .before .before .wide .ensures .0, c .before .before .before .before .wide2 .ensures .0) at (c .before .before .mark-text .ensures)
+returns c =
+    rw (c .before .before .before .before .before .before .wide .ensures .0, c .before .before .before .before .wide2 .ensures .0)
+    at (c .before .before .mark-text .ensures)
 
 pub mark-piece-spec : {M : Type 1} → statement M
 mark-piece-spec =

@@ -1,5 +1,6 @@
 use mathlib.Core.Path.{sym, _∙_}
-use Rattle.marks.specs.Marking.{replacement-none, replacement-some}
+use Rattle.bit_marks.proofs.Marking.{marks-bits}
+use Rattle.texts_apart.proofs.Places.{replacement-none, replacement-some}
 use borrow.Author.Needs.{needs}
 use Rattle.texts_apart.proofs.mark_replacement.Statement.{statement}
 use Rattle.texts_apart.proofs.mark_replacement.Tie as tie
@@ -8,7 +9,7 @@ word-requires : tie.Need-word-requires
 word-requires c κs = search needs
 
 returns : tie.Need-returns
-returns c = replacement-none _ _ _ _ (sym (c .before .word .ensures .0) ∙ c .if1 .taken) (c .before .before .before .before .before .pre .1 .1)
+returns c = replacement-none _ _ (marks-bits _) (sym (c .before .word .ensures .0) ∙ c .if1 .taken)
 
 add-word : tie.Need-add-word
 add-word c = search needs
@@ -17,13 +18,14 @@ word-requires-2 : tie.Need-word-requires-2
 word-requires-2 c κs = search needs
 
 mark-text-requires : tie.Need-mark-text-requires
-mark-text-requires c κs = (c .before .before .before .before .before .before .before .pre .1 .0, c .before .before .before .before .before .before .before .pre .1 .1)
+mark-text-requires c κs = search needs
 
 same-length : tie.Need-same-length
-same-length c = c .before .before .mark-text .kept .1 .0
+same-length c = search needs
 
 returns-2 : tie.Need-returns-2
-returns-2 c = rw (c .before .before .before .before .before .before .word .ensures .0, c .before .before .before .before .word2 .ensures .0) at (replacement-some _ _ _ (c .before .before .before .before .before .if1 .left) (c .before .before .mark-text .ensures))
+returns-2 c = 
+    rw (c .before .before .before .before .before .before .word .ensures .0, c .before .before .before .before .word2 .ensures .0) at (replacement-some _ _ (c .before .before .before .before .before .if1 .left) (c .before .before .mark-text .ensures))
 
 pub mark-replacement-spec : {M : Type 1} → statement M
 mark-replacement-spec =

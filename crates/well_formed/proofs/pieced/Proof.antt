@@ -1,6 +1,5 @@
 use native.Mathlib.Omega.{arith}
-use Rattle.counts.specs.Sums.{is-no}
-use Rattle.well_formed.proofs.Laws.{whole-rows, pieced-yes}
+use Rattle.well_formed.proofs.Laws.{pieced-yes, count-over}
 use borrow.Author.Needs.{needs}
 use Rattle.well_formed.proofs.pieced.Statement.{statement}
 use Rattle.well_formed.proofs.pieced.Tie as tie
@@ -8,39 +7,38 @@ use Rattle.well_formed.proofs.pieced.Tie as tie
 count-requires : tie.Need-count-requires
 count-requires c κs = search needs
 
-pieces-within-requires : tie.Need-pieces-within-requires
-pieces-within-requires c κs = search needs
+places-apart-requires : tie.Need-places-apart-requires
+places-apart-requires c κs = search needs
 
-runs-apart-requires : tie.Need-runs-apart-requires
-runs-apart-requires c κs = search needs
-
-texts-apart-requires : tie.Need-texts-apart-requires
-texts-apart-requires c κs =
-    let start = c .before .before .before .before .before .before .before .before in
-    (omega arith, (rw (whole-rows (start .pre .1)) at (c .before .runs-apart .ensures .yes (c .if2 .taken)), start .pre .1 .store))
+texts-valid-requires : tie.Need-texts-valid-requires
+texts-valid-requires c κs = (omega arith, c .before .before .before .before .places-apart .ensures .counted (c .before .before .if1 .taken))
 
 returns : tie.Need-returns
-returns c =
-    let start = c .before .before .before .before .before .before .before .before .before in
-    pieced-yes _ _ _ _ (c .before .before .before .before .before .count .ensures) (c .before .before .before .before .pieces-within .ensures .yes (c .before .before .before .if1 .taken))
-    (rw (whole-rows (start .pre .1)) at (c .before .before .runs-apart .ensures .yes (c .before .if2 .taken))) (c .texts-apart .ensures)
+returns c = 
+    let start = c .before .before .before .before .before .before .before .before .before .before .before in
+    let places = c .before .before .before .before .before .before .places-apart .ensures in
+    let ok = c .before .before .before .before .if1 .taken in
+    pieced-yes _ _ _ (start .pre .0) (c .before .before .before .before .before .before .before .count .ensures) (places .decides .yes ok) (places .counted ok) (c .before .before .if2 .taken) (c .before .texts-valid .ensures .yes (c .if3 .taken))
 
 returns-2 : tie.Need-returns-2
-returns-2 c =
-    let start = c .before .before .before .before .before .before .before .before in
-    is-no (λ x. c .before .runs-apart .ensures .no (c .if2 .left) (rw (c .before .before .before .before .count .ensures, whole-rows (start .pre .1)) (x .runs)))
+returns-2 c = λ x. c .before .texts-valid .ensures .no (c .if3 .left) (rw (c .before .before .before .before .before .before .before .count .ensures) (x .texts))
 
 returns-3 : tie.Need-returns-3
-returns-3 c = is-no (λ x. c .before .pieces-within .ensures .no (c .if1 .left) (rw (c .before .before .count .ensures) (x .count)))
+returns-3 c =
+    let start = c .before .before .before .before .before .before .before .before .before in
+    λ x. count-over _ _ (start .args .store .now) (c .before .before .before .before .before .count .ensures) (c .before .before .before .before .places-apart .ensures .counted (c .before .before .if1 .taken)) (c .if2 .left) (x .count)
+
+returns-4 : tie.Need-returns-4
+returns-4 c = λ x. c .before .before .places-apart .ensures .decides .no (c .if1 .left) (rw (c .before .before .before .count .ensures) (x .placed))
 
 pub pieced-spec : {M : Type 1} → statement M
 pieced-spec =
     tie.close
     (tie.spec
     count-requires
-    pieces-within-requires
-    runs-apart-requires
-    texts-apart-requires
+    places-apart-requires
+    texts-valid-requires
     returns
     returns-2
-    returns-3)
+    returns-3
+    returns-4)

@@ -1,21 +1,21 @@
+use Rattle.well_formed.proofs.Laws.{taken-sees}
 use borrow.Author.Needs.{needs}
-use Rattle.on_top.proofs.Finishing.{formed-usable}
 use Rattle.well_formed.proofs.taken.Statement.{statement}
 use Rattle.well_formed.proofs.taken.Tie as tie
 
-well-formed-requires : tie.Need-well-formed-requires
-well-formed-requires c κs = search needs
+full-size-requires : tie.Need-full-size-requires
+full-size-requires c κs = search needs
 
-live-requires : tie.Need-live-requires
-live-requires c κs =
-    let u = formed-usable (c .before .well-formed .ensures .yes (c .if1 .taken) .well-formed) in
-    (u .readable, (u .within-is, u .sized))
+holds-desk-requires : tie.Need-holds-desk-requires
+holds-desk-requires c κs = search needs
 
 returns : tie.Need-returns
-returns c = (c .before .before .well-formed .ensures .yes (c .before .if1 .taken), c .live .ensures)
+returns c = 
+    let a = c .before .before .before .before .before .before .before .args in
+    taken-sees (a .chunks .now) (a .pieces .now) (a .store .now) (a .source .now) (c .before .before .full-size .ensures .yes (c .before .if1 .taken)) (c .holds-desk .result) (c .holds-desk .ensures)
 
 returns-2 : tie.Need-returns-2
-returns-2 c = c .before .well-formed .ensures .no (c .if1 .left)
+returns-2 c = λ x. c .before .full-size .ensures .no (c .if1 .left) (x .full)
 
 pub taken-spec : {M : Type 1} → statement M
-taken-spec = tie.close (tie.spec well-formed-requires live-requires returns returns-2)
+taken-spec = tie.close (tie.spec full-size-requires holds-desk-requires returns returns-2)

@@ -1,20 +1,26 @@
+use Rattle.well_formed.proofs.Laws.{sees-yes, sees-no}
 use borrow.Author.Needs.{needs}
-use Rattle.counts.specs.Sums.{is-no}
-use Rattle.well_formed.proofs.Laws.{taken-yes}
 use Rattle.well_formed.proofs.well_formed.Statement.{statement}
 use Rattle.well_formed.proofs.well_formed.Tie as tie
 
-full-size-requires : tie.Need-full-size-requires
-full-size-requires c κs = search needs
+taken-requires : tie.Need-taken-requires
+taken-requires c κs = search needs
 
-holds-desk-requires : tie.Need-holds-desk-requires
-holds-desk-requires c κs = search needs
+enum-told : tie.Need-enum-told
+enum-told c = search needs
+
+enum-told-2 : tie.Need-enum-told-2
+enum-told-2 c = search needs
 
 returns : tie.Need-returns
-returns c = taken-yes (c .before .before .full-size .ensures .yes (c .before .if1 .taken)) (c .holds-desk .ensures)
+returns c = 
+    let a = c .before .before .before .before .before .before .before .args in
+    sees-no (a .chunks .now) (a .pieces .now) (a .store .now) (c .enum-told2 .given .1) (c .before .before .taken .ensures)
 
 returns-2 : tie.Need-returns-2
-returns-2 c = is-no (λ x. c .before .full-size .ensures .no (c .if1 .left) (x .full))
+returns-2 c = 
+    let a = c .before .before .before .before .before .before .before .args in
+    sees-yes (a .chunks .now) (a .pieces .now) (a .store .now) (c .enum-told .given .1) (c .before .before .taken .ensures)
 
 pub well-formed-spec : {M : Type 1} → statement M
-well-formed-spec = tie.close (tie.spec full-size-requires holds-desk-requires returns returns-2)
+well-formed-spec = tie.close (tie.spec taken-requires enum-told enum-told-2 returns returns-2)
