@@ -33,7 +33,15 @@ pub fn insert_with(
         store.len(),
     ) {
         return insert_on_top::insert_on_top(
-            source, chunks, pieces, store, text, q, left, front, used,
+            source,
+            chunks,
+            pieces,
+            store,
+            text,
+            q,
+            left,
+            front,
+            used,
         );
     }
     insert_scratch::insert_scratch(source, chunks, pieces, store, text, q, left, front)

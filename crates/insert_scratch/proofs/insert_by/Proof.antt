@@ -17,9 +17,11 @@ use Rattle.on_top.proofs.finish.Reads as finish-reads
 
 load-requires : tie.Need-load-requires
 load-requires c κs =
-    let start = c .before .before .before .before .before .before .before .before .before .before .before .before .before .before in
-    (omega (arith, start .pre .0 .sized .chunks, start .pre .1 .scratch .chunks), omega (arith, start .pre .0 .sized .pieces, start .pre .1 .pieces),
-    omega (arith, start .pre .0 .sized .store, start .pre .1 .store))
+    let start = c .before .before .before .before .before .before .before .before .before .before .before .before .before .before in (
+      omega (arith, start .pre .0 .sized .chunks, start .pre .1 .scratch .chunks),
+      omega (arith, start .pre .0 .sized .pieces, start .pre .1 .pieces),
+      omega (arith, start .pre .0 .sized .store, start .pre .1 .store),
+    )
 
 insert-steps-requires : tie.Need-insert-steps-requires
 insert-steps-requires c κs =

@@ -28,18 +28,20 @@ slice-aggregate-insert-by-3 : tie.Need-slice-aggregate-insert-by-3
 slice-aggregate-insert-by-3 c = sym (zeros-length 98304 98304 (omega arith))
 
 insert-by-requires : tie.Need-insert-by-requires
-insert-by-requires c κs =
-    (c .before .before .before .before .before .before .before .before .before .before .before .pre, record {
-      scratch =
-          record {
-            chunks = zeros-length 6192 6192 (omega arith);
-            clear = zeros-at 6192 6192;
-            pieces = rw (zeros-length 6146 6146 (omega arith)) (omega arith);
-            store = rw (zeros-length 98304 98304 (omega arith)) (omega arith);
-          };
-      pieces = zeros-length 6146 6146 (omega arith);
-      store = zeros-length 98304 98304 (omega arith);
-    })
+insert-by-requires c κs = (
+  c .before .before .before .before .before .before .before .before .before .before .before .pre,
+  record {
+    scratch =
+        record {
+          chunks = zeros-length 6192 6192 (omega arith);
+          clear = zeros-at 6192 6192;
+          pieces = rw (zeros-length 6146 6146 (omega arith)) (omega arith);
+          store = rw (zeros-length 98304 98304 (omega arith)) (omega arith);
+        };
+    pieces = zeros-length 6146 6146 (omega arith);
+    store = zeros-length 98304 98304 (omega arith);
+  },
+)
 
 same-length : tie.Need-same-length
 same-length c = search needs

@@ -17,9 +17,11 @@ use Rattle.on_top.proofs.finish.Reads as finish-reads
 
 load-requires : tie.Need-load-requires
 load-requires c κs =
-    let start = c .before .before .before .before .before .before .before .before .before .before .before .before .before .before in
-    (omega (arith, start .pre .0 .sized .chunks, start .pre .1 .0 .scratch .chunks), omega (arith, start .pre .0 .sized .pieces, start .pre .1 .0 .pieces),
-    omega (arith, start .pre .0 .sized .store, start .pre .1 .0 .store))
+    let start = c .before .before .before .before .before .before .before .before .before .before .before .before .before .before in (
+      omega (arith, start .pre .0 .sized .chunks, start .pre .1 .0 .scratch .chunks),
+      omega (arith, start .pre .0 .sized .pieces, start .pre .1 .0 .pieces),
+      omega (arith, start .pre .0 .sized .store, start .pre .1 .0 .store),
+    )
 
 add-piece-requires : tie.Need-add-piece-requires
 add-piece-requires c κs =

@@ -50,8 +50,9 @@ slice-aggregate-whole-by-3 c = sym (zeros-length 98304 98304 (omega arith))
 
 whole-by-requires : tie.Need-whole-by-requires
 whole-by-requires c κs = (
-    c .before .before .before .before .before .before .before .before .before .before .before .before .pre,
-    (record {
+  c .before .before .before .before .before .before .before .before .before .before .before .before .pre,
+  (
+    record {
       scratch =
           record {
             chunks = zeros-length 6192 6192 (omega arith);
@@ -61,7 +62,9 @@ whole-by-requires c κs = (
           };
       pieces = zeros-length 6146 6146 (omega arith);
       store = zeros-length 98304 98304 (omega arith);
-    }, c .before .before .before .before .before .before .if1 .left),
+    },
+    c .before .before .before .before .before .before .if1 .left,
+  ),
 )
 
 same-length-4 : tie.Need-same-length-4
