@@ -8,12 +8,6 @@ use Rattle.on_top.specs.Live.{Room, above-small}
 use borrow.Author.Needs.{needs}
 use Rattle.insert.proofs.insert_with.Statement.{statement}
 use Rattle.insert.proofs.insert_with.Tie as tie
-use Rattle.insert.proofs.insert_with.Reads as reads
-use Rattle.insert.proofs.insert_with.Lts as lts
-use Rattle.insert_on_top.proofs.insert_on_top.Reads as insert-on-top-reads
-use Rattle.insert_scratch.proofs.insert_scratch.Reads as insert-scratch-reads
-use Rattle.on_top.proofs.has_room.Reads as has-room-reads
-use Rattle.table.proofs.get_row.Reads as get-row-reads
 
 get-row-requires : tie.Need-get-row-requires
 get-row-requires c κs = search needs

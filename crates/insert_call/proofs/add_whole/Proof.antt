@@ -4,10 +4,6 @@ use Rattle.insert_call.proofs.Tests.{addition-invalid, addition-ran}
 use borrow.Author.Needs.{needs}
 use Rattle.insert_call.proofs.add_whole.Statement.{statement}
 use Rattle.insert_call.proofs.add_whole.Tie as tie
-use Rattle.insert_call.proofs.add_whole.Reads as reads
-use Rattle.insert_call.proofs.add_whole.Lts as lts
-use Rattle.insert.proofs.whole_with.Reads as whole-with-reads
-use Rattle.utf8.proofs.valid.Reads as valid-reads
 
 valid-requires : tie.Need-valid-requires
 valid-requires c κs = search needs

@@ -5,11 +5,6 @@ use Rattle.insert_call.proofs.Tests.{insertion-invalid, insertion-outsi
 use borrow.Author.Needs.{needs}
 use Rattle.insert_call.proofs.insert_at.Statement.{statement}
 use Rattle.insert_call.proofs.insert_at.Tie as tie
-use Rattle.insert_call.proofs.insert_at.Reads as reads
-use Rattle.insert_call.proofs.insert_at.Lts as lts
-use Rattle.insert.proofs.insert_with.Reads as insert-with-reads
-use Rattle.utf8.proofs.boundary.Reads as boundary-reads
-use Rattle.utf8.proofs.valid.Reads as valid-reads
 
 valid-requires : tie.Need-valid-requires
 valid-requires c κs = search needs

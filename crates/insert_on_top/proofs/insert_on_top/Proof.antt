@@ -4,11 +4,6 @@ use Rattle.insert_on_top.specs.TopCalls.{top-ready, top-refused, top-mad
 use borrow.Author.Needs.{needs}
 use Rattle.insert_on_top.proofs.insert_on_top.Statement.{statement}
 use Rattle.insert_on_top.proofs.insert_on_top.Tie as tie
-use Rattle.insert_on_top.proofs.insert_on_top.Reads as reads
-use Rattle.insert_on_top.proofs.insert_on_top.Lts as lts
-use Rattle.insert_on_top.proofs.grown.Reads as grown-reads
-use Rattle.insert_on_top.proofs.insert_rows_on_top.Reads as insert-rows-on-top-reads
-use Rattle.split.proofs.split_at.Reads as split-at-reads
 
 split-at-requires : tie.Need-split-at-requires
 split-at-requires c κs = search needs

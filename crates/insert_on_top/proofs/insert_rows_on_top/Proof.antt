@@ -9,11 +9,6 @@ use Rattle.insert_on_top.specs.TopCalls.{top-none, top-found}
 use borrow.Author.Needs.{needs}
 use Rattle.insert_on_top.proofs.insert_rows_on_top.Statement.{statement}
 use Rattle.insert_on_top.proofs.insert_rows_on_top.Tie as tie
-use Rattle.insert_on_top.proofs.insert_rows_on_top.Reads as reads
-use Rattle.insert_on_top.proofs.insert_rows_on_top.Lts as lts
-use Rattle.insert_on_top.proofs.add_on_top.Reads as add-on-top-reads
-use Rattle.insert_row.proofs.key_for.Reads as key-for-reads
-use Rattle.rows.proofs.find.Reads as find-reads
 
 key-for-requires : tie.Need-key-for-requires
 key-for-requires c κs = search needs

@@ -5,10 +5,6 @@ use Rattle.insert_on_top.specs.TopCalls.{whole-top-ready, whole-made}
 use borrow.Author.Needs.{needs}
 use Rattle.insert_on_top.proofs.whole_on_top.Statement.{statement}
 use Rattle.insert_on_top.proofs.whole_on_top.Tie as tie
-use Rattle.insert_on_top.proofs.whole_on_top.Reads as reads
-use Rattle.insert_on_top.proofs.whole_on_top.Lts as lts
-use Rattle.insert_on_top.proofs.add_on_top.Reads as add-on-top-reads
-use Rattle.insert_on_top.proofs.grown.Reads as grown-reads
 
 add-on-top-requires : tie.Need-add-on-top-requires
 add-on-top-requires c κs =

@@ -8,12 +8,6 @@ use Rattle.insert_row.specs.Calls.{loaded-small, insert-readable, insert-refuse
 use borrow.Author.Needs.{needs}
 use Rattle.insert_scratch.proofs.insert_by.Statement.{statement}
 use Rattle.insert_scratch.proofs.insert_by.Tie as tie
-use Rattle.insert_scratch.proofs.insert_by.Reads as reads
-use Rattle.insert_scratch.proofs.insert_by.Lts as lts
-use Rattle.frame.proofs.load.Reads as load-reads
-use Rattle.insert_scratch.proofs.insert_steps.Reads as insert-steps-reads
-use Rattle.on_top.proofs.counted.Reads as counted-reads
-use Rattle.on_top.proofs.finish.Reads as finish-reads
 
 load-requires : tie.Need-load-requires
 load-requires c κs =

@@ -1,12 +1,7 @@
-use native.Mathlib.Omega.{arith}
 use Rattle.insert_row.specs.Calls.{steps-refused, steps-long, steps-done}
 use borrow.Author.Needs.{needs}
 use Rattle.insert_scratch.proofs.insert_steps.Statement.{statement}
 use Rattle.insert_scratch.proofs.insert_steps.Tie as tie
-use Rattle.insert_scratch.proofs.insert_steps.Reads as reads
-use Rattle.insert_scratch.proofs.insert_steps.Lts as lts
-use Rattle.insert_scratch.proofs.insert_rows.Reads as insert-rows-reads
-use Rattle.split.proofs.split_at.Reads as split-at-reads
 
 split-at-requires : tie.Need-split-at-requires
 split-at-requires c κs = search needs

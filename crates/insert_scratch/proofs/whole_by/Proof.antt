@@ -9,11 +9,6 @@ use Rattle.insert_row.specs.Calls.{loaded-small, whole-ran}
 use borrow.Author.Needs.{needs}
 use Rattle.insert_scratch.proofs.whole_by.Statement.{statement}
 use Rattle.insert_scratch.proofs.whole_by.Tie as tie
-use Rattle.insert_scratch.proofs.whole_by.Reads as reads
-use Rattle.insert_scratch.proofs.whole_by.Lts as lts
-use Rattle.frame.proofs.load.Reads as load-reads
-use Rattle.insert_scratch.proofs.add_piece.Reads as add-piece-reads
-use Rattle.on_top.proofs.finish.Reads as finish-reads
 
 load-requires : tie.Need-load-requires
 load-requires c κs =
