@@ -160,7 +160,8 @@ module _ {left front : Bool} {q : ℕ} {text source t p s t₀ p₀ s₀ t1 p1 s
   insert-readable z = x .leave z source spans .readable
 
   -- the model's steps on the lent desk are those on the loaded one
-  loaded-steps : (e : Edit) → ((m : MagicString) → steps e m ≡ insert-at left front q text m) → steps e (magicStringOf source t p s) ≡ insert-at left front q text (magicStringOf source t1 p s)
+  loaded-steps : (e : Edit) → ((m : MagicString) → steps e m ≡ insert-at left front q text m)
+      → steps e (magicStringOf source t p s) ≡ insert-at left front q text (magicStringOf source t1 p s)
   loaded-steps e q' = q' (magicStringOf source t p s) ∙ ap (insert-at left front q text) (sym (loaded-desk w (f .scratch) d))
 
   -- 6 and 13: the lent tables are as they were

@@ -18,14 +18,17 @@ add-has-room c =
     omega (arith, ap (λ (r : Row). r .start) (c .before .get-row .ensures), h .readable .linked .room, h .sized .chunks)
 
 has-room-requires : tie.Need-has-room-requires
-has-room-requires c κs = (above-small (c .before .before .before .before .before .before .before .before .pre .above), c .before .before .before .before .before .before .before .before .pre .well-formed .sized .some)
+has-room-requires c κs =
+    let start = c .before .before .before .before .before .before .before .before in
+    (above-small (start .pre .above), start .pre .well-formed .sized .some)
 
 insert-on-top-requires : tie.Need-insert-on-top-requires
 insert-on-top-requires c κs =
     let start = c .before .before .before .before .before .before .before .before .before .before .before .before .before in
     let a = start .args in
     let room = c .before .before .before .before .has-room .ensures .0 (c .before .before .before .if1 .taken) in
-    (start .pre, subst (λ (r : Row). Room (length (a .chunks .now)) (length (a .pieces .now)) (length (a .store .now)) (a .used) (r .start + 1) (length (a .text .now))) (c .before .before .before .before .before .before .get-row .ensures) room)
+    let room-for : Row → Type 0 = λ r. Room (length (a .chunks .now)) (length (a .pieces .now)) (length (a .store .now)) (a .used) (r .start + 1) (length (a .text .now)) in
+    (start .pre, subst room-for (c .before .before .before .before .before .before .get-row .ensures) room)
 
 same-length : tie.Need-same-length
 same-length c = search needs

@@ -5,10 +5,14 @@ use Rattle.insert.proofs.whole_with.Statement.{statement}
 use Rattle.insert.proofs.whole_with.Tie as tie
 
 has-room-requires : tie.Need-has-room-requires
-has-room-requires c κs = (above-small (c .before .before .before .before .before .pre .above), c .before .before .before .before .before .pre .well-formed .sized .some)
+has-room-requires c κs =
+    let start = c .before .before .before .before .before in
+    (above-small (start .pre .above), start .pre .well-formed .sized .some)
 
 whole-on-top-requires : tie.Need-whole-on-top-requires
-whole-on-top-requires c κs = (c .before .before .before .before .before .before .before .before .before .before .pre, c .before .before .before .before .has-room .ensures .0 (c .before .before .before .if1 .taken))
+whole-on-top-requires c κs =
+    let start = c .before .before .before .before .before .before .before .before .before .before in
+    (start .pre, c .before .before .before .before .has-room .ensures .0 (c .before .before .before .if1 .taken))
 
 same-length : tie.Need-same-length
 same-length c = search needs

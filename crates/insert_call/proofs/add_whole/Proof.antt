@@ -23,13 +23,16 @@ same-length-3 c = search needs
 returns : tie.Need-returns
 returns c =
     let start = c .before .before .before .before .before .before .before .before .before .before .before .before .before .before .before .before .before in
+    let if1 = c .before .before .before .before .before .before .before .before .before .before .if1 in
+    let text-is = sym (c .before .before .before .before .before .before .before .before .before .before .before .valid .ensures) ∙ if1 .taken in
     let made = c .before .before .before .before .before .before .whole-with .ensures in
-    record { ran = addition-ran _ (start .pre .well-formed) (start .args .tail) (sym (c .before .before .before .before .before .before .before .before .before .before .before .valid .ensures) ∙ c .before .before .before .before .before .before .before .before .before .before .if1 .taken) (made .0); above = made .1 }
+    record { ran = addition-ran _ (start .pre .well-formed) (start .args .tail) text-is (made .0); above = made .1 }
 
 returns-2 : tie.Need-returns-2
 returns-2 c =
     let start = c .before .before .before .before .before .before .before in
-    record { ran = addition-invalid _ (start .pre .well-formed) (start .args .tail) (sym (c .before .valid .ensures) ∙ c .if1 .left); above = start .pre .above }
+    let text-is = sym (c .before .valid .ensures) ∙ c .if1 .left in
+    record { ran = addition-invalid _ (start .pre .well-formed) (start .args .tail) text-is; above = start .pre .above }
 
 pub add-whole-spec : {M : Type 1} → statement M
 add-whole-spec =

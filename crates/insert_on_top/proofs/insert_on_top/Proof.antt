@@ -1,5 +1,7 @@
 -- `insert_on_top::insert_on_top` meets its contract: a refused cut leaves what is in use as it was, the piece is above it.
+use mathlib.Core.Path.{sym, subst}
 use native.Mathlib.Omega.{arith}
+use Rattle.memory_used.specs.Above.{Above}
 use Rattle.insert_on_top.specs.TopCalls.{top-ready, top-refused, top-made}
 use borrow.Author.Needs.{needs}
 use Rattle.insert_on_top.proofs.insert_on_top.Statement.{statement}
@@ -44,10 +46,11 @@ returns-2 c =
     let start = c .before .before .before .before .before .before .before .before .before .before .before .before .before .before .before .before .before .before .before .before .before in
     let split-at = c .before .before .before .before .before .before .before .before .before .before .before .before .before .before .split-at in
     let rows = c .before .before .before .before .before .before .before .insert-rows-on-top in
+    let if1 = c .before .before .before .before .before .before .before .before .before .before .before .if1 in
     let a = start .args in
-    rw (c .grown .ensures .0, c .grown .ensures .1)
-    (top-made (a .left) (a .front) (a .q) (a .text .now) (start .pre .0) (start .pre .1) (split-at .ensures) _ _ _ (rows .result) (c .before .before .before .before .before .before .before .before .before .before .before .if1 .left) (rows .ensures)
-    (split-at .kept .0) (rows .kept .0) (rows .kept .1 .0) (rows .kept .1 .1 .0))
+    let made = top-made (a .left) (a .front) (a .q) (a .text .now) (start .pre .0) (start .pre .1) (split-at .ensures) _ _ _ (rows .result) (if1 .left) (rows .ensures)
+    (split-at .kept .0) (rows .kept .0) (rows .kept .1 .0) (rows .kept .1 .1 .0) in
+    (rw (c .grown .ensures .0) (made .0), subst (Above _ _ _) (sym (c .grown .ensures .1)) (made .1))
 
 pub insert-on-top-spec : {M : Type 1} → statement M
 insert-on-top-spec =

@@ -43,9 +43,11 @@ returns : tie.Need-returns
 returns c =
     let start = c .before .before .before .before .before .before .before .before .before .before .before .before .before .before .before .before .before .before .before in
     let key-for = c .before .before .before .before .before .before .before .before .before .before .before .before .before .key-for in
+    let find = c .before .before .before .before .before .before .before .before .before .before .before .before .find in
+    let told = c .before .before .before .before .before .before .before .before .before .before .enum-told in
     let add-on-top = c .before .before .before .before .before .before .add-on-top in
     let a = start .args in
-    let w = subst (FoundIn (meets (key-for .result) (a .q)) (a .chunks .now)) (c .before .before .before .before .before .before .before .before .before .before .enum-told .given .1) (c .before .before .before .before .before .before .before .before .before .before .before .before .find .ensures) in
+    let w = subst (FoundIn (meets (key-for .result) (a .q)) (a .chunks .now)) (told .given .1) (find .ensures) in
     top-none (a .left) (a .front) (a .q) (a .text .now) (a .pieces .now) (a .store .now) (a .chunks .now) _ _ _ (a .l) _ (start .pre) (add-on-top .kept .0)
     (rw (key-for .ensures) at w) (add-on-top .ensures)
 
@@ -74,10 +76,11 @@ returns-2 : tie.Need-returns-2
 returns-2 c =
     let start = c .before .before .before .before .before .before .before .before .before .before .before .before .before .before .before .before .before .before .before .before in
     let key-for = c .before .before .before .before .before .before .before .before .before .before .before .before .before .before .key-for in
+    let find = c .before .before .before .before .before .before .before .before .before .before .before .before .before .find in
     let i = c .before .before .before .before .before .before .before .before .before .before .before .i in
     let add-on-top = c .before .before .before .before .before .before .add-on-top2 in
     let a = start .args in
-    let w = subst (FoundIn (meets (key-for .result) (a .q)) (a .chunks .now)) (i .given .1) (c .before .before .before .before .before .before .before .before .before .before .before .before .before .find .ensures) in
+    let w = subst (FoundIn (meets (key-for .result) (a .q)) (a .chunks .now)) (i .given .1) (find .ensures) in
     top-found (a .left) (a .front) (a .q) (a .text .now) (a .pieces .now) (a .store .now) (a .chunks .now) _ _ _ (a .l) _ (start .pre) (add-on-top .kept .0)
     (i .given .0 .0) (rw (key-for .ensures) at w) (add-on-top .ensures)
 

@@ -1,5 +1,7 @@
 -- `insert_on_top::whole_on_top` meets its contract: the piece is above all that is in use.
+use mathlib.Core.Path.{sym, subst}
 use native.Mathlib.Omega.{arith}
+use Rattle.memory_used.specs.Above.{Above}
 use Rattle.insert_on_top.specs.OnTop.{whole-ready}
 use Rattle.insert_on_top.specs.TopCalls.{whole-top-ready, whole-made}
 use borrow.Author.Needs.{needs}
@@ -35,9 +37,9 @@ returns c =
     let start = c .before .before .before .before .before .before .before .before .before .before .before .before .before .before .before .before in
     let added = c .before .before .before .before .before .before .before .add-on-top in
     let a = start .args in
-    rw (c .grown .ensures .0, c .grown .ensures .1)
-    (whole-made (a .outro) (a .front) (a .text .now) (start .pre .0) (start .pre .1) _ _ _ (added .result) (added .ensures)
-    (added .kept .0) (added .kept .1 .0) (added .kept .1 .1 .0))
+    let made = whole-made (a .outro) (a .front) (a .text .now) (start .pre .0) (start .pre .1) _ _ _ (added .result) (added .ensures)
+    (added .kept .0) (added .kept .1 .0) (added .kept .1 .1 .0) in
+    (rw (c .grown .ensures .0) (made .0), subst (Above _ _ _) (sym (c .grown .ensures .1)) (made .1))
 
 pub whole-on-top-spec : {M : Type 1} → statement M
 whole-on-top-spec =

@@ -53,7 +53,8 @@ returns-3 c =
     let if1 = c .before .before .before .before .before .before .before .before .before .before .before .if1 in
     let insert-rows = c .before .before .before .before .before .before .insert-rows in
     let a = start .args in
-    steps-done (a .left) (a .front) (a .q) (a .text .now) (a .pieces .now) (a .store .now) (a .t .now) _ (a .p .now) (a .s .now) _ (start .pre .1 .0) (split-at .ensures) (if1 .left) _ _ _ (insert-rows .ensures)
+    steps-done (a .left) (a .front) (a .q) (a .text .now) (a .pieces .now) (a .store .now) (a .t .now) _ (a .p .now) (a .s .now) _ (start .pre .1 .0) (split-at .ensures)
+    (if1 .left) _ _ _ (insert-rows .ensures)
 
 pub insert-steps-spec : {M : Type 1} → statement M
 insert-steps-spec =
