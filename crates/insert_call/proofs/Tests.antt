@@ -2,9 +2,8 @@
 use mathlib.Core.Path.{_≡_, refl}
 use mathlib.Core.Bool.{Bool, true, false, not}
 use mathlib.Core.List.{List, [], _∷_}
-use Prim.Native.Nat.{ℕ, suc}
+use Prim.Native.Nat.{ℕ}
 use Rattle.utf8.specs.Rfc3629.{utf8, between}
-use Rattle.model.specs.Text.{all}
 use Rattle.model.specs.MagicString.{MagicString, ok, by-end-mut, by-start-mut}
 use Rattle.model.specs.Call.{Edit, options-valid, texts, positions, steps}
 use Rattle.memory.specs.WellFormed.{WellFormed}

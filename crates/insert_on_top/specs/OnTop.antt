@@ -149,7 +149,8 @@ module _ (outro front : Bool) (text : List ℕ) (row byte : ℕ) (P S t t' P' S'
         put = a .added .put;
       }
 
-  apart-on-top : ((j : ℕ) → rowUses t' j ≤ rowUses t j + among (row, y .1) j) → ((b : ℕ) → storeUses t' (p ++ z) b ≤ storeUses t p b + among (byte, length text) b) → Disjoint t P → Disjoint t' P'
+  apart-on-top : ((j : ℕ) → rowUses t' j ≤ rowUses t j + among (row, y .1) j) → ((b : ℕ) → storeUses t' (p ++ z) b ≤ storeUses t p b + among (byte, length text) b)
+      → Disjoint t P → Disjoint t' P'
   apart-on-top rows bytes d =
       subst (Disjoint t') (sym (a .added .longer .pieces))
       (apart-after t t' p s (drop (row * 2) P) z (row, y .1) (byte, length text) h (subst (Disjoint t) (sym (take-append-drop (row * 2) P)) d)
@@ -236,7 +237,12 @@ module _ (outro front : Bool) (text : List ℕ) (row byte : ℕ) (P S t t' P' S'
         each = each-kept t t' whole-order (whole-set .count);
         apart =
             apart-on-top outro front text row byte P S t t' P' S' 0 row' a h len hr hb
-            (λ j. omega (arith, ap (λ (x : Place × Place). among (x .0) j + among (x .1) j) (whole-set .desk), ap (sum (pieceUses j)) (whole-set .chunks), side-rows outro (rowAt t 0) y j (among (row, y .1) j) (a .rows j)))
+            (λ j. omega (
+              arith,
+              ap (λ (x : Place × Place). among (x .0) j + among (x .1) j) (whole-set .desk),
+              ap (sum (pieceUses j)) (whole-set .chunks),
+              side-rows outro (rowAt t 0) y j (among (row, y .1) j) (a .rows j),
+            ))
             (λ b. omega (
               arith,
               ap (λ (x : Place × Place). runUses (q ++ z) b (x .0) + runUses (q ++ z) b (x .1)) (whole-set .desk),

@@ -241,7 +241,7 @@ module _ (left front : Bool) (q : ℕ) (text : List ℕ) {source t P S t1 : List
     cut-made : insert-at left front q text (magicStringOf source t P S) ≡ insert-step left front q text (magicStringOf source t1 P S)
     cut-made = leave .result (insert-step left front q text) ∙ ap (λ (n : ℕ). and-then (err n (magicStringOf source t1 P S)) (insert-step left front q text)) z
 
-    pub top-inserted : InsertRan left front q text source t P S t' P' S' 0
+    top-inserted : InsertRan left front q text source t P S t' P' S' 0
     top-inserted e h q' i =
         ran-in-place (w .well-formed) h
         (record {
@@ -257,8 +257,11 @@ module _ (left front : Bool) (q : ℕ) (text : List ℕ) {source t P S t1 : List
         (x .top .apart (kept-apart (c .kept) P (w .well-formed .disjoint)))
         (within-after text w rm cut-low (c .kept) t' P' S' one-more few)
 
-    pub top-above : Above t' P' S' (grown l row' (length text))
+    top-above : Above t' P' S' (grown l row' (length text))
     top-above = above-after text w rm cut-low (c .kept) t' P' S' one-more row' (x .low) (x .to) lp ls
+
+    pub top-made : InsertRan left front q text source t P S t' P' S' 0 × Above t' P' S' (grown l row' (length text))
+    top-made = (top-inserted, top-above)
 
 -- ── head and tail ──
 module _ (outro front : Bool) (text : List ℕ) {source t P S : List ℕ} {l : Used} {n : ℕ} (w : Desk source t P S l)
@@ -272,9 +275,11 @@ module _ (outro front : Bool) (text : List ℕ) {source t P S : List ℕ} {l : U
     did = whole-added outro front text (rowsBelow l P) (bytesBelow l S) t t' P' S' (w .above .readable) (a .added) len
 
     whole-one-more : OneMore text (magicStringOf [] t (rowsBelow l P) (bytesBelow l S)) (magicStringOf [] t' P' S')
-    whole-one-more = subst (OneMore text (magicStringOf [] t (rowsBelow l P) (bytesBelow l S))) (ap (λ (y : Result). y .desk) (did [] .result)) (whole-more outro front text (magicStringOf [] t (rowsBelow l P) (bytesBelow l S)))
+    whole-one-more =
+        let m = magicStringOf [] t (rowsBelow l P) (bytesBelow l S) in
+        subst (OneMore text m) (ap (λ (y : Result). y .desk) (did [] .result)) (whole-more outro front text m)
 
-    pub whole-top-ran : WholeRan outro front text source t P S t' P' S' 0
+    whole-top-ran : WholeRan outro front text source t P S t' P' S' 0
     whole-top-ran e h q i =
         let top = whole-on-top outro front text (l .row) (l .byte) P S t t' P' S' row' a (w .above .readable) len (w .above .row) (w .above .byte) in
         ran-in-place (w .well-formed) h
@@ -291,9 +296,12 @@ module _ (outro front : Bool) (text : List ℕ) {source t P S : List ℕ} {l : U
         (top .apart (w .well-formed .disjoint))
         (within-after text w rm (w .above .readable) (kept-same t) t' P' S' whole-one-more (omega (arith, w .well-formed .readable .linked .room)))
 
-    pub whole-top-above : Above t' P' S' (grown l row' (length text))
+    whole-top-above : Above t' P' S' (grown l row' (length text))
     whole-top-above =
         above-after text w rm (w .above .readable) (kept-same t) t' P' S' whole-one-more row'
         (whole-added outro front text (rowsBelow l P) (bytesBelow l S) t t' _ _ (w .above .readable)
         (cut outro front text (l .row) (l .byte) P S t t' P' S' 0 row' a (w .above .readable) len (w .above .row) (w .above .byte)) len [] .readable)
         (a .to) lp ls
+
+    pub whole-made : WholeRan outro front text source t P S t' P' S' 0 × Above t' P' S' (grown l row' (length text))
+    whole-made = (whole-top-ran, whole-top-above)

@@ -1,6 +1,6 @@
 // A piece more at the front or the back of a chunk's intro or outro, or of the head or the tail: on the lent tables themselves.
 ghost use mathlib.Core.Path.{_≡_};
-ghost use Prim.Native.Nat.{_+_, _*_, _≤_};
+ghost use Prim.Native.Nat.{_+_, _*_, _^_, _≤_, _<_};
 ghost use lib.ListN.{length, take};
 ghost use Rattle.table.specs.Order.{entryAt, countOf};
 ghost use Rattle.memory.specs.WellFormed.{RunIn};
@@ -10,7 +10,7 @@ ghost use Rattle.insert_row.specs.Calls.{InsertRan, WholeRan};
 ghost use Rattle.on_top.specs.Live.{Room};
 ghost use Rattle.on_top.specs.Run.{TopRoom};
 ghost use Rattle.insert_on_top.specs.OnTop.{AddedOnTop, TopReady};
-ghost use Rattle.insert_on_top.specs.TopCalls.{InsertedTop};
+ghost use Rattle.insert_on_top.specs.TopCalls.{InsertedTop, grown};
 use memory_used::Outcome;
 use memory_used::Used;
 use rows::Found;
@@ -69,6 +69,20 @@ fn insert_rows_on_top(
     add_on_top(chunks, pieces, store, text, i, left, front, row, byte)
 }
 
+// The outcome of an insertion that is made: a piece more, a row above all again, and the bytes of the text.
+fn grown(l: Used, row: usize, len: usize) -> Outcome
+    requires { ⌜ l .pieces + 1 < 2 ^ 32 ⌝ }
+    requires { ⌜ l .byte + len < 2 ^ 32 ⌝ }
+    ensures { λ o. ⌜ (o .number ≡ 0) × (o .used ≡ grown l row len) ⌝ }
+{
+    let pieces = l.pieces + 1;
+    let byte = l.byte + len;
+    Outcome {
+        number: 0,
+        used: Used { pieces, row, byte },
+    }
+}
+
 // The cut and the piece on the lent tables themselves, where no limit can be passed and there is room above `l`. A refused cut leaves what is in use as it was.
 pub fn insert_on_top(
     source: &[u8],
@@ -92,16 +106,7 @@ pub fn insert_on_top(
         return Outcome { number, used: l };
     }
     let row = insert_rows_on_top(chunks, pieces, store, text, q, left, front, l);
-    let count = l.pieces + 1;
-    let byte = l.byte + text.len();
-    Outcome {
-        number: 0,
-        used: Used {
-            pieces: count,
-            row,
-            byte,
-        },
-    }
+    grown(l, row, text.len())
 }
 
 // The piece for the tail or the head: as `insert_on_top`, without a cut.
@@ -121,15 +126,6 @@ pub fn whole_on_top(
         (now (chunks .exit)) (now (pieces .exit)) (now (store .exit)) (o .number)
         × Above (now (chunks .exit)) (now (pieces .exit)) (now (store .exit)) (o .used) ⌝ }
 {
-    let row = add_on_top(chunks, pieces, store, text, 0, outro, front, l.row, l.byte);
-    let count = l.pieces + 1;
-    let byte = l.byte + text.len();
-    Outcome {
-        number: 0,
-        used: Used {
-            pieces: count,
-            row,
-            byte,
-        },
-    }
+    let top = add_on_top(chunks, pieces, store, text, 0, outro, front, l.row, l.byte);
+    grown(l, top, text.len())
 }

@@ -1,16 +1,14 @@
 -- The insertions past their tests: the cut, the search and the piece, and the call that they make.
-use mathlib.Core.Path.{_≡_, refl, sym, ap, ap₂, _∙_, subst}
-use mathlib.Core.Bool.{Bool, true, false, _||_, not, cond, and-false}
-use mathlib.Core.List.{List, [], _∷_, _++_, map}
+use mathlib.Core.Path.{_≡_, refl, sym, ap, _∙_}
+use mathlib.Core.Bool.{Bool, true, false, _||_, cond, and-false}
+use mathlib.Core.List.{List, [], _∷_}
 use mathlib.Core.Option.{Option, none, some}
 use mathlib.Core.Logic.{_⊎_, inl, inr}
-use Prim.Native.Nat.{ℕ, _+_, _*_, _≤_, _<_}
+use Prim.Native.Nat.{ℕ, _+_, _≤_, _<_}
 use native.Mathlib.Omega.{arith}
-use lib.Dec.{ltb, leb, eqb}
-use lib.ListN.{length, length-append}
+use lib.Dec.{leb, eqb}
+use lib.ListN.{length}
 use borrow.Author.Tests.{lt-leb}
-use Rattle.utf8.specs.Chars.{All, nil, cons}
-use Rattle.table.specs.Order.{Entry, entryAt, entries, order, countOf, Linked, inside-at}
 use Rattle.model.specs.Text.{Text, sum, is-some}
 use Rattle.model.specs.Chunk.{Chunk, Texts, with-texts, start-of, end-of}
 use Rattle.model.specs.MagicString.{MagicString, Result, ok, err, and-then, with-chunks, with-intro, with-outro, by-start, by-end, at-start, at-end, holder, refuses-split, split-holder, split-at}
@@ -162,7 +160,8 @@ module _ {left front : Bool} {q : ℕ} {text source t p s t₀ p₀ s₀ t1 p1 s
   insert-readable z = x .leave z source spans .readable
 
   -- the model's steps on the lent desk are those on the loaded one
-  loaded-steps : (e : Edit) → ((m : MagicString) → steps e m ≡ insert-at left front q text m) → steps e (magicStringOf source t p s) ≡ insert-at left front q text (magicStringOf source t1 p s)
+  loaded-steps : (e : Edit) → ((m : MagicString) → steps e m ≡ insert-at left front q text m)
+      → steps e (magicStringOf source t p s) ≡ insert-at left front q text (magicStringOf source t1 p s)
   loaded-steps e q' = q' (magicStringOf source t p s) ∙ ap (insert-at left front q text) (sym (loaded-desk w (f .scratch) d))
 
   -- 6 and 13: the lent tables are as they were

@@ -1,40 +1,36 @@
 -- `by_end_mut` and `by_start_mut` with what append.rs and prepend.rs do: on scratch rows, and what it means for the desk.
-use mathlib.Core.Path.{_≡_, refl, sym, ap, ap₂, _∙_, subst}
-use mathlib.Core.Bool.{Bool, true, false, _&&_, not, cond}
+use mathlib.Core.Path.{_≡_, refl, sym, ap, _∙_, subst}
+use mathlib.Core.Bool.{Bool, true, false, not}
 use mathlib.Core.List.{List, [], _∷_, _++_, map, map-append}
 use mathlib.Core.Option.{none, some}
-use mathlib.Core.Logic.{_⊎_, inl, inr}
-use Prim.Native.Nat.{ℕ, zero, suc, _+_, _*_, _≤_, _<_}
+use Prim.Native.Nat.{ℕ, _+_, _*_, _≤_}
 use native.Mathlib.Omega.{arith}
-use lib.Dec.{ltb, leb, eqb}
-use lib.ListN.{length, length-append}
-use borrow.Author.Tests.{lt-leb}
+use lib.Dec.{eqb}
+use lib.ListN.{length}
 use Rattle.utf8.specs.Chars.{All, nil, cons}
 use Rattle.utf8.specs.CharLaws.{all-front, all-back}
 use Rattle.table.specs.declared.Row.{Row}
 use Rattle.table.specs.Ring.{Each}
 use Rattle.table.specs.Table.{rowAt, Put}
-use Rattle.table.specs.Order.{Entry, entryOf, entryAt, entries, order, nextOf, prevOf, countOf, Linked, inside-at}
-use Rattle.model.specs.Text.{Text, sum}
+use Rattle.table.specs.Order.{Entry, entryOf, entryAt, entries, order, Linked, inside-at}
+use Rattle.model.specs.Text.{Text}
 use Rattle.model.specs.Chunk.{Chunk, Texts, with-texts, start-of, end-of}
-use Rattle.model.specs.MagicString.{MagicString, Result, ok, err, and-then, with-chunks, with-intro, with-outro, by-start, by-end, at-start, at-end, split-at}
-use Rattle.model.specs.Limits.{full, within, chunk-bytes, byte-count}
-use Rattle.model.specs.Lists.{sum-append, first-of, rest-of, all-append, same-around}
-use Rattle.memory.specs.Layout.{Place, runOf, replacementOf, chunkOf, magicStringOf}
+use Rattle.model.specs.MagicString.{MagicString, Result, ok, and-then, with-chunks, with-intro, with-outro, by-start, by-end, at-start, at-end, split-at}
+use Rattle.model.specs.Lists.{first-of, rest-of, all-append, same-around}
+use Rattle.memory.specs.Layout.{Place, runOf, chunkOf, magicStringOf}
 use Rattle.memory.specs.WellFormed.{RunIn, EntryIn, Readable}
 use Rattle.memory.specs.Laws.{chunks-of}
 use Rattle.texts.specs.Carry.{withText}
 use Rattle.rows.specs.declared.Key.{Key}
-use Rattle.rows.specs.declared.Key.the-variants.{Start, End, Inside}
+use Rattle.rows.specs.declared.Key.the-variants.{Start, End}
 use Rattle.rows.specs.Find.{meets, First}
-use Rattle.rows.specs.Insert.{Placed, runsOf}
+use Rattle.rows.specs.Insert.{runsOf}
 use Rattle.rows.specs.Split.{RowSet, row-set, DeskSet, desk-set, entries-at}
-use Rattle.frame.specs.Front.{desk-same, run-in-front, run-front, text-in-front, text-front, runs-front, entry-front, chunk-front, entries-front, chunks-front}
+use Rattle.frame.specs.Front.{desk-same, run-in-front, run-front, text-in-front, text-front, entries-front, chunks-front}
 use Rattle.frame.specs.Frame.{Did}
 use Rattle.split.specs.Lift.{RunSmall, EntrySmall, DeskSmall}
-use Rattle.split.specs.Cuts.{Spans, CutsDone, CutsLeave}
 use Rattle.closed_forms.specs.Found.{start-at, start-none, start-set, end-at, end-none, end-set, some-is, none-is}
-use Rattle.insert_row.specs.Piece.{side, with-side, Longer, PieceAdded, side-in}
+use Rattle.insert_row.specs.Piece.{side, with-side, PieceAdded, side-in}
 
 -- ── the model's step ──
 -- a text more in front of a chunk's outro or intro, or behind it

@@ -1,6 +1,6 @@
 -- The rows of a run with a text more: copied to the top with a row more, or left where they end there.
 use mathlib.Core.Path.{_≡_, refl, sym, ap, ap₂, _∙_, subst}
-use mathlib.Core.Bool.{Bool, true, false}
+use mathlib.Core.Bool.{true, false}
 use mathlib.Core.List.{List, [], _∷_, _++_}
 use Prim.Native.Nat.{ℕ, suc, _+_, _*_, _≤_, _<_}
 use native.Mathlib.Omega.{arith}
@@ -11,7 +11,7 @@ use Rattle.memory.specs.Layout.{Place, pieceAt}
 use Rattle.texts.specs.Over.{over, length-over, over-over, take-over, part-kept}
 use Rattle.texts.specs.Texts.{tabulate-ext, tabulate-cons}
 use Rattle.texts.specs.Carry.{Pushed, RoomFor}
-use Rattle.on_top.specs.Run.{rowWords, placesOf, withPlace, TopRoom, Lengthened}
+use Rattle.on_top.specs.Run.{rowWords, TopRoom, Lengthened}
 
 -- ── words and places ──
 over-at : (d : List ℕ) (a : ℕ) (xs : List ℕ) (i : ℕ) → a ≤ length d → i < length xs → getD (over d a xs) (a + i) 0 ≡ getD xs i 0

@@ -8,12 +8,6 @@ use Rattle.on_top.specs.Live.{Room, above-small}
 use borrow.Author.Needs.{needs}
 use Rattle.insert.proofs.insert_with.Statement.{statement}
 use Rattle.insert.proofs.insert_with.Tie as tie
-use Rattle.insert.proofs.insert_with.Reads as reads
-use Rattle.insert.proofs.insert_with.Lts as lts
-use Rattle.insert_on_top.proofs.insert_on_top.Reads as insert-on-top-reads
-use Rattle.insert_scratch.proofs.insert_scratch.Reads as insert-scratch-reads
-use Rattle.on_top.proofs.has_room.Reads as has-room-reads
-use Rattle.table.proofs.get_row.Reads as get-row-reads
 
 get-row-requires : tie.Need-get-row-requires
 get-row-requires c κs = search needs
@@ -24,14 +18,17 @@ add-has-room c =
     omega (arith, ap (λ (r : Row). r .start) (c .before .get-row .ensures), h .readable .linked .room, h .sized .chunks)
 
 has-room-requires : tie.Need-has-room-requires
-has-room-requires c κs = (above-small (c .before .before .before .before .before .before .before .before .pre .above), c .before .before .before .before .before .before .before .before .pre .well-formed .sized .some)
+has-room-requires c κs =
+    let start = c .before .before .before .before .before .before .before .before in
+    (above-small (start .pre .above), start .pre .well-formed .sized .some)
 
 insert-on-top-requires : tie.Need-insert-on-top-requires
 insert-on-top-requires c κs =
     let start = c .before .before .before .before .before .before .before .before .before .before .before .before .before in
     let a = start .args in
     let room = c .before .before .before .before .has-room .ensures .0 (c .before .before .before .if1 .taken) in
-    (start .pre, subst (λ (r : Row). Room (length (a .chunks .now)) (length (a .pieces .now)) (length (a .store .now)) (a .used) (r .start + 1) (length (a .text .now))) (c .before .before .before .before .before .before .get-row .ensures) room)
+    let room-for : Row → Type 0 = λ r. Room (length (a .chunks .now)) (length (a .pieces .now)) (length (a .store .now)) (a .used) (r .start + 1) (length (a .text .now)) in
+    (start .pre, subst room-for (c .before .before .before .before .before .before .get-row .ensures) room)
 
 same-length : tie.Need-same-length
 same-length c = search needs

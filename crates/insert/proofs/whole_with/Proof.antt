@@ -3,17 +3,16 @@ use Rattle.on_top.specs.Live.{above-small}
 use borrow.Author.Needs.{needs}
 use Rattle.insert.proofs.whole_with.Statement.{statement}
 use Rattle.insert.proofs.whole_with.Tie as tie
-use Rattle.insert.proofs.whole_with.Reads as reads
-use Rattle.insert.proofs.whole_with.Lts as lts
-use Rattle.insert_on_top.proofs.whole_on_top.Reads as whole-on-top-reads
-use Rattle.insert_scratch.proofs.whole_scratch.Reads as whole-scratch-reads
-use Rattle.on_top.proofs.has_room.Reads as has-room-reads
 
 has-room-requires : tie.Need-has-room-requires
-has-room-requires c κs = (above-small (c .before .before .before .before .before .pre .above), c .before .before .before .before .before .pre .well-formed .sized .some)
+has-room-requires c κs =
+    let start = c .before .before .before .before .before in
+    (above-small (start .pre .above), start .pre .well-formed .sized .some)
 
 whole-on-top-requires : tie.Need-whole-on-top-requires
-whole-on-top-requires c κs = (c .before .before .before .before .before .before .before .before .before .before .pre, c .before .before .before .before .has-room .ensures .0 (c .before .before .before .if1 .taken))
+whole-on-top-requires c κs =
+    let start = c .before .before .before .before .before .before .before .before .before .before in
+    (start .pre, c .before .before .before .before .has-room .ensures .0 (c .before .before .before .if1 .taken))
 
 same-length : tie.Need-same-length
 same-length c = search needs

@@ -4,10 +4,6 @@ use Rattle.insert_call.proofs.Tests.{addition-invalid, addition-ran}
 use borrow.Author.Needs.{needs}
 use Rattle.insert_call.proofs.add_whole.Statement.{statement}
 use Rattle.insert_call.proofs.add_whole.Tie as tie
-use Rattle.insert_call.proofs.add_whole.Reads as reads
-use Rattle.insert_call.proofs.add_whole.Lts as lts
-use Rattle.insert.proofs.whole_with.Reads as whole-with-reads
-use Rattle.utf8.proofs.valid.Reads as valid-reads
 
 valid-requires : tie.Need-valid-requires
 valid-requires c κs = search needs
@@ -27,13 +23,16 @@ same-length-3 c = search needs
 returns : tie.Need-returns
 returns c =
     let start = c .before .before .before .before .before .before .before .before .before .before .before .before .before .before .before .before .before in
+    let if1 = c .before .before .before .before .before .before .before .before .before .before .if1 in
+    let text-is = sym (c .before .before .before .before .before .before .before .before .before .before .before .valid .ensures) ∙ if1 .taken in
     let made = c .before .before .before .before .before .before .whole-with .ensures in
-    record { ran = addition-ran _ (start .pre .well-formed) (start .args .tail) (sym (c .before .before .before .before .before .before .before .before .before .before .before .valid .ensures) ∙ c .before .before .before .before .before .before .before .before .before .before .if1 .taken) (made .0); above = made .1 }
+    record { ran = addition-ran _ (start .pre .well-formed) (start .args .tail) text-is (made .0); above = made .1 }
 
 returns-2 : tie.Need-returns-2
 returns-2 c =
     let start = c .before .before .before .before .before .before .before in
-    record { ran = addition-invalid _ (start .pre .well-formed) (start .args .tail) (sym (c .before .valid .ensures) ∙ c .if1 .left); above = start .pre .above }
+    let text-is = sym (c .before .valid .ensures) ∙ c .if1 .left in
+    record { ran = addition-invalid _ (start .pre .well-formed) (start .args .tail) text-is; above = start .pre .above }
 
 pub add-whole-spec : {M : Type 1} → statement M
 add-whole-spec =

@@ -5,11 +5,6 @@ use Rattle.insert_call.proofs.Tests.{insertion-invalid, insertion-outsi
 use borrow.Author.Needs.{needs}
 use Rattle.insert_call.proofs.insert_at.Statement.{statement}
 use Rattle.insert_call.proofs.insert_at.Tie as tie
-use Rattle.insert_call.proofs.insert_at.Reads as reads
-use Rattle.insert_call.proofs.insert_at.Lts as lts
-use Rattle.insert.proofs.insert_with.Reads as insert-with-reads
-use Rattle.utf8.proofs.boundary.Reads as boundary-reads
-use Rattle.utf8.proofs.valid.Reads as valid-reads
 
 valid-requires : tie.Need-valid-requires
 valid-requires c κs = search needs
@@ -32,10 +27,14 @@ same-length-3 c = search needs
 returns : tie.Need-returns
 returns c =
     let start = c .before .before .before .before .before .before .before .before .before .before .before .before .before .before .before .before .before .before .before in
+    let valid = c .before .before .before .before .before .before .before .before .before .before .before .before .before .valid in
+    let if1 = c .before .before .before .before .before .before .before .before .before .before .before .before .if1 in
+    let boundary = c .before .before .before .before .before .before .before .before .before .before .before .boundary in
+    let if2 = c .before .before .before .before .before .before .before .before .before .before .if2 in
     let a = start .args in
-    let text-is = sym (c .before .before .before .before .before .before .before .before .before .before .before .before .before .valid .ensures) ∙ c .before .before .before .before .before .before .before .before .before .before .before .before .if1 .taken in
-    let place-is = sym (c .before .before .before .before .before .before .before .before .before .before .before .boundary .ensures) ∙ c .before .before .before .before .before .before .before .before .before .before .if2 .taken in
     let made = c .before .before .before .before .before .before .insert-with .ensures in
+    let text-is = sym (valid .ensures) ∙ if1 .taken in
+    let place-is = sym (boundary .ensures) ∙ if2 .taken in
     record { ran = insertion-ran _ (start .pre .well-formed) (a .left) (a .front) (a .at) text-is place-is (made .0); above = made .1 }
 
 returns-2 : tie.Need-returns-2
@@ -50,7 +49,8 @@ returns-3 : tie.Need-returns-3
 returns-3 c =
     let start = c .before .before .before .before .before .before .before in
     let a = start .args in
-    record { ran = insertion-invalid _ (start .pre .well-formed) (a .left) (a .front) (a .at) (sym (c .before .valid .ensures) ∙ c .if1 .left); above = start .pre .above }
+    let text-is = sym (c .before .valid .ensures) ∙ c .if1 .left in
+    record { ran = insertion-invalid _ (start .pre .well-formed) (a .left) (a .front) (a .at) text-is; above = start .pre .above }
 
 pub insert-at-spec : {M : Type 1} → statement M
 insert-at-spec =

@@ -10,13 +10,6 @@ use Rattle.insert_on_top.specs.OnTop.{added-on-top}
 use borrow.Author.Needs.{needs}
 use Rattle.insert_on_top.proofs.add_on_top.Statement.{statement}
 use Rattle.insert_on_top.proofs.add_on_top.Tie as tie
-use Rattle.insert_on_top.proofs.add_on_top.Reads as reads
-use Rattle.insert_on_top.proofs.add_on_top.Lts as lts
-use Rattle.insert_row.proofs.run_of.Reads as run-of-reads
-use Rattle.insert_row.proofs.with_run.Reads as with-run-reads
-use Rattle.on_top.proofs.lengthen.Reads as lengthen-reads
-use Rattle.table.proofs.get_row.Reads as get-row-reads
-use Rattle.table.proofs.put_row.Reads as put-row-reads
 
 get-row-requires : tie.Need-get-row-requires
 get-row-requires c κs = search needs

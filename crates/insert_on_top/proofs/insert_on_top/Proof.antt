@@ -1,13 +1,11 @@
 -- `insert_on_top::insert_on_top` meets its contract: a refused cut leaves what is in use as it was, the piece is above it.
+use mathlib.Core.Path.{sym, subst}
 use native.Mathlib.Omega.{arith}
-use Rattle.insert_on_top.specs.TopCalls.{top-ready, top-refused, top-inserted, top-above}
+use Rattle.memory_used.specs.Above.{Above}
+use Rattle.insert_on_top.specs.TopCalls.{top-ready, top-refused, top-made}
 use borrow.Author.Needs.{needs}
 use Rattle.insert_on_top.proofs.insert_on_top.Statement.{statement}
 use Rattle.insert_on_top.proofs.insert_on_top.Tie as tie
-use Rattle.insert_on_top.proofs.insert_on_top.Reads as reads
-use Rattle.insert_on_top.proofs.insert_on_top.Lts as lts
-use Rattle.insert_on_top.proofs.insert_rows_on_top.Reads as insert-rows-on-top-reads
-use Rattle.split.proofs.split_at.Reads as split-at-reads
 
 split-at-requires : tie.Need-split-at-requires
 split-at-requires c κs = search needs
@@ -28,11 +26,11 @@ insert-rows-on-top-requires c κs =
     let a = start .args in
     top-ready (a .left) (a .front) (a .q) (a .text .now) (start .pre .0) (start .pre .1) (c .before .before .before .before .before .before .split-at .ensures)
 
-add-count : tie.Need-add-count
-add-count c = omega (arith, c .before .before .before .before .before .before .before .before .before .before .before .before .before .before .before .before .before .before .before .before .before .pre .1 .pieces, c .before .before .before .before .before .before .before .before .before .before .before .before .before .before .before .before .before .before .before .before .before .pre .0 .well-formed .sized .pieces)
-
-add-byte : tie.Need-add-byte
-add-byte c = omega (arith, c .before .before .before .before .before .before .before .before .before .before .before .before .before .before .before .before .before .before .before .before .before .before .pre .1 .places, c .before .before .before .before .before .before .before .before .before .before .before .before .before .before .before .before .before .before .before .before .before .before .pre .0 .well-formed .sized .store)
+grown-requires : tie.Need-grown-requires
+grown-requires c κs =
+    let start = c .before .before .before .before .before .before .before .before .before .before .before .before .before .before .before .before .before .before .before .before in
+    let sized = start .pre .0 .well-formed .sized in
+    (omega (arith, start .pre .1 .pieces, sized .pieces), omega (arith, start .pre .1 .places, sized .store))
 
 same-length-2 : tie.Need-same-length-2
 same-length-2 c = search needs
@@ -45,16 +43,14 @@ same-length-4 c = search needs
 
 returns-2 : tie.Need-returns-2
 returns-2 c =
-    let start = c .before .before .before .before .before .before .before .before .before .before .before .before .before .before .before .before .before .before .before .before .before .before in
-    let split-at = c .before .before .before .before .before .before .before .before .before .before .before .before .before .before .before .split-at in
-    let if1 = c .before .before .before .before .before .before .before .before .before .before .before .before .if1 in
-    let rows = c .before .before .before .before .before .before .before .before .insert-rows-on-top in
-    let a = start .args in (
-      top-inserted (a .left) (a .front) (a .q) (a .text .now) (start .pre .0) (start .pre .1) (split-at .ensures) _ _ _ (rows .result) (if1 .left) (rows .ensures)
-          (split-at .kept .0) (rows .kept .0) (rows .kept .1 .0) (rows .kept .1 .1 .0),
-      top-above (a .left) (a .front) (a .q) (a .text .now) (start .pre .0) (start .pre .1) (split-at .ensures) _ _ _ (rows .result) (if1 .left) (rows .ensures)
-          (split-at .kept .0) (rows .kept .0) (rows .kept .1 .0) (rows .kept .1 .1 .0),
-    )
+    let start = c .before .before .before .before .before .before .before .before .before .before .before .before .before .before .before .before .before .before .before .before .before in
+    let split-at = c .before .before .before .before .before .before .before .before .before .before .before .before .before .before .split-at in
+    let rows = c .before .before .before .before .before .before .before .insert-rows-on-top in
+    let if1 = c .before .before .before .before .before .before .before .before .before .before .before .if1 in
+    let a = start .args in
+    let made = top-made (a .left) (a .front) (a .q) (a .text .now) (start .pre .0) (start .pre .1) (split-at .ensures) _ _ _ (rows .result) (if1 .left) (rows .ensures)
+    (split-at .kept .0) (rows .kept .0) (rows .kept .1 .0) (rows .kept .1 .1 .0) in
+    (rw (c .grown .ensures .0) (made .0), subst (Above _ _ _) (sym (c .grown .ensures .1)) (made .1))
 
 pub insert-on-top-spec : {M : Type 1} → statement M
 insert-on-top-spec =
@@ -64,8 +60,7 @@ insert-on-top-spec =
     same-length
     returns
     insert-rows-on-top-requires
-    add-count
-    add-byte
+    grown-requires
     same-length-2
     same-length-3
     same-length-4

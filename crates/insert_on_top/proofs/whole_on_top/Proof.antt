@@ -1,27 +1,27 @@
 -- `insert_on_top::whole_on_top` meets its contract: the piece is above all that is in use.
+use mathlib.Core.Path.{sym, subst}
 use native.Mathlib.Omega.{arith}
+use Rattle.memory_used.specs.Above.{Above}
 use Rattle.insert_on_top.specs.OnTop.{whole-ready}
-use Rattle.insert_on_top.specs.TopCalls.{whole-top-ready, whole-top-ran, whole-top-above}
+use Rattle.insert_on_top.specs.TopCalls.{whole-top-ready, whole-made}
 use borrow.Author.Needs.{needs}
 use Rattle.insert_on_top.proofs.whole_on_top.Statement.{statement}
 use Rattle.insert_on_top.proofs.whole_on_top.Tie as tie
-use Rattle.insert_on_top.proofs.whole_on_top.Reads as reads
-use Rattle.insert_on_top.proofs.whole_on_top.Lts as lts
-use Rattle.insert_on_top.proofs.add_on_top.Reads as add-on-top-reads
 
 add-on-top-requires : tie.Need-add-on-top-requires
 add-on-top-requires c κs =
     let start = c .before .before .before .before .before .before .before .before in
     let a = start .args in
     let h = start .pre .0 .well-formed in
-    let k = whole-ready (a .outro) (a .chunks .now) (a .pieces .now) (a .store .now) (a .text .now) (a .l) (whole-top-ready (a .outro) (a .front) (a .text .now) (start .pre .0) (start .pre .1)) in
+    let ready = whole-top-ready (a .outro) (a .front) (a .text .now) (start .pre .0) (start .pre .1) in
+    let k = whole-ready (a .outro) (a .chunks .now) (a .pieces .now) (a .store .now) (a .text .now) (a .l) ready in
     (omega (arith, h .readable .linked .room), (h .sized .pieces, (k .0, k .1)))
 
-add-count : tie.Need-add-count
-add-count c = omega (arith, c .before .before .before .before .before .before .before .before .before .before .before .before .before .before .before .before .pre .1 .pieces, c .before .before .before .before .before .before .before .before .before .before .before .before .before .before .before .before .pre .0 .well-formed .sized .pieces)
-
-add-byte : tie.Need-add-byte
-add-byte c = omega (arith, c .before .before .before .before .before .before .before .before .before .before .before .before .before .before .before .before .before .pre .1 .places, c .before .before .before .before .before .before .before .before .before .before .before .before .before .before .before .before .before .pre .0 .well-formed .sized .store)
+grown-requires : tie.Need-grown-requires
+grown-requires c κs =
+    let start = c .before .before .before .before .before .before .before .before .before .before .before .before .before .before .before in
+    let sized = start .pre .0 .well-formed .sized in
+    (omega (arith, start .pre .1 .pieces, sized .pieces), omega (arith, start .pre .1 .places, sized .store))
 
 same-length : tie.Need-same-length
 same-length c = search needs
@@ -34,21 +34,14 @@ same-length-3 c = search needs
 
 returns : tie.Need-returns
 returns c =
-    let start = c .before .before .before .before .before .before .before .before .before .before .before .before .before .before .before .before .before in
-    let added = c .before .before .before .before .before .before .before .before .add-on-top in
-    let a = start .args in (
-      whole-top-ran (a .outro) (a .front) (a .text .now) (start .pre .0) (start .pre .1) _ _ _ (added .result) (added .ensures) (added .kept .0) (added .kept .1 .0) (added .kept .1 .1 .0),
-      whole-top-above (a .outro) (a .front) (a .text .now) (start .pre .0) (start .pre .1) _ _ _ (added .result) (added .ensures) (added .kept .0) (added .kept .1 .0) (added .kept .1 .1 .0),
-    )
+    let start = c .before .before .before .before .before .before .before .before .before .before .before .before .before .before .before .before in
+    let added = c .before .before .before .before .before .before .before .add-on-top in
+    let a = start .args in
+    let made = whole-made (a .outro) (a .front) (a .text .now) (start .pre .0) (start .pre .1) _ _ _ (added .result) (added .ensures)
+    (added .kept .0) (added .kept .1 .0) (added .kept .1 .1 .0) in
+    (rw (c .grown .ensures .0) (made .0), subst (Above _ _ _) (sym (c .grown .ensures .1)) (made .1))
 
 pub whole-on-top-spec : {M : Type 1} → statement M
 whole-on-top-spec =
     tie.close
-    (tie.spec
-    add-on-top-requires
-    add-count
-    add-byte
-    same-length
-    same-length-2
-    same-length-3
-    returns)
+    (tie.spec add-on-top-requires grown-requires same-length same-length-2 same-length-3 returns)

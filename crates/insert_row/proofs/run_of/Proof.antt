@@ -1,8 +1,5 @@
-use borrow.Author.Needs.{needs}
 use Rattle.insert_row.proofs.run_of.Statement.{statement}
 use Rattle.insert_row.proofs.run_of.Tie as tie
-use Rattle.insert_row.proofs.run_of.Reads as reads
-use Rattle.insert_row.proofs.run_of.Lts as lts
 
 returns : tie.Need-returns
 returns c =

@@ -1,8 +1,5 @@
-use borrow.Author.Needs.{needs}
 use Rattle.insert_row.proofs.with_run.Statement.{statement}
 use Rattle.insert_row.proofs.with_run.Tie as tie
-use Rattle.insert_row.proofs.with_run.Reads as reads
-use Rattle.insert_row.proofs.with_run.Lts as lts
 
 returns : tie.Need-returns
 returns c =

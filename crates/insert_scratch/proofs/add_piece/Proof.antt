@@ -1,25 +1,15 @@
-use mathlib.Core.Path.{_≡_, refl, sym, ap, _∙_, subst}
-use Prim.Native.Nat.{ℕ, _+_}
+use mathlib.Core.Path.{_≡_, sym, ap, _∙_, subst}
 use native.Mathlib.Omega.{arith}
-use lib.ListN.{length}
 use Rattle.table.specs.declared.Row.{Row}
-use Rattle.table.specs.Table.{rowAt, Put}
 use Rattle.table.specs.Order.{entryOf, entryAt}
-use Rattle.memory.specs.Layout.{Place, runOf}
+use Rattle.memory.specs.Layout.{Place}
 use Rattle.memory.specs.WellFormed.{RunIn}
 use Rattle.texts.specs.Texts.{run-length}
 use Rattle.split.specs.Lift.{RunSmall}
-use Rattle.insert_row.specs.Piece.{side, with-side, spare-room, piece-added}
+use Rattle.insert_row.specs.Piece.{side, spare-room, piece-added}
 use borrow.Author.Needs.{needs}
 use Rattle.insert_scratch.proofs.add_piece.Statement.{statement}
 use Rattle.insert_scratch.proofs.add_piece.Tie as tie
-use Rattle.insert_scratch.proofs.add_piece.Reads as reads
-use Rattle.insert_scratch.proofs.add_piece.Lts as lts
-use Rattle.insert_row.proofs.run_of.Reads as run-of-reads
-use Rattle.insert_row.proofs.with_run.Reads as with-run-reads
-use Rattle.table.proofs.get_row.Reads as get-row-reads
-use Rattle.table.proofs.put_row.Reads as put-row-reads
-use Rattle.carry_with.proofs.carry_with.Reads as carry-with-reads
 
 get-row-requires : tie.Need-get-row-requires
 get-row-requires c κs = search needs

@@ -8,12 +8,6 @@ use Rattle.insert_row.specs.Calls.{loaded-small, insert-readable, insert-refuse
 use borrow.Author.Needs.{needs}
 use Rattle.insert_scratch.proofs.insert_by.Statement.{statement}
 use Rattle.insert_scratch.proofs.insert_by.Tie as tie
-use Rattle.insert_scratch.proofs.insert_by.Reads as reads
-use Rattle.insert_scratch.proofs.insert_by.Lts as lts
-use Rattle.frame.proofs.load.Reads as load-reads
-use Rattle.insert_scratch.proofs.insert_steps.Reads as insert-steps-reads
-use Rattle.on_top.proofs.counted.Reads as counted-reads
-use Rattle.on_top.proofs.finish.Reads as finish-reads
 
 load-requires : tie.Need-load-requires
 load-requires c κs =
@@ -25,15 +19,19 @@ load-requires c κs =
 
 insert-steps-requires : tie.Need-insert-steps-requires
 insert-steps-requires c κs =
-    let start = c .before .before .before .before .before .before .before .before .before .before .before .before .before .before .before .before .before .before .before .before .before .before .before .before .before .before in
-    let load = c .before .before .before .before .before .before .before .before .before .before .before .load in
+    let loaded = c .before .before .before .before .before .before .before .before .before .before .before in
+    let start = loaded .before .before .before .before .before .before .before .before .before .before .before .before .before .before .before in
+    let load = loaded .load in
     let y = loaded-roomy (start .pre .0) (start .pre .1 .scratch) (load .ensures) in
     let roomy : Roomy 1 (load .last .1 .1 .1 .0) = record { linked = y .linked; room = omega (arith, y .room); narrow = y .narrow } in
     let h = loaded-readable (start .pre .0) (start .pre .1 .scratch) (load .ensures) in
     (roomy, (h, (loaded-small (start .pre .0) (start .pre .1) (load .ensures), loaded-spare (start .pre .0) (start .pre .1) (load .ensures))))
 
 counted-requires : tie.Need-counted-requires
-counted-requires c κs = formed-usable (c .before .before .before .before .before .before .before .before .before .before .before .before .before .before .before .before .before .before .before .before .before .before .before .before .before .before .before .before .before .before .before .before .before .before .before .before .before .pre .0)
+counted-requires c κs =
+    let loaded = c .before .before .before .before .before .before .before .before .before .before .before .before .before .before .before .before .before .before .before .before .before .before in
+    let start = loaded .before .before .before .before .before .before .before .before .before .before .before .before .before .before .before in
+    formed-usable (start .pre .0)
 
 same-length : tie.Need-same-length
 same-length c = search needs
@@ -55,18 +53,19 @@ same-length-6 c = search needs
 
 returns : tie.Need-returns
 returns c =
-    let start = c .before .before .before .before .before .before .before .before .before .before .before .before .before .before .before .before .before .before .before .before .before .before .before .before .before .before .before .before .before .before .before .before .before .before .before .before .before .before in
-    let load = c .before .before .before .before .before .before .before .before .before .before .before .before .before .before .before .before .before .before .before .before .before .before .before .load in
-    let steps = c .before .before .before .before .before .before .before .before .before .before .before .insert-steps in
-    let ran = insert-refused (start .pre .0) (start .pre .1) (load .ensures) (steps .ensures) (c .before .before .before .before .if1 .taken) in
+    let stepped = c .before .before .before .before .before .before .before .before .before .before .before in
+    let loaded = stepped .before .before .before .before .before .before .before .before .before .before .before .before in
+    let start = loaded .before .before .before .before .before .before .before .before .before .before .before .before .before .before .before in
+    let ran = insert-refused (start .pre .0) (start .pre .1) (loaded .load .ensures) (stepped .insert-steps .ensures) (c .before .before .before .before .if1 .taken) in
     (rw (c .counted .ensures .0) ran, c .counted .ensures .1)
 
 finish-requires : tie.Need-finish-requires
 finish-requires c κs =
-    let start = c .before .before .before .before .before .before .before .before .before .before .before .before .before .before .before .before .before .before .before .before .before .before .before .before .before .before .before .before .before .before .before .before .before .before .before .before .before .before .before .before in
-    let load = c .before .before .before .before .before .before .before .before .before .before .before .before .before .before .before .before .before .before .before .before .before .before .before .before .before .load in
-    let steps = c .before .before .before .before .before .before .before .before .before .before .before .before .before .insert-steps in
-    (insert-readable (start .pre .0) (start .pre .1) (load .ensures) (steps .ensures) (c .before .before .before .before .before .before .if1 .left), formed-usable (start .pre .0))
+    let stepped = c .before .before .before .before .before .before .before .before .before .before .before .before .before in
+    let loaded = stepped .before .before .before .before .before .before .before .before .before .before .before .before in
+    let start = loaded .before .before .before .before .before .before .before .before .before .before .before .before .before .before .before in
+    let if1 = c .before .before .before .before .before .before .if1 in
+    (insert-readable (start .pre .0) (start .pre .1) (loaded .load .ensures) (stepped .insert-steps .ensures) (if1 .left), formed-usable (start .pre .0))
 
 same-length-7 : tie.Need-same-length-7
 same-length-7 c = search needs
@@ -78,21 +77,28 @@ same-length-9 : tie.Need-same-length-9
 same-length-9 c = search needs
 
 same-length-10 : tie.Need-same-length-10
-same-length-10 c = c .before .before .before .before .before .before .before .before .before .before .before .before .before .before .before .before .before .before .before .before .insert-steps .kept .1 .1 .1 .0 ∙ c .before .before .before .before .before .before .before .before .before .before .before .before .before .before .before .before .before .before .before .before .before .before .before .before .before .before .before .before .before .before .before .before .load .kept .1 .1 .1 .0
+same-length-10 c =
+    let stepped = c .before .before .before .before .before .before .before .before .before .before .before .before .before .before .before .before .before .before .before .before in
+    let loaded = stepped .before .before .before .before .before .before .before .before .before .before .before .before in
+    stepped .insert-steps .kept .1 .1 .1 .0 ∙ loaded .load .kept .1 .1 .1 .0
 
 same-length-11 : tie.Need-same-length-11
-same-length-11 c = c .before .before .before .before .before .before .before .before .before .before .before .before .before .before .before .before .before .before .before .before .insert-steps .kept .1 .1 .1 .1 .0 ∙ c .before .before .before .before .before .before .before .before .before .before .before .before .before .before .before .before .before .before .before .before .before .before .before .before .before .before .before .before .before .before .before .before .load .kept .1 .1 .1 .1 .0
+same-length-11 c =
+    let stepped = c .before .before .before .before .before .before .before .before .before .before .before .before .before .before .before .before .before .before .before .before in
+    let loaded = stepped .before .before .before .before .before .before .before .before .before .before .before .before in
+    stepped .insert-steps .kept .1 .1 .1 .1 .0 ∙ loaded .load .kept .1 .1 .1 .1 .0
 
 same-length-12 : tie.Need-same-length-12
 same-length-12 c = search needs
 
 returns-2 : tie.Need-returns-2
 returns-2 c =
-    let start = c .before .before .before .before .before .before .before .before .before .before .before .before .before .before .before .before .before .before .before .before .before .before .before .before .before .before .before .before .before .before .before .before .before .before .before .before .before .before .before .before .before .before .before .before .before .before .before in
-    let load = c .before .before .before .before .before .before .before .before .before .before .before .before .before .before .before .before .before .before .before .before .before .before .before .before .before .before .before .before .before .before .before .before .load in
-    let steps = c .before .before .before .before .before .before .before .before .before .before .before .before .before .before .before .before .before .before .before .before .insert-steps in
+    let stepped = c .before .before .before .before .before .before .before .before .before .before .before .before .before .before .before .before .before .before .before .before in
+    let loaded = stepped .before .before .before .before .before .before .before .before .before .before .before .before in
+    let start = loaded .before .before .before .before .before .before .before .before .before .before .before .before .before .before .before in
+    let if1 = c .before .before .before .before .before .before .before .before .before .before .before .before .before .if1 in
     let finish = c .before .before .before .before .before .before .finish in
-    (insert-ran (start .pre .0) (start .pre .1) (load .ensures) (steps .ensures) (c .before .before .before .before .before .before .before .before .before .before .before .before .before .if1 .left) (finish .ensures .0), finish .ensures .1)
+    (insert-ran (start .pre .0) (start .pre .1) (loaded .load .ensures) (stepped .insert-steps .ensures) (if1 .left) (finish .ensures .0), finish .ensures .1)
 
 pub insert-by-spec : {M : Type 1} → statement M
 insert-by-spec =

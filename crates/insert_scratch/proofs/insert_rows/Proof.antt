@@ -1,17 +1,11 @@
-use mathlib.Core.Path.{_≡_, refl, sym, ap, _∙_, subst}
+use mathlib.Core.Path.{subst}
 use mathlib.Core.Bool.{not}
 use native.Mathlib.Omega.{arith}
-use Rattle.rows.specs.declared.Key.{Key}
 use Rattle.rows.specs.Find.{meets, FoundIn}
-use Rattle.insert_row.specs.Insertion.{key-of, inserted-found, inserted-whole, whole-run, found-run, found-row}
+use Rattle.insert_row.specs.Insertion.{inserted-found, inserted-whole, whole-run, found-run, found-row}
 use borrow.Author.Needs.{needs}
 use Rattle.insert_scratch.proofs.insert_rows.Statement.{statement}
 use Rattle.insert_scratch.proofs.insert_rows.Tie as tie
-use Rattle.insert_scratch.proofs.insert_rows.Reads as reads
-use Rattle.insert_scratch.proofs.insert_rows.Lts as lts
-use Rattle.insert_scratch.proofs.add_piece.Reads as add-piece-reads
-use Rattle.insert_row.proofs.key_for.Reads as key-for-reads
-use Rattle.rows.proofs.find.Reads as find-reads
 
 key-for-requires : tie.Need-key-for-requires
 key-for-requires c κs = search needs

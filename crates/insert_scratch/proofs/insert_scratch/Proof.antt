@@ -5,9 +5,6 @@ use Rattle.frame.specs.Frame.{zeros-length, zeros-at}
 use borrow.Author.Needs.{needs}
 use Rattle.insert_scratch.proofs.insert_scratch.Statement.{statement}
 use Rattle.insert_scratch.proofs.insert_scratch.Tie as tie
-use Rattle.insert_scratch.proofs.insert_scratch.Reads as reads
-use Rattle.insert_scratch.proofs.insert_scratch.Lts as lts
-use Rattle.insert_scratch.proofs.insert_by.Reads as insert-by-reads
 
 array-borrow-prefix-t : tie.Need-array-borrow-prefix-t
 array-borrow-prefix-t c = search needs

@@ -1,12 +1,7 @@
-use native.Mathlib.Omega.{arith}
 use Rattle.insert_row.specs.Calls.{steps-refused, steps-long, steps-done}
 use borrow.Author.Needs.{needs}
 use Rattle.insert_scratch.proofs.insert_steps.Statement.{statement}
 use Rattle.insert_scratch.proofs.insert_steps.Tie as tie
-use Rattle.insert_scratch.proofs.insert_steps.Reads as reads
-use Rattle.insert_scratch.proofs.insert_steps.Lts as lts
-use Rattle.insert_scratch.proofs.insert_rows.Reads as insert-rows-reads
-use Rattle.split.proofs.split_at.Reads as split-at-reads
 
 split-at-requires : tie.Need-split-at-requires
 split-at-requires c κs = search needs
@@ -58,7 +53,8 @@ returns-3 c =
     let if1 = c .before .before .before .before .before .before .before .before .before .before .before .if1 in
     let insert-rows = c .before .before .before .before .before .before .insert-rows in
     let a = start .args in
-    steps-done (a .left) (a .front) (a .q) (a .text .now) (a .pieces .now) (a .store .now) (a .t .now) _ (a .p .now) (a .s .now) _ (start .pre .1 .0) (split-at .ensures) (if1 .left) _ _ _ (insert-rows .ensures)
+    steps-done (a .left) (a .front) (a .q) (a .text .now) (a .pieces .now) (a .store .now) (a .t .now) _ (a .p .now) (a .s .now) _ (start .pre .1 .0) (split-at .ensures)
+    (if1 .left) _ _ _ (insert-rows .ensures)
 
 pub insert-steps-spec : {M : Type 1} → statement M
 insert-steps-spec =

@@ -9,11 +9,6 @@ use Rattle.insert_row.specs.Calls.{loaded-small, whole-ran}
 use borrow.Author.Needs.{needs}
 use Rattle.insert_scratch.proofs.whole_by.Statement.{statement}
 use Rattle.insert_scratch.proofs.whole_by.Tie as tie
-use Rattle.insert_scratch.proofs.whole_by.Reads as reads
-use Rattle.insert_scratch.proofs.whole_by.Lts as lts
-use Rattle.frame.proofs.load.Reads as load-reads
-use Rattle.insert_scratch.proofs.add_piece.Reads as add-piece-reads
-use Rattle.on_top.proofs.finish.Reads as finish-reads
 
 load-requires : tie.Need-load-requires
 load-requires c κs =
@@ -25,8 +20,9 @@ load-requires c κs =
 
 add-piece-requires : tie.Need-add-piece-requires
 add-piece-requires c κs =
-    let start = c .before .before .before .before .before .before .before .before .before .before .before .before .before .before .before .before .before .before .before .before .before .before .before .before .before .before in
-    let load = c .before .before .before .before .before .before .before .before .before .before .before .load in
+    let loaded = c .before .before .before .before .before .before .before .before .before .before .before in
+    let start = loaded .before .before .before .before .before .before .before .before .before .before .before .before .before .before .before in
+    let load = loaded .load in
     let a = start .args in
     let h = loaded-readable (start .pre .0) (start .pre .1 .0 .scratch) (load .ensures) in
     let k = whole-run (a .outro) (load .last .1 .1 .1 .0) (a .pieces .now) (a .store .now) h (loaded-small (start .pre .0) (start .pre .1 .0) (load .ensures)) in
@@ -34,11 +30,12 @@ add-piece-requires c κs =
 
 finish-requires : tie.Need-finish-requires
 finish-requires c κs =
-    let start = c .before .before .before .before .before .before .before .before .before .before .before .before .before .before .before .before .before .before .before .before .before .before .before .before .before .before .before .before .before .before .before .before .before .before .before .before .before .before .before in
-    let load = c .before .before .before .before .before .before .before .before .before .before .before .before .before .before .before .before .before .before .before .before .before .before .before .before .load in
-    let added = c .before .before .before .before .before .before .before .before .before .before .before .before .add-piece in
+    let put = c .before .before .before .before .before .before .before .before .before .before .before .before in
+    let loaded = put .before .before .before .before .before .before .before .before .before .before .before .before in
+    let start = loaded .before .before .before .before .before .before .before .before .before .before .before .before .before .before .before in
+    let added = put .add-piece in
     let a = start .args in
-    let h = loaded-readable (start .pre .0) (start .pre .1 .0 .scratch) (load .ensures) in
+    let h = loaded-readable (start .pre .0) (start .pre .1 .0 .scratch) (loaded .load .ensures) in
     let did = whole-added (a .outro) (a .front) (a .text .now) (a .pieces .now) (a .store .now) _ _ _ _ h (added .ensures) (added .kept .1 .1 .1 .0) (a .source .now) in
     (did .readable, formed-usable (start .pre .0))
 
@@ -52,24 +49,31 @@ same-length-3 : tie.Need-same-length-3
 same-length-3 c = search needs
 
 same-length-4 : tie.Need-same-length-4
-same-length-4 c = c .before .before .before .before .before .before .before .before .before .before .before .before .before .before .before .before .before .before .before .add-piece .kept .1 .1 .1 .0 ∙ c .before .before .before .before .before .before .before .before .before .before .before .before .before .before .before .before .before .before .before .before .before .before .before .before .before .before .before .before .before .before .before .load .kept .1 .1 .1 .0
+same-length-4 c =
+    let put = c .before .before .before .before .before .before .before .before .before .before .before .before .before .before .before .before .before .before .before in
+    let loaded = put .before .before .before .before .before .before .before .before .before .before .before .before in
+    put .add-piece .kept .1 .1 .1 .0 ∙ loaded .load .kept .1 .1 .1 .0
 
 same-length-5 : tie.Need-same-length-5
-same-length-5 c = c .before .before .before .before .before .before .before .before .before .before .before .before .before .before .before .before .before .before .before .add-piece .kept .1 .1 .1 .1 .0 ∙ c .before .before .before .before .before .before .before .before .before .before .before .before .before .before .before .before .before .before .before .before .before .before .before .before .before .before .before .before .before .before .before .load .kept .1 .1 .1 .1 .0
+same-length-5 c =
+    let put = c .before .before .before .before .before .before .before .before .before .before .before .before .before .before .before .before .before .before .before in
+    let loaded = put .before .before .before .before .before .before .before .before .before .before .before .before in
+    put .add-piece .kept .1 .1 .1 .1 .0 ∙ loaded .load .kept .1 .1 .1 .1 .0
 
 same-length-6 : tie.Need-same-length-6
 same-length-6 c = search needs
 
 returns : tie.Need-returns
 returns c =
-    let start = c .before .before .before .before .before .before .before .before .before .before .before .before .before .before .before .before .before .before .before .before .before .before .before .before .before .before .before .before .before .before .before .before .before .before .before .before .before .before .before .before .before .before .before .before .before .before in
-    let load = c .before .before .before .before .before .before .before .before .before .before .before .before .before .before .before .before .before .before .before .before .before .before .before .before .before .before .before .before .before .before .before .load in
-    let added = c .before .before .before .before .before .before .before .before .before .before .before .before .before .before .before .before .before .before .before .add-piece in
+    let put = c .before .before .before .before .before .before .before .before .before .before .before .before .before .before .before .before .before .before .before in
+    let loaded = put .before .before .before .before .before .before .before .before .before .before .before .before in
+    let start = loaded .before .before .before .before .before .before .before .before .before .before .before .before .before .before .before in
+    let added = put .add-piece in
     let finish = c .before .before .before .before .before .before .finish in
     let a = start .args in
-    let h = loaded-readable (start .pre .0) (start .pre .1 .0 .scratch) (load .ensures) in
+    let h = loaded-readable (start .pre .0) (start .pre .1 .0 .scratch) (loaded .load .ensures) in
     let did = whole-added (a .outro) (a .front) (a .text .now) (a .pieces .now) (a .store .now) _ _ _ _ h (added .ensures) (added .kept .1 .1 .1 .0) in
-    (whole-ran (a .outro) (a .front) (a .text .now) (start .pre .0) (start .pre .1 .0) (load .ensures) did (finish .ensures .0), finish .ensures .1)
+    (whole-ran (a .outro) (a .front) (a .text .now) (start .pre .0) (start .pre .1 .0) (loaded .load .ensures) did (finish .ensures .0), finish .ensures .1)
 
 pub whole-by-spec : {M : Type 1} → statement M
 whole-by-spec =

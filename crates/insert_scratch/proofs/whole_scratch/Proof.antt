@@ -7,10 +7,6 @@ use Rattle.insert_row.specs.Calls.{whole-long}
 use borrow.Author.Needs.{needs}
 use Rattle.insert_scratch.proofs.whole_scratch.Statement.{statement}
 use Rattle.insert_scratch.proofs.whole_scratch.Tie as tie
-use Rattle.insert_scratch.proofs.whole_scratch.Reads as reads
-use Rattle.insert_scratch.proofs.whole_scratch.Lts as lts
-use Rattle.insert_scratch.proofs.whole_by.Reads as whole-by-reads
-use Rattle.on_top.proofs.counted.Reads as counted-reads
 
 counted-requires : tie.Need-counted-requires
 counted-requires c κs = formed-usable (c .before .before .before .before .before .before .before .before .before .pre)

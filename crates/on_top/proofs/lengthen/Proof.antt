@@ -1,18 +1,9 @@
 -- `on_top::lengthen` meets its contract, in each of its three ways: a row behind the run, the run behind a row, the run with a row behind it.
-use mathlib.Core.Path.{_≡_, sym, _∙_, subst}
-use Prim.Native.Nat.{ℕ}
 use native.Mathlib.Omega.{arith}
-use Rattle.on_top.specs.Run.{Lengthened}
 use Rattle.on_top.proofs.Lengthening.{front-room, lengthen-front, behind-room, lengthen-behind, lengthen-here}
 use borrow.Author.Needs.{needs}
 use Rattle.on_top.proofs.lengthen.Statement.{statement}
 use Rattle.on_top.proofs.lengthen.Tie as tie
-use Rattle.on_top.proofs.lengthen.Reads as reads
-use Rattle.on_top.proofs.lengthen.Lts as lts
-use Rattle.carry.proofs.push_piece.Reads as push-piece-reads
-use Rattle.on_top.proofs.copy_rows.Reads as copy-rows-reads
-use Rattle.on_top.proofs.ends_at.Reads as ends-at-reads
-use Rattle.on_top.proofs.wide.Reads as wide-reads
 
 ends-at-requires : tie.Need-ends-at-requires
 ends-at-requires c κs = search needs
