@@ -13,5 +13,6 @@ module _ {source t p s numbers : List ℕ} where
         well-formed = λ w. absurd (none w);
       }
 
-  pub made : {t′ p′ s′ numbers′ : List ℕ} (n : ℕ) → WellFormed source t p s → WellFormed source t′ p′ s′ → PaperMade source t p s numbers t′ p′ s′ numbers′ (record { number = 0; value = n })
+  pub made : {t′ p′ s′ numbers′ : List ℕ} (n : ℕ) → WellFormed source t p s → WellFormed source t′ p′ s′
+      → PaperMade source t p s numbers t′ p′ s′ numbers′ (record { number = 0; value = n })
   made n w w′ = record { not-well-formed = λ none. absurd (none w); well-formed = λ _. (refl, w′) }

@@ -1,7 +1,6 @@
 // For tests alone: the inner functions behind two exported ones, on tables of any size. A paper's calls are made one after the other behind one check, and
 // what the desk uses is handed from each to the next.
-ghost use mathlib.Core.Path.{_≡_};
-ghost use Prim.Native.Nat.{_+_, _*_, _≤_, _<_};
+ghost use Prim.Native.Nat.{_+_, _*_, _≤_};
 ghost use lib.ListN.{length};
 ghost use Rattle.memory.specs.WellFormed.{WellFormed};
 ghost use Rattle.memory_used.specs.Above.{Desk};
@@ -21,8 +20,10 @@ struct Call {
     n: u32,
 }
 
-// The words of a call, and the most calls that an answer can count.
+// The words of a call.
 const WORDS: usize = 6;
+
+// The most calls that an answer can count.
 const MOST: usize = 0xFFFF_FFFF;
 
 // Kinds 1 to 3: a range.
@@ -84,7 +85,17 @@ fn edit_text(
     match kind {
         8 => append::append(source, chunks, pieces, store, text, used),
         9 => prepend::prepend(source, chunks, pieces, store, text, used),
-        _ => update::update_with(source, chunks, pieces, store, k.a, k.b, text, k.c != 0, used),
+        _ => update::update_with(
+            source,
+            chunks,
+            pieces,
+            store,
+            k.a,
+            k.b,
+            text,
+            k.c != 0,
+            used,
+        ),
     }
 }
 
@@ -173,14 +184,14 @@ fn smaller(a: usize, b: usize) -> usize
     b
 }
 
-// How many calls of a list there is room for, in numbers and in an answer.
+// How many calls of a list have room for their numbers, and an answer can count.
 fn count(calls: &[u32], numbers: &[u32]) -> usize
     ensures { λ r. ⌜ (r * 6 ≤ length (now (calls .entry))) × (r ≤ length (now (numbers .entry))) × (r ≤ 0xFFFFFFFF) ⌝ }
 {
     smaller(smaller(calls.len() / WORDS, numbers.len()), MOST)
 }
 
-// The i-th call of a list, made.
+// The i-th call of a list, made. No indent excludes a position.
 fn step(
     source: &[u8],
     chunks: &mut [u32],
@@ -226,7 +237,7 @@ fn all(
     n
 }
 
-// Opens a desk in tables of any size: 2 where they have none of a desk.
+// Opens a desk in tables of any size: 2 where their sizes are no desk's.
 #[no_mangle]
 pub extern "C" fn inner_open(
     source: &[u8],
@@ -262,9 +273,7 @@ pub extern "C" fn inner_paper(
             value: 0,
         };
     };
-    let n = all(
-        source, chunks, pieces, store, calls, texts, numbers, used,
-    );
+    let n = all(source, chunks, pieces, store, calls, texts, numbers, used);
     Answer {
         number: 0,
         value: n as u32,

@@ -35,6 +35,7 @@ pub fn edited(source: usize, chunks: usize) -> DeskData {
 }
 
 /// A desk whose replacements, one in two chunks, leave some 160 bytes of the store.
+#[cfg(feature = "inner")]
 pub fn nearly_full(chunks: usize) -> DeskData {
   let chunk = |index: usize| ChunkData {
     start: (index * 20) as u32,

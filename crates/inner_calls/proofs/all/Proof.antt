@@ -9,8 +9,8 @@ use Rattle.inner_calls.proofs.all.Tie as tie
 
 abbrev Inv-loop : tie.InvT-loop
 Inv-loop source chunks₀ pieces₀ store₀ calls texts numbers₀ n used₀ i₀ chunks pieces store numbers used i =
-    Desk source chunks pieces store used × (i ≤ n) × (n * 6 ≤ length calls) × (n ≤ length numbers)
-        × (length chunks ≡ length chunks₀) × (length pieces ≡ length pieces₀) × (length store ≡ length store₀) × (length numbers ≡ length numbers₀)
+    Desk source chunks pieces store used × (i ≤ n) × (n * 6 ≤ length calls) × (n ≤ length numbers) × (n ≤ 0xFFFFFFFF)
+    × (length chunks ≡ length chunks₀) × (length pieces ≡ length pieces₀) × (length store ≡ length store₀) × (length numbers ≡ length numbers₀)
 
 abbrev μ-loop : tie.MeasureT-loop
 μ-loop source chunks₀ pieces₀ store₀ calls texts numbers₀ n used₀ i₀ chunks pieces store numbers used i =
@@ -26,9 +26,7 @@ step-requires : tie.Need-step-requires Inv-loop μ-loop
 step-requires c κs = search needs
 
 mul-numbers : tie.Need-mul-numbers Inv-loop μ-loop
-mul-numbers c =
-    let loop = c .before .before .before .before .before .before .before .before .before .before .before .loop in
-    omega (arith, loop .inv .1, loop .inv .2, c .before .before .before .before .before .before .before .before .before .before .loop-test .taken, c .before .before .before .before .before .before .before .before .before .before .before .before .before .before .before .before .before .before .before .before .before .good)
+mul-numbers c = search needs
 
 slice-write-numbers : tie.Need-slice-write-numbers Inv-loop μ-loop
 slice-write-numbers c = search needs
@@ -43,9 +41,17 @@ loop-again : tie.Need-loop-again Inv-loop μ-loop
 loop-again c =
     let loop = c .before .before .before .before .before .before .before .before .before .before .before .before .loop in
     let step = c .before .before .before .before .before .before .before .step in
-    let i = loop .inv in
-    (step .ensures, omega (arith, c .before .before .before .before .before .before .before .before .before .before .before .loop-test .taken), i .2, simp length-set (i .3), step .kept .1 .0 ∙ i .4,
-        step .kept .1 .1 .0 ∙ i .5, step .kept .1 .1 .1 .0 ∙ i .6, simp length-set (i .7))
+    let i = loop .inv in (
+      step .ensures,
+      omega (arith, c .before .before .before .before .before .before .before .before .before .before .before .loop-test .taken),
+      i .2,
+      simp length-set (i .3),
+      i .4,
+      step .kept .1 .0 ∙ i .5,
+      step .kept .1 .1 .0 ∙ i .6,
+      step .kept .1 .1 .1 .0 ∙ i .7,
+      simp length-set (i .8),
+    )
 
 same-length : tie.Need-same-length Inv-loop μ-loop
 same-length c = search needs

@@ -44,8 +44,10 @@ same-length-7 c = search needs
 
 returns-2 : tie.Need-returns-2
 returns-2 c =
-    let desk = c .before .before .before .before .before .before .before .before .before .before .before .before .before .before .before .before .seen .ensures .desk _ (c .before .before .before .before .before .before .before .before .before .before .before .before .before .before .used .given .1) in
-    made _ (desk .well-formed) (c .before .before .before .before .before .before .before .before .all .ensures .0)
+    let all = c .before .before .before .before .before .before .before .before .all in
+    let used = c .before .before .before .before .before .before .before .before .before .before .before .before .before .before .used in
+    let seen = c .before .before .before .before .before .before .before .before .before .before .before .before .before .before .before .before .seen in
+    made _ (seen .ensures .desk _ (used .given .1) .well-formed) (all .ensures .0)
 
 pub inner-paper-spec : {M : Type 1} → statement M
 inner-paper-spec =
