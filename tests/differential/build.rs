@@ -1,6 +1,7 @@
-//! With the feature `archive`: links libmagic_string.a from the folder that the
-//! variable MAGIC_STRING_LIB names. A function that the archive does not have is
-//! an error, unless MAGIC_STRING_PARTIAL is set: then its calls are passed over.
+//! Links archives from the folder that the variable MAGIC_STRING_LIB names: with
+//! the feature `archive` libmagic_string.a, with the feature `inner`
+//! libinner_calls.a. A function that the archive does not have is an error, unless
+//! MAGIC_STRING_PARTIAL is set: then its calls are passed over.
 
 use std::{env, fs, path::Path};
 
@@ -11,19 +12,34 @@ fn main() {
   println!("cargo::rerun-if-env-changed=MAGIC_STRING_LIB");
   println!("cargo::rerun-if-env-changed=MAGIC_STRING_PARTIAL");
   println!("cargo::rerun-if-changed=src/exported.rs");
-  if env::var_os("CARGO_FEATURE_ARCHIVE").is_some()
-    && let Err(message) = link()
-  {
-    println!("cargo::error={message}");
+  for (feature, link) in [("ARCHIVE", exported as fn() -> _), ("INNER", inner)] {
+    if env::var_os(format!("CARGO_FEATURE_{feature}")).is_some()
+      && let Err(message) = link()
+    {
+      println!("cargo::error={message}");
+    }
   }
 }
 
-fn link() -> Result<(), String> {
+/// The inner functions.
+fn inner() -> Result<(), String> {
+  archive("inner_calls").map(|_| ())
+}
+
+/// Has the archive of this name linked, and reads it.
+fn archive(name: &str) -> Result<Vec<u8>, String> {
   let folder = env::var("MAGIC_STRING_LIB")
-    .map_err(|_| "MAGIC_STRING_LIB must name the folder of libmagic_string.a".to_string())?;
-  let archive = Path::new(&folder).join("libmagic_string.a");
+    .map_err(|_| format!("MAGIC_STRING_LIB must name the folder of lib{name}.a"))?;
+  let archive = Path::new(&folder).join(format!("lib{name}.a"));
   println!("cargo::rerun-if-changed={}", archive.display());
-  let bytes = fs::read(&archive).map_err(|error| format!("{}: {error}", archive.display()))?;
+  println!("cargo::rustc-link-search=native={folder}");
+  println!("cargo::rustc-link-lib=static={name}");
+  fs::read(&archive).map_err(|error| format!("{}: {error}", archive.display()))
+}
+
+/// The exported functions.
+fn exported() -> Result<(), String> {
+  let bytes = archive("magic_string")?;
   let lacks = |name: &&&str| !has_symbol(&bytes, name);
   let needed: Vec<_> = exported::NEEDED.iter().filter(lacks).collect();
   let missing: Vec<_> = exported::EXPORTED.iter().filter(lacks).collect();
@@ -36,8 +52,6 @@ fn link() -> Result<(), String> {
   let out = env::var("OUT_DIR").map_err(|error| error.to_string())?;
   let stand_ins = stand_ins(&missing);
   fs::write(Path::new(&out).join("missing.rs"), stand_ins).map_err(|error| error.to_string())?;
-  println!("cargo::rustc-link-search=native={folder}");
-  println!("cargo::rustc-link-lib=static=magic_string");
   Ok(())
 }
 

@@ -21,7 +21,7 @@ pub fn print(core: &mut impl Core, desk: &DeskData) {
   let (source, chunks) = (desk.source.len(), desk.chunks.len());
   println!("\nsource of {source} bytes, {chunks} chunks");
   print!("{:<30} {:>10} {:>10} {:>8}", "", "Rust ns", "ns", "ratio");
-  println!(" {:>10} {:>8}", "inner ns", "ratio");
+  println!(" {:>10} {:>8}", "less check", "ratio");
   let rust = Desk::build(Limits::FULL, desk).magic_string().clone();
   let image = image::encode_in(Style::tight(), desk, &mut Random::new(1));
   let source: &'static str = desk.source.clone().leak();
@@ -41,9 +41,9 @@ pub fn print(core: &mut impl Core, desk: &DeskData) {
   println!("{:<30} {:>10} {:>10.0}", "floor: from_utf8 and a copy", "", utf8 + copied);
 }
 
-fn line(name: &str, theirs: f64, ours: f64, inner: f64) {
+fn line(name: &str, theirs: f64, ours: f64, less: f64) {
   print!("{name:<30} {theirs:>10.0} {ours:>10.0} {:>8.2}", ours / theirs);
-  println!(" {:>10.0} {:>8.2}", inner.max(0.0), inner.max(0.0) / theirs);
+  println!(" {:>10.0} {:>8.2}", less.max(0.0), less.max(0.0) / theirs);
 }
 
 /// Nanoseconds of the check alone, which an exported call makes first.

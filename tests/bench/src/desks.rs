@@ -34,6 +34,19 @@ pub fn edited(source: usize, chunks: usize) -> DeskData {
   }
 }
 
+/// A desk whose replacements, one in two chunks, leave some 160 bytes of the store.
+#[cfg(feature = "inner")]
+pub fn nearly_full(chunks: usize) -> DeskData {
+  let chunk = |index: usize| ChunkData {
+    start: (index * 20) as u32,
+    end: (index * 20 + 20) as u32,
+    edited_content: (index % 2 == 0).then(|| "r".repeat(2 * 32_600 / chunks)),
+    ..Default::default()
+  };
+  let source = "abcdefghi ".repeat(2 * chunks);
+  DeskData { source, chunks: (0..chunks).map(chunk).collect(), ..Default::default() }
+}
+
 /// A desk that takes one part in `part` of every limit: each chunk has a
 /// replacement and a piece on either side.
 pub fn part_of_limits(part: usize, unit: &str) -> DeskData {

@@ -1,9 +1,13 @@
 //! `bench`: the time of each call as a ratio to the Rust's, measured in the same
-//! run; whole papers; and the check alone.
+//! run; whole papers, by exported and by inner calls; and the check alone.
 
 mod calls;
 mod check;
 mod desks;
+#[cfg(feature = "inner")]
+mod inner;
+#[cfg(feature = "inner")]
+mod moved;
 mod papers;
 mod rust;
 mod timing;
@@ -16,8 +20,9 @@ Each call gets its own copy of the desk, made before the clock starts, with its 
 and texts at the front of the tables, as calls leave them. Output buffers and, in
 whole papers, the tables are lent again as they are: they are not cleared.
 The Rust's texts are borrowed, and its reports make a string of their own.
-An exported call checks its memory first; 'inner' is its time less that of the check
-(`well_formed`) alone, which is what a proved caller pays.
+An exported call checks its memory first; 'less check' is its time less that of the
+check (`well_formed`) alone. By inner calls, a list of edits has one check in front of
+it, and what the desk uses is handed from each to the next, as proved callers do.
 The Rust is built with the oracle's stand-ins: std's hash map for rustc_hash, and
 plain loops for memchr and simd_utf16_len. With those crates it would be faster.
 ";
@@ -32,5 +37,11 @@ fn main() {
     }
   }
   papers::print(&mut core);
+  #[cfg(feature = "inner")]
+  {
+    inner::papers(&mut core);
+    inner::ends();
+    inner::top();
+  }
   check::print(&mut core);
 }

@@ -17,23 +17,24 @@ const EDITS: usize = 200;
 pub fn print(core: &mut impl Core) {
   println!("\na whole paper: open, {EDITS} edits, to_string");
   print!("{:<30} {:>10} {:>10} {:>8}", "", "Rust us", "us", "ratio");
-  println!(" {:>10} {:>8}", "inner us", "ratio");
+  println!(" {:>10} {:>8}", "less check", "ratio");
   for source in [2_048, 16_384] {
     let source = desks::edited(source, 1).source;
-    let calls = edits(&source);
+    let fresh = Desk::open(Limits::FULL, source.as_bytes()).expect("a source within the limits");
+    let calls = edits(&fresh, 7);
     let theirs = rust(&source, &calls) / 1_000.0;
     let ours = time(core, &source, &calls) / 1_000.0;
-    let inner = ours - checks(core, &source, &calls) / 1_000.0;
+    let less = ours - checks(core, &source, &calls) / 1_000.0;
     let name = format!("source of {} bytes", source.len());
     print!("{name:<30} {theirs:>10.1} {ours:>10.1} {:>8.2}", ours / theirs);
-    println!(" {inner:>10.1} {:>8.2}", inner / theirs);
+    println!(" {less:>10.1} {:>8.2}", less / theirs);
   }
 }
 
 /// Edits at random that are accepted, one after the other.
-fn edits(source: &str) -> Vec<Call> {
-  let mut random = Random::new(7);
-  let mut desk = Desk::open(Limits::FULL, source.as_bytes()).expect("a source within the limits");
+pub fn edits(desk: &Desk, seed: u64) -> Vec<Call> {
+  let (mut desk, mut random) = (desk.clone(), Random::new(seed));
+  let source = desk.magic_string().source().to_string();
   let mut calls = Vec::new();
   while calls.len() < EDITS {
     let at = random.below(source.len()) as u32;
@@ -55,7 +56,7 @@ fn edits(source: &str) -> Vec<Call> {
   calls
 }
 
-fn rust(source: &str, calls: &[Call]) -> f64 {
+pub fn rust(source: &str, calls: &[Call]) -> f64 {
   let source: &'static str = source.to_string().leak();
   let calls: Vec<RustCall> = calls.iter().map(RustCall::new).collect();
   least(

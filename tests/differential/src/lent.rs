@@ -1,5 +1,7 @@
 //! What a caller lends to an exported function, and what the function returns.
 
+use crate::Sizes;
+
 /// The four slices of a desk. Their lengths are the caller's: other lengths than
 /// the layout's are no desk.
 #[derive(Debug)]
@@ -8,6 +10,13 @@ pub struct Lent<'a> {
   pub chunks: &'a mut [u32],
   pub pieces: &'a mut [u32],
   pub store: &'a mut [u8],
+}
+
+impl Lent<'_> {
+  /// The sizes of the tables; none where they are no desk's.
+  pub fn sizes(&self) -> Option<Sizes> {
+    Sizes::of(self.chunks, self.pieces, self.store)
+  }
 }
 
 /// The number, and what the call reports: bytes written, for a call that fills

@@ -4,13 +4,32 @@ use std::fmt;
 
 use oracle::{Call, DeskData, dump};
 
+use crate::Sizes;
+
 #[derive(Debug, Clone)]
 pub struct Paper {
+  /// Of the tables.
+  pub sizes: Sizes,
   pub start: Start,
   pub calls: Vec<Made>,
   /// Whether each call gets the desk of the start, not the one that the call
   /// before it left.
   pub each_from_start: bool,
+  /// How many edits at most are made one behind the other before anything is
+  /// compared: as a list, where the core takes such.
+  pub at_once: usize,
+}
+
+impl Paper {
+  /// Calls on tables of the full sizes, each on what the one before it left.
+  pub fn new(start: Start, calls: Vec<Made>) -> Self {
+    Self { sizes: Sizes::FULL, start, calls, each_from_start: false, at_once: 1 }
+  }
+
+  /// The same, but each call gets the desk of the start.
+  pub fn each(start: Start, calls: Vec<Made>) -> Self {
+    Self { each_from_start: true, ..Self::new(start, calls) }
+  }
 }
 
 /// What stands in the memory at first.
@@ -39,8 +58,14 @@ impl fmt::Display for Paper {
         writeln!(out, "# {}", dump::print(desk))?;
       }
     }
+    if self.sizes != Sizes::FULL {
+      writeln!(out, "# tables of {}", self.sizes)?;
+    }
     if self.each_from_start {
       writeln!(out, "# each call gets the desk of the start")?;
+    }
+    if self.at_once > 1 {
+      writeln!(out, "# up to {} edits at once", self.at_once)?;
     }
     self.calls.iter().try_for_each(|made| writeln!(out, "{}", made.call))
   }

@@ -3,15 +3,17 @@
 use oracle::{Answer as Expected, Call, Desk, Limits, apply, dump, number, random::Random};
 
 use crate::{
-  Answer, Core, Image, Made, Start, Unseen, image, keeps,
+  Answer, Core, Image, Made, Sizes, Start, Unseen, holds_desk,
+  image::{self, Style},
+  keeps,
   layout::{MOST_BYTES, MOST_SOURCE},
   out::Out,
-  well_formed,
 };
 
 /// The oracle's desk and the core's memory, which mean the same.
 #[derive(Debug, Clone)]
 pub struct Both {
+  limits: Limits,
   /// None before the first accepted opening.
   desk: Option<Desk>,
   image: Image,
@@ -19,21 +21,26 @@ pub struct Both {
 }
 
 impl Both {
-  pub fn start(start: &Start) -> Self {
+  pub fn start(sizes: Sizes, start: &Start) -> Self {
     match start {
       Start::Junk { seed } => {
-        let image = Image::junk(Vec::new(), &mut Random::new(*seed));
-        Self { desk: None, before: image.clone(), image }
+        let image = Image::junk_in(sizes, Vec::new(), &mut Random::new(*seed));
+        Self { limits: sizes.limits(), desk: None, before: image.clone(), image }
       }
-      Start::Desk { desk, seed } => Self::of(image::encode(desk, &mut Random::new(*seed))),
+      Start::Desk { desk, seed } => {
+        let mut random = Random::new(*seed);
+        let style = Style::any(&mut random).sized(sizes);
+        Self::of(image::encode_in(style, desk, &mut random))
+      }
     }
   }
 
   /// From memory that is well formed.
   pub fn of(image: Image) -> Self {
     let data = image::decode(&image.source, &image.chunks, &image.pieces, &image.store);
-    let desk = Some(Desk::build(Limits::FULL, &data));
-    Self { desk, before: image.clone(), image }
+    let limits = image.sizes().expect("the memory of a desk").limits();
+    let desk = Some(Desk::build(limits, &data));
+    Self { limits, desk, before: image.clone(), image }
   }
 
   /// The core takes the memory for what it is.
@@ -70,11 +77,36 @@ impl Both {
     Ok(expected.number)
   }
 
+  /// Makes edits one behind the other on both sides, none of them an opening.
+  /// Their numbers, or what differs with the place of the call where it is seen.
+  pub fn list(&mut self, core: &mut impl Core, list: &[Made]) -> Result<Vec<u32>, (usize, String)> {
+    let calls: Vec<&Call> = list.iter().map(|made| &made.call).collect();
+    let expected: Vec<Expected> = calls.iter().map(|call| self.expected(call)).collect();
+    let unseen = Unseen::any(&mut Random::new(list[0].seed));
+    self.before.copy_from(&self.image);
+    let answers = core.list(&mut self.image.lend(), &calls, &unseen);
+
+    let last = list.len() - 1;
+    if answers.len() != list.len() {
+      return Err((last, format!("{} answers, not {}", answers.len(), list.len())));
+    }
+    for (place, (&answer, expected)) in answers.iter().zip(&expected).enumerate() {
+      check_answer(answer, expected).map_err(|what| (place, what))?;
+    }
+    let mut each = calls.iter().zip(&expected);
+    let kept = each.all(|(call, expected)| keeps::every_byte(call, expected.number));
+    let left = if kept { self.unchanged() } else { self.same_desk() };
+    let source = self.image.source == self.before.source;
+    let left = left.and(source.then_some(()).ok_or("the source changed".to_string()));
+    left.map_err(|what| (last, what))?;
+    Ok(expected.iter().map(|expected| expected.number).collect())
+  }
+
   /// The oracle's answer: 2 where there is no desk yet.
   fn expected(&mut self, call: &Call) -> Expected {
     match (&mut self.desk, call) {
       (Some(desk), _) => apply(desk, call),
-      (None, Call::Open { source }) => match Desk::open(Limits::FULL, source) {
+      (None, Call::Open { source }) => match Desk::open(self.limits, source) {
         Ok(desk) => {
           self.desk = Some(desk);
           Expected::number(number::ACCEPTED)
@@ -106,7 +138,7 @@ impl Both {
 
   fn same_desk(&self) -> Result<(), String> {
     let Image { source, chunks, pieces, store } = &self.image;
-    if !well_formed(source, chunks, pieces, store) {
+    if !holds_desk(source, chunks, pieces, store) {
       return Err("the desk is not well formed".to_string());
     }
     let left = image::decode(source, chunks, pieces, store);

@@ -6,6 +6,8 @@ use std::fmt;
 pub struct Tally {
   pub papers: u64,
   pub calls: u64,
+  /// Lists of edits that were made at once.
+  pub lists: u64,
   /// Calls that the core does not have.
   pub passed_over: u64,
   pub numbers: [u64; 16],
@@ -22,6 +24,9 @@ impl fmt::Display for Tally {
   fn fmt(&self, out: &mut fmt::Formatter) -> fmt::Result {
     writeln!(out, "papers: {}", self.papers)?;
     writeln!(out, "calls: {}", self.calls)?;
+    if self.lists > 0 {
+      writeln!(out, "made in lists: {}", self.lists)?;
+    }
     if self.passed_over > 0 {
       writeln!(out, "calls passed over, as the core has none such: {}", self.passed_over)?;
     }

@@ -1,14 +1,22 @@
 //! Whether memory is a desk: document 01's sentence, clause by clause, in the
 //! words of docs/LAYOUT.md. It is written to be read beside them, not to be fast.
 
-use crate::layout::*;
+use oracle::Limits;
 
-/// True exactly if these four slices are a well-formed desk.
+use crate::{Sizes, layout::*};
+
+/// True exactly if these four slices are a well-formed desk of the full sizes:
+/// at most 512 chunks, 1,024 pieces and 32,768 bytes.
 pub fn well_formed(source: &[u8], chunks: &[u32], pieces: &[u32], store: &[u8]) -> bool {
-  if chunks.len() != 6_156 || pieces.len() != 4_096 || store.len() != 32_768 {
-    return false;
-  }
-  let desk = Memory { source, chunks, pieces, store };
+  let full = chunks.len() == 6_156 && pieces.len() == 4_096 && store.len() == 32_768;
+  full && holds_desk(source, chunks, pieces, store)
+}
+
+/// True exactly if they are a well-formed desk, with the limits of tables of
+/// their sizes.
+pub fn holds_desk(source: &[u8], chunks: &[u32], pieces: &[u32], store: &[u8]) -> bool {
+  let Some(sizes) = Sizes::of(chunks, pieces, store) else { return false };
+  let desk = Memory { limits: sizes.limits(), source, chunks, pieces, store };
   desk.limits_of_source_and_chunks()
     && desk.spans_cover_the_source()
     && desk.one_list_holds_every_chunk()
@@ -18,6 +26,7 @@ pub fn well_formed(source: &[u8], chunks: &[u32], pieces: &[u32], store: &[u8]) 
 }
 
 struct Memory<'a> {
+  limits: Limits,
   source: &'a [u8],
   chunks: &'a [u32],
   pieces: &'a [u32],
@@ -34,11 +43,11 @@ impl Memory<'_> {
     1..=self.word(0, START)
   }
 
-  /// A source of at most 16,384 bytes and 1 to 512 chunks. The clauses below
-  /// rely on it.
+  /// A source of at most 16,384 bytes, and at least a chunk and not too many. The
+  /// clauses below rely on it.
   fn limits_of_source_and_chunks(&self) -> bool {
     let count = self.word(0, START);
-    self.source.len() <= 16_384 && (1..=512).contains(&count)
+    self.source.len() <= 16_384 && (1..=self.limits.chunks).contains(&count)
   }
 
   /// The spans cover the source once, end between characters, and none is empty;
@@ -92,11 +101,12 @@ impl Memory<'_> {
     lists
   }
 
-  /// At most 1,024 pieces; every list lies inside `pieces`, and no row stands in
+  /// Not too many pieces; every list lies inside `pieces`, and no row stands in
   /// two lists or twice in one.
   fn lists_lie_inside_and_apart(&self) -> bool {
     let lists = self.lists();
-    lists.iter().map(|&(_, n)| n).sum::<usize>() <= 1_024 && apart(&lists, 2_048)
+    let count = lists.iter().map(|&(_, n)| n).sum::<usize>();
+    count <= self.limits.pieces && apart(&lists, self.pieces.len() / PIECE)
   }
 
   /// Where each text begins and how many bytes it has: pieces and replacements.
@@ -116,11 +126,12 @@ impl Memory<'_> {
     texts
   }
 
-  /// At most 32,768 bytes; every text lies inside the store, an empty one too,
-  /// and no byte belongs to two texts.
+  /// Not too many bytes; every text lies inside the store, an empty one too, and
+  /// no byte belongs to two texts.
   fn texts_lie_inside_and_apart(&self) -> bool {
     let texts = self.texts();
-    texts.iter().map(|&(_, n)| n).sum::<usize>() <= 32_768 && apart(&texts, 32_768)
+    let bytes = texts.iter().map(|&(_, n)| n).sum::<usize>();
+    bytes <= self.limits.bytes && apart(&texts, self.store.len())
   }
 
   fn source_and_texts_are_utf8(&self) -> bool {

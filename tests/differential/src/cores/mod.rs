@@ -2,16 +2,20 @@
 
 #[cfg(feature = "archive")]
 mod archive;
+#[cfg(feature = "inner")]
+mod inner;
 mod stand_in;
 mod unseen;
 
 #[cfg(feature = "archive")]
 pub use archive::Archive;
+#[cfg(feature = "inner")]
+pub use inner::{Inner, List};
 use oracle::Call;
 pub use stand_in::StandIn;
 pub use unseen::Unseen;
 
-use crate::{Answer, Lent};
+use crate::{Answer, Lent, Sizes, holds_desk};
 
 pub trait Core {
   /// For the printed report.
@@ -28,6 +32,23 @@ pub trait Core {
 
   /// 0 for a desk that is well formed, else 2.
   fn well_formed(&mut self, lent: &Lent) -> Answer;
+
+  /// Whether the core takes desks of these sizes: exported calls take the full.
+  fn takes(&self, sizes: Sizes) -> bool {
+    sizes == Sizes::FULL
+  }
+
+  /// Makes edits one behind the other: as one list, where the core takes such.
+  fn list(&mut self, lent: &mut Lent, calls: &[&Call], unseen: &Unseen) -> Vec<Answer> {
+    calls.iter().map(|call| self.call(lent, call, unseen, &mut [])).collect()
+  }
+}
+
+/// What `Core::well_formed` must answer.
+pub fn verdict(core: &impl Core, lent: &Lent) -> Answer {
+  let taken = lent.sizes().is_some_and(|sizes| core.takes(sizes));
+  let holds = taken && holds_desk(lent.source, lent.chunks, lent.pieces, lent.store);
+  if holds { Answer::ACCEPTED } else { Answer::NO_DESK }
 }
 
 /// The core of this build: the archive where it is linked, else the stand-in.
@@ -40,4 +61,18 @@ pub fn chosen(_seed: u64) -> Archive {
 #[cfg(not(feature = "archive"))]
 pub fn chosen(seed: u64) -> StandIn {
   StandIn::new(seed)
+}
+
+/// The core for desks of any size: the inner functions where they are linked, else
+/// the stand-in.
+#[cfg(feature = "inner")]
+pub fn chosen_inner(_seed: u64) -> Inner {
+  Inner
+}
+
+/// The core for desks of any size: the inner functions where they are linked, else
+/// the stand-in.
+#[cfg(not(feature = "inner"))]
+pub fn chosen_inner(seed: u64) -> StandIn {
+  StandIn::of_any_size(seed)
 }

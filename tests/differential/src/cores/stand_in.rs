@@ -3,36 +3,44 @@
 //! freedoms of the layout. It shows that the harness finds no difference where
 //! there is none.
 
-use oracle::{Call, Desk, Limits, apply, number, random::Random};
+use oracle::{Call, Desk, apply, number, random::Random};
 
-use super::{Core, Unseen};
-use crate::{Answer, Lent, image, keeps, well_formed};
+use super::{Core, Unseen, verdict};
+use crate::{Answer, Lent, Sizes, image, image::Style, keeps};
 
 #[derive(Debug, Clone)]
 pub struct StandIn {
   random: Random,
+  any_size: bool,
 }
 
 impl StandIn {
+  /// For the exported calls.
   pub fn new(seed: u64) -> Self {
-    Self { random: Random::new(seed) }
+    Self { random: Random::new(seed), any_size: false }
+  }
+
+  /// For the inner functions, which take desks of any size.
+  pub fn of_any_size(seed: u64) -> Self {
+    Self { any_size: true, ..Self::new(seed) }
   }
 
   fn open(&mut self, lent: &mut Lent) -> Answer {
-    if !has_layout(lent) {
+    let Some(sizes) = lent.sizes().filter(|&sizes| self.takes(sizes)) else {
       return Answer::NO_DESK;
-    }
-    match Desk::open(Limits::FULL, lent.source) {
+    };
+    match Desk::open(sizes.limits(), lent.source) {
       Ok(desk) => {
-        self.lay_out(&desk, lent);
+        self.lay_out(sizes, &desk, lent);
         Answer::ACCEPTED
       }
       Err(number) => Answer { number, value: 0 },
     }
   }
 
-  fn lay_out(&mut self, desk: &Desk, lent: &mut Lent) {
-    let image = image::encode(&desk.data(), &mut self.random);
+  fn lay_out(&mut self, sizes: Sizes, desk: &Desk, lent: &mut Lent) {
+    let style = Style::any(&mut self.random).sized(sizes);
+    let image = image::encode_in(style, &desk.data(), &mut self.random);
     lent.chunks.copy_from_slice(&image.chunks);
     lent.pieces.copy_from_slice(&image.pieces);
     lent.store.copy_from_slice(&image.store);
@@ -48,11 +56,11 @@ impl Core for StandIn {
     if matches!(call, Call::Open { .. }) {
       return self.open(lent);
     }
-    if self.well_formed(lent) != Answer::ACCEPTED {
+    let Some(sizes) = lent.sizes().filter(|_| self.well_formed(lent) == Answer::ACCEPTED) else {
       return Answer::NO_DESK;
-    }
+    };
     let data = image::decode(lent.source, lent.chunks, lent.pieces, lent.store);
-    let mut desk = Desk::build(Limits::FULL, &data);
+    let mut desk = Desk::build(sizes.limits(), &data);
     let mut call = call.clone();
     if let Some(room) = call.room_mut() {
       *room = Some(out.len() as u32);
@@ -62,20 +70,16 @@ impl Core for StandIn {
       out[..answer.bytes.len()].copy_from_slice(&answer.bytes);
     }
     if !keeps::every_byte(&call, answer.number) {
-      self.lay_out(&desk, lent);
+      self.lay_out(sizes, &desk, lent);
     }
     Answer { number: answer.number, value: answer.value }
   }
 
   fn well_formed(&mut self, lent: &Lent) -> Answer {
-    let holds = well_formed(lent.source, lent.chunks, lent.pieces, lent.store);
-    if holds { Answer::ACCEPTED } else { Answer::NO_DESK }
+    verdict(self, lent)
   }
-}
 
-fn has_layout(lent: &Lent) -> bool {
-  use crate::layout::*;
-  lent.chunks.len() == CHUNK_WORDS
-    && lent.pieces.len() == PIECE_WORDS
-    && lent.store.len() == STORE_BYTES
+  fn takes(&self, sizes: Sizes) -> bool {
+    self.any_size || sizes == Sizes::FULL
+  }
 }

@@ -70,11 +70,13 @@ fn used_and_some(image: &Image) -> Vec<usize> {
     chunks.flat_map(|chunk| chunk.intro.iter().chain(&chunk.outro).chain(&chunk.edited_content));
   let most: usize = texts.chain(&desk.head).chain(&desk.tail).map(String::len).sum();
   let mut places: Vec<usize> = (0..most + 1).collect();
-  places.extend([STORE_BYTES / 2, STORE_BYTES - 1]);
+  let most_places = image.store.len();
+  places.extend([most_places / 2, most_places.wrapping_sub(1)]);
   for row in super::words::piece_rows(image) {
     let (at, n) = (image.piece(row, AT) as usize, image.piece(row, N) as usize);
-    places.extend((at..at.saturating_add(n.min(8))).filter(|&place| place < STORE_BYTES));
+    places.extend(at..at.saturating_add(n.min(8)));
   }
+  places.retain(|&place| place < most_places);
   places.sort();
   places.dedup();
   places

@@ -1,8 +1,11 @@
 //! Small desks to damage.
 
-use oracle::{ChunkData, DeskData, random::Random};
+use oracle::{ChunkData, Counts, Desk, DeskData, Limits, random::Random};
 
-use crate::made::{Aim, make};
+use crate::{
+  Sizes,
+  made::{Aim, make},
+};
 
 /// Chosen desks, then some made at random.
 pub fn small(random: &mut Random) -> Vec<DeskData> {
@@ -12,6 +15,15 @@ pub fn small(random: &mut Random) -> Vec<DeskData> {
     desks.push(make(aim, random));
   }
   desks
+}
+
+/// Sizes of tables that just hold the desk, that hold a little more, and half of
+/// the full ones.
+pub fn sizes(desk: &DeskData) -> [Sizes; 3] {
+  let Counts { chunks, pieces, bytes } = Desk::build(Limits::FULL, desk).counts();
+  let exact = Sizes { chunk_rows: chunks + 1, piece_rows: 2 * pieces, store: bytes };
+  let more = Sizes { chunk_rows: chunks + 2, piece_rows: 2 * pieces + 1, store: bytes + 1 };
+  [exact, more, Sizes::HALF]
 }
 
 fn fresh(source: &str) -> DeskData {

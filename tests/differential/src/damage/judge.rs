@@ -2,11 +2,11 @@
 
 use std::{collections::BTreeMap, fmt};
 
-use oracle::{Call, Desk, Limits, random::Random};
+use oracle::{Call, Desk, random::Random};
 
 use crate::{
-  Answer, Core, Image, Made, Unseen, every_call, image, layout::*, out::Out, step::Both,
-  well_formed,
+  Answer, Core, Image, Made, Unseen, cores::verdict, every_call, holds_desk, image, layout::*,
+  out::Out, step::Both,
 };
 
 /// What was counted, by kind of damage: images that are well formed all the
@@ -53,7 +53,7 @@ impl<'a, C: Core> Judge<'a, C> {
   /// Judges the image, which is left as it is.
   pub fn image(&mut self, kind: &'static str, image: &mut Image) -> Result<(), Found> {
     self.before.copy_from(image);
-    let holds = well_formed(&image.source, &image.chunks, &image.pieces, &image.store);
+    let holds = verdict(self.core, &image.lend()) == Answer::ACCEPTED;
     self.verdicts.kinds.entry(kind).or_default()[!holds as usize] += 1;
     let judged = self
       .verdict(image, holds)
@@ -105,17 +105,17 @@ impl<'a, C: Core> Judge<'a, C> {
     let mut image = image.clone();
     let call = Call::Open { source: image.source.clone() };
     let answer = self.core.call(&mut image.lend(), &call, &Unseen::PLAIN, &mut []);
-    if !has_layout(&image) {
+    let Some(sizes) = image.sizes().filter(|&sizes| self.core.takes(sizes)) else {
       return self.check("open", answer, Answer::NO_DESK, &image);
-    }
-    let desk = match Desk::open(Limits::FULL, &image.source) {
+    };
+    let desk = match Desk::open(sizes.limits(), &image.source) {
       Err(number) => return self.check("open", answer, Answer { number, value: 0 }, &image),
       Ok(desk) => desk.data(),
     };
     self.verdicts.calls += 1;
     let opened = answer == Answer::ACCEPTED
       && image.source == self.before.source
-      && well_formed(&image.source, &image.chunks, &image.pieces, &image.store)
+      && holds_desk(&image.source, &image.chunks, &image.pieces, &image.store)
       && image::decode(&image.source, &image.chunks, &image.pieces, &image.store) == desk;
     if opened { Ok(()) } else { Err("open does not make a fresh desk".to_string()) }
   }
@@ -137,12 +137,6 @@ impl<'a, C: Core> Judge<'a, C> {
     }
     Ok(())
   }
-}
-
-fn has_layout(image: &Image) -> bool {
-  image.chunks.len() == CHUNK_WORDS
-    && image.pieces.len() == PIECE_WORDS
-    && image.store.len() == STORE_BYTES
 }
 
 impl fmt::Display for Verdicts {

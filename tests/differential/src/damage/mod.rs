@@ -26,19 +26,41 @@ pub fn all<C: Core>(judge: &mut Judge<C>, seed: u64) -> Result<(), Found> {
   let mut random = Random::new(seed);
   for desk in desks::small(&mut random) {
     for mut image in images(&desk, &mut random) {
-      judge.image("none", &mut image)?;
-      words::all(judge, &mut image)?;
-      links::all(judge, &mut image)?;
-      places::all(judge, &mut image)?;
-      spans::all(judge, &mut image)?;
-      bytes::all(judge, &mut image)?;
+      each(judge, &mut image)?;
     }
-    lengths::all(judge, &desk, &mut random)?;
+    lengths::all(judge, &encode(&desk, &mut random))?;
   }
   spans::empty_ones(judge, &mut random)?;
   bytes::sequences(judge, &mut random)?;
   limits::all(judge, &mut random)?;
   random_words::all(judge, &mut random)
+}
+
+/// Damaged memory of other sizes than the full ones: tables that just hold the
+/// desk, and some that are longer.
+pub fn of_any_size<C: Core>(judge: &mut Judge<C>, seed: u64) -> Result<(), Found> {
+  let mut random = Random::new(seed);
+  for desk in desks::small(&mut random) {
+    for sizes in desks::sizes(&desk) {
+      let style = Style::any(&mut random);
+      for style in [Style::tight(), style] {
+        let mut image = encode_in(style.sized(sizes), &desk, &mut random);
+        each(judge, &mut image)?;
+        lengths::all(judge, &image)?;
+      }
+    }
+  }
+  Ok(())
+}
+
+/// Each kind of damage, one place at a time.
+fn each<C: Core>(judge: &mut Judge<C>, image: &mut Image) -> Result<(), Found> {
+  judge.image("none", image)?;
+  words::all(judge, image)?;
+  links::all(judge, image)?;
+  places::all(judge, image)?;
+  spans::all(judge, image)?;
+  bytes::all(judge, image)
 }
 
 /// Memories of the same desk: without gaps, and of any style.

@@ -4,7 +4,7 @@ use super::{Found, Judge};
 use crate::{Core, Image, layout::*};
 
 pub fn all<C: Core>(judge: &mut Judge<C>, image: &mut Image) -> Result<(), Found> {
-  for row in 0..=image.count() + 1 {
+  for row in 0..image.chunk_rows().min(image.count() + 2) {
     for word in 0..ROW {
       for value in chunk_values(image, row, word) {
         let old = std::mem::replace(image.word_mut(row, word), value);
@@ -16,7 +16,7 @@ pub fn all<C: Core>(judge: &mut Judge<C>, image: &mut Image) -> Result<(), Found
   for row in piece_rows(image) {
     for word in [AT, N] {
       let beside = image.piece(row, 1 - word);
-      for value in values(image, image.piece(row, word), beside, STORE_BYTES as u32) {
+      for value in values(image, image.piece(row, word), beside, image.store.len() as u32) {
         let old = std::mem::replace(image.piece_mut(row, word), value);
         judge.image("a word of pieces", image)?;
         *image.piece_mut(row, word) = old;
@@ -26,9 +26,11 @@ pub fn all<C: Core>(judge: &mut Judge<C>, image: &mut Image) -> Result<(), Found
   wrapping_sums(judge, image)
 }
 
-/// The rows of all lists, and two that may stand in none.
+/// The rows of all lists, and two that may stand in none, where there are any.
 pub fn piece_rows(image: &Image) -> Vec<usize> {
-  let mut rows = vec![0, PIECE_ROWS - 1];
+  let most = image.piece_rows();
+  let mut rows: Vec<usize> =
+    [0, most.wrapping_sub(1)].into_iter().filter(|&row| row < most).collect();
   for row in 0..=image.count() {
     for (at, n) in [(INTRO_AT, INTRO_N), (OUTRO_AT, OUTRO_N)] {
       if image.word(row, n) > 0 {
@@ -46,17 +48,19 @@ fn chunk_values(image: &Image, row: usize, word: usize) -> Vec<u32> {
   let old = image.word(row, word);
   // The other word of a pair, and the room that the pair lies in.
   let (other, room) = match word {
-    INTRO_AT | OUTRO_AT => (word + 1, PIECE_ROWS),
-    INTRO_N | OUTRO_N => (word - 1, PIECE_ROWS),
-    TEXT_AT => (TEXT_N, STORE_BYTES),
-    TEXT_N => (TEXT_AT, STORE_BYTES),
+    INTRO_AT | OUTRO_AT => (word + 1, image.piece_rows()),
+    INTRO_N | OUTRO_N => (word - 1, image.piece_rows()),
+    TEXT_AT => (TEXT_N, image.store.len()),
+    TEXT_N => (TEXT_AT, image.store.len()),
     _ => (word, image.source.len()),
   };
   let beside = image.word(row, other);
   let mut values = values(image, old, beside, room as u32);
   if (row, word) == (0, START) {
+    let rows = image.chunk_rows() as u32;
+    values.extend([rows - 2, rows - 1, rows]);
     // A count whose rows would wrap round to small places.
-    values.extend([511, 512, 513, 0x1555_5556, 0x4000_0001, 0x8000_0001]);
+    values.extend([0x1555_5556, 0x4000_0001, 0x8000_0001]);
   }
   values
 }

@@ -8,7 +8,7 @@ use super::{
   Image,
   places::{places, shuffle},
 };
-use crate::layout::*;
+use crate::{Sizes, layout::*};
 
 /// How blocks lie in their room: one behind the other from the front or up to
 /// the back, or anywhere.
@@ -22,6 +22,7 @@ pub enum Fill {
 /// The choices for one image.
 #[derive(Debug, Clone, Copy)]
 pub struct Style {
+  sizes: Sizes,
   runs: Fill,
   texts: Fill,
   rows_in_list_order: bool,
@@ -31,12 +32,24 @@ impl Style {
   pub fn any(random: &mut Random) -> Self {
     let mut fill =
       || [Fill::Front, Fill::Back, Fill::Apart, Fill::Apart][(random.number() >> 32) as usize % 4];
-    Self { runs: fill(), texts: fill(), rows_in_list_order: random.one_in(4) }
+    let (runs, texts) = (fill(), fill());
+    Self { sizes: Sizes::FULL, runs, texts, rows_in_list_order: random.one_in(4) }
   }
 
   /// No gaps, so that a step of one row or byte meets a neighbour.
   pub fn tight() -> Self {
-    Self { runs: Fill::Front, texts: Fill::Front, rows_in_list_order: false }
+    let (runs, texts) = (Fill::Front, Fill::Front);
+    Self { sizes: Sizes::FULL, runs, texts, rows_in_list_order: false }
+  }
+
+  /// As calls leave a desk, but with all texts up to the top of the store.
+  pub fn at_top() -> Self {
+    Self { texts: Fill::Back, rows_in_list_order: true, ..Self::tight() }
+  }
+
+  /// The same in tables of these sizes.
+  pub fn sized(self, sizes: Sizes) -> Self {
+    Self { sizes, ..self }
   }
 }
 
@@ -49,14 +62,14 @@ pub fn encode(desk: &DeskData, random: &mut Random) -> Image {
 
 /// Memory for the desk in this style.
 pub fn encode_in(style: Style, desk: &DeskData, random: &mut Random) -> Image {
-  let image = Image::junk(desk.source.as_bytes().to_vec(), random);
+  let image = Image::junk_in(style.sizes, desk.source.as_bytes().to_vec(), random);
   let mut rows: Vec<usize> = (1..=desk.chunks.len()).collect();
   if !style.rows_in_list_order {
     shuffle(&mut rows, random);
   }
-  let mut encoder = Encoder { image, texts: Texts::place(style.texts, desk, random) };
+  let mut encoder = Encoder { image, texts: Texts::place(style, desk, random) };
   encoder.links(&rows);
-  encoder.lists(style.runs, desk, &rows, random);
+  encoder.lists(style, desk, &rows, random);
   for (chunk, &row) in desk.chunks.iter().zip(&rows) {
     encoder.chunk(chunk, row);
   }
@@ -77,10 +90,10 @@ fn replacements(desk: &DeskData) -> impl Iterator<Item = &String> {
 struct Texts(std::vec::IntoIter<usize>);
 
 impl Texts {
-  fn place(fill: Fill, desk: &DeskData, random: &mut Random) -> Self {
+  fn place(style: Style, desk: &DeskData, random: &mut Random) -> Self {
     let texts = lists(desk).flatten().chain(replacements(desk));
     let lengths: Vec<usize> = texts.map(String::len).collect();
-    Self(places(&lengths, STORE_BYTES, fill, random).into_iter())
+    Self(places(&lengths, style.sizes.store, style.texts, random).into_iter())
   }
 }
 
@@ -102,9 +115,9 @@ impl Encoder {
 
   /// The runs of all lists with their texts. Where an empty list would begin is
   /// left as junk.
-  fn lists(&mut self, fill: Fill, desk: &DeskData, rows: &[usize], random: &mut Random) {
+  fn lists(&mut self, style: Style, desk: &DeskData, rows: &[usize], random: &mut Random) {
     let lengths: Vec<usize> = lists(desk).map(Vec::len).collect();
-    let runs = places(&lengths, PIECE_ROWS, fill, random);
+    let runs = places(&lengths, style.sizes.piece_rows, style.runs, random);
     let rows = [0].iter().chain(rows);
     let words = rows.flat_map(|&row| [(row, INTRO_AT, INTRO_N), (row, OUTRO_AT, OUTRO_N)]);
     for ((list, run), (row, at, n)) in lists(desk).zip(runs).zip(words) {

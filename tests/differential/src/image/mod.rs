@@ -10,7 +10,7 @@ pub use encode::{Style, encode, encode_in};
 
 use oracle::random::Random;
 
-use crate::{Lent, layout::*};
+use crate::{Lent, Sizes, layout::*};
 
 /// The memory of one desk. A damaged one may have any lengths.
 #[derive(Debug, Clone, PartialEq, Eq)]
@@ -22,13 +22,18 @@ pub struct Image {
 }
 
 impl Image {
-  /// Tables of the layout's lengths, filled with junk.
+  /// Tables of the full sizes, filled with junk.
   pub fn junk(source: Vec<u8>, random: &mut Random) -> Self {
+    Self::junk_in(Sizes::FULL, source, random)
+  }
+
+  /// Tables of these sizes, filled with junk.
+  pub fn junk_in(sizes: Sizes, source: Vec<u8>, random: &mut Random) -> Self {
     let mut image = Self {
       source,
-      chunks: vec![0; CHUNK_WORDS],
-      pieces: vec![0; PIECE_WORDS],
-      store: vec![0; STORE_BYTES],
+      chunks: vec![0; sizes.chunk_rows * ROW],
+      pieces: vec![0; sizes.piece_rows * PIECE],
+      store: vec![0; sizes.store],
     };
     match random.below(4) {
       0 => {}
@@ -69,6 +74,21 @@ impl Image {
   /// The same memory with another source, as `open` gets it.
   pub fn lend_with<'a>(&'a mut self, source: &'a [u8]) -> Lent<'a> {
     Lent { source, chunks: &mut self.chunks, pieces: &mut self.pieces, store: &mut self.store }
+  }
+
+  /// The sizes of the tables; none where they are no desk's.
+  pub fn sizes(&self) -> Option<Sizes> {
+    Sizes::of(&self.chunks, &self.pieces, &self.store)
+  }
+
+  /// How many rows `chunks` has.
+  pub fn chunk_rows(&self) -> usize {
+    self.chunks.len() / ROW
+  }
+
+  /// How many rows `pieces` has.
+  pub fn piece_rows(&self) -> usize {
+    self.pieces.len() / PIECE
   }
 
   /// The word of a row of `chunks`.

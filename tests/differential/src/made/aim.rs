@@ -1,6 +1,6 @@
 //! How much a desk made by hand is to hold.
 
-use oracle::random::Random;
+use oracle::{Limits, random::Random};
 
 use crate::layout::*;
 
@@ -19,6 +19,30 @@ impl Aim {
       1..=3 => Self::medium(random),
       4 | 5 => Self { source: 0, ..Self::small(random) },
       _ => Self::small(random),
+    }
+  }
+
+  /// On a desk with these limits: a little, or up to some of them, or nearly.
+  pub fn within(limits: Limits, random: &mut Random) -> Self {
+    let mut aim = Self::small(random);
+    let small = limits.chunks < 100;
+    let up_to = if random.one_in(if small { 2 } else { 20 }) { random.between(1, 7) } else { 0 };
+    let mut near = |limit: usize| limit.saturating_sub([0, 0, 0, 1, 1, 2, 3, 8][random.below(8)]);
+    if up_to & 1 != 0 {
+      aim.chunks = near(limits.chunks);
+      aim.source = aim.source.max((2 * aim.chunks).min(MOST_SOURCE));
+    }
+    if up_to & 2 != 0 {
+      aim.pieces = near(limits.pieces);
+    }
+    if up_to & 4 != 0 {
+      aim.bytes = near(limits.bytes);
+    }
+    Self {
+      source: if random.one_in(20) { 0 } else { aim.source },
+      chunks: aim.chunks.clamp(1, limits.chunks),
+      pieces: aim.pieces.min(limits.pieces),
+      bytes: aim.bytes.min(limits.bytes),
     }
   }
 

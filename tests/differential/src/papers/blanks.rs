@@ -31,7 +31,7 @@ pub fn paper(seed: u64) -> Paper {
   }
   let calls = calls.into_iter().map(|call| Made { call, seed: random.number() }).collect();
   let start = Start::Desk { desk, seed: random.number() };
-  Paper { start, calls, each_from_start: true }
+  Paper::each(start, calls)
 }
 
 impl Caller {

@@ -13,12 +13,22 @@ pub struct Caller {
 
 impl Caller {
   pub fn new(data: DeskData, seed: u64) -> Self {
-    let desk = Desk::build(Limits::FULL, &data);
+    Self::within(Limits::FULL, data, seed)
+  }
+
+  /// On a desk with these limits.
+  pub fn within(limits: Limits, data: DeskData, seed: u64) -> Self {
+    let desk = Desk::build(limits, &data);
     Self { random: Random::new(seed), data, desk }
   }
 
   pub fn call(&mut self) -> Made {
     let call = self.any();
+    self.made(call)
+  }
+
+  /// Makes the call on the oracle's side.
+  pub(super) fn made(&mut self, call: Call) -> Made {
     apply(&mut self.desk, &call);
     if call.is_edit() {
       self.data = self.desk.data();
@@ -48,7 +58,7 @@ impl Caller {
   }
 
   /// A source of any length, at and past the limit too, UTF-8 or not.
-  fn source(&mut self) -> Vec<u8> {
+  pub(super) fn source(&mut self) -> Vec<u8> {
     let len = [0, 5, 20, 200, MOST_SOURCE, MOST_SOURCE + 1][self.random.below(6)];
     if self.random.one_in(6) {
       return made::invalid(len, &mut self.random);
@@ -58,7 +68,7 @@ impl Caller {
 
   /// Replaces one chunk by a text that takes all bytes that are left with those
   /// it frees, or one more; or by a short one.
-  fn replace_chunk(&mut self) -> Call {
+  pub(super) fn replace_chunk(&mut self) -> Call {
     let chunk = &self.data.chunks[self.random.below(self.data.chunks.len())];
     let (start, end) = (chunk.start, chunk.end);
     let overwrite = self.random.below(2) as u32;
@@ -76,7 +86,7 @@ impl Caller {
   }
 
   fn bytes_left(&self) -> usize {
-    MOST_BYTES - self.desk.counts().bytes
+    self.desk.limits().bytes - self.desk.counts().bytes
   }
 }
 
@@ -120,7 +130,10 @@ impl oracle::generate::Caller for Caller {
       (left + self.random.below(3)).saturating_sub(1)
     } else {
       match self.random.below(300) {
-        0 => [MOST_BYTES, MOST_BYTES + 1, 70_000][self.random.below(3)],
+        0 => {
+          let most = self.desk.limits().bytes;
+          [most, most + 1, 70_000][self.random.below(3)]
+        }
         1..=70 => 0,
         71..=270 => self.random.between(1, 5),
         _ => self.random.between(6, 60),

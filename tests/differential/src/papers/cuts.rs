@@ -21,12 +21,12 @@ pub fn paper(random: &mut Random) -> Paper {
   let mut caller = Caller::new(desk.clone(), random.number());
   let calls = (0..30).map(|_| caller.cut()).collect();
   let start = Start::Desk { desk, seed: random.number() };
-  Paper { start, calls, each_from_start: true }
+  Paper::each(start, calls)
 }
 
 impl Caller {
   /// A call that cuts, chosen but not made.
-  fn cut(&mut self) -> Made {
+  pub(super) fn cut(&mut self) -> Made {
     let mut places = [self.place(), self.place(), self.place()];
     places.sort();
     let [low, middle, high] = places;

@@ -55,5 +55,5 @@ fn desk(source: &str, head: Vec<String>, tail: Vec<String>) -> DeskData {
 fn paper(desk: DeskData, calls: Vec<(Call, u32)>) -> (Paper, Vec<u32>) {
   let (calls, numbers): (Vec<_>, Vec<_>) = calls.into_iter().unzip();
   let calls = calls.into_iter().map(|call| Made { call, seed: 1 }).collect();
-  (Paper { start: Start::Desk { desk, seed: 1 }, calls, each_from_start: true }, numbers)
+  (Paper::each(Start::Desk { desk, seed: 1 }, calls), numbers)
 }

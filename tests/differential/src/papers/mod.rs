@@ -5,6 +5,7 @@ mod calls;
 mod cuts;
 pub mod fixed;
 mod positions;
+pub mod sized;
 mod sweep;
 
 pub use calls::Caller;
@@ -34,7 +35,7 @@ fn generated(random: &mut Random) -> Paper {
   let calls = generate(random.number(), GENERATED).into_iter();
   let calls = [early].into_iter().chain(calls).filter(|call| *call != Call::Dump);
   let calls = calls.map(|call| Made { call, seed: random.number() }).collect();
-  Paper { start: Start::Junk { seed: random.number() }, calls, each_from_start: false }
+  Paper::new(Start::Junk { seed: random.number() }, calls)
 }
 
 /// Calls on a desk made by hand.
@@ -43,5 +44,5 @@ fn on_desk(random: &mut Random) -> Paper {
   let mut caller = Caller::new(desk.clone(), random.number());
   let calls = (0..random.between(1, 40)).map(|_| caller.call()).collect();
   let start = Start::Desk { desk, seed: random.number() };
-  Paper { start, calls, each_from_start: false }
+  Paper::new(start, calls)
 }

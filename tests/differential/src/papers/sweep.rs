@@ -21,7 +21,7 @@ pub fn paper(random: &mut Random) -> Paper {
   sweep.buffers(&mut Desk::build(Limits::FULL, &desk));
   let Sweep { calls, .. } = sweep;
   let start = Start::Desk { desk, seed: random.number() };
-  Paper { start, calls, each_from_start: true }
+  Paper::each(start, calls)
 }
 
 struct Sweep<'a> {

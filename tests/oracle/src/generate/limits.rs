@@ -1,16 +1,14 @@
 //! Papers that reach a desk limit: to it, and one past it.
 
 use super::Generator;
-use crate::{Call, Limits};
-
-const LIMITS: Limits = Limits::FULL;
+use crate::Call;
 
 impl Generator {
   /// Sources of the longest length and one more, in characters of one to four
   /// bytes, with UTF-8 broken at the end or not.
   pub(super) fn open_at_limit(&mut self) {
     let character = self.random.pick(&["a", "é", "€", "😀"]);
-    let len = LIMITS.source + self.random.below(2);
+    let len = self.limits.source + self.random.below(2);
     let mut source = character.repeat(len / character.len()).into_bytes();
     source.resize(len, if self.random.one_in(3) { 0xff } else { b'a' });
     self.call(Call::Open { source });
@@ -20,7 +18,7 @@ impl Generator {
   /// As many chunks as there may be, or nearly, by an indent that cuts at each
   /// line; then calls that cut further.
   pub(super) fn chunk_limit(&mut self) {
-    let lines = LIMITS.chunks + 1 - self.random.below(6);
+    let lines = (self.limits.chunks + 1).saturating_sub(self.random.below(6));
     self.call(Call::Open { source: numbered_lines(lines) });
     self.call(Call::IndentWith { indentor: Some(b"\t".to_vec()), exclude: Vec::new() });
     if self.random.one_in(2) {
@@ -33,13 +31,13 @@ impl Generator {
   /// As many pieces as there may be: indents for most, then one by one.
   pub(super) fn piece_limit(&mut self) {
     let indents = self.random.between(2, 5);
-    let lines = LIMITS.pieces / indents - self.random.below(2);
+    let lines = (self.limits.pieces / indents).saturating_sub(self.random.below(2));
     self.call(Call::Open { source: numbered_lines(lines) });
     for _ in 0..indents {
       self.call(Call::IndentWith { indentor: Some(b" ".to_vec()), exclude: Vec::new() });
     }
     // At 0, a chunk's edge, so that no chunk is added.
-    let room = LIMITS.pieces - self.counts().pieces;
+    let room = self.limits.pieces - self.counts().pieces;
     let fillers = room.saturating_sub(self.random.below(3));
     for number in 0..fillers {
       let text = if number % 2 == 0 { Vec::new() } else { b"x".to_vec() };
@@ -59,13 +57,13 @@ impl Generator {
     self.call(Call::Open { source });
     for _ in 0..4 {
       self.any_calls(3);
-      let room = LIMITS.bytes - self.counts().bytes;
+      let room = self.limits.bytes - self.counts().bytes;
       let len = (room + self.random.below(3)).saturating_sub(1);
       let call = self.with_text(len);
       self.call(call);
       if self.random.one_in(2) {
         let end = self.source_len() as u32;
-        let len = LIMITS.bytes + 1 - self.random.below(3);
+        let len = (self.limits.bytes + 1).saturating_sub(self.random.below(3));
         let text = self.text_of(len);
         self.call(Call::UpdateWith { start: 0, end, overwrite: 1, text });
       }
@@ -76,7 +74,7 @@ impl Generator {
   /// A trim whose replacements just fit or just do not, beside a piece between
   /// the two chunks that holds the rest of the bytes.
   pub(super) fn trim_at_byte_limit(&mut self) {
-    let (left, right) = (self.random.between(1, 2_000), self.random.between(1, 2_000));
+    let (left, right) = (self.some_bytes(), self.some_bytes());
     let source = [&b"\n"[..], &vec![b'x'; left + right], &b"\n"[..]].concat();
     self.call(Call::Open { source });
     let (call, bytes) = match self.random.below(4) {
@@ -85,7 +83,7 @@ impl Generator {
       2 => (Call::TrimEnd { pattern: 0 }, right),
       _ => (Call::TrimLines, left + right),
     };
-    let len = LIMITS.bytes - bytes + self.random.below(2);
+    let len = self.limits.bytes.saturating_sub(bytes) + self.random.below(2);
     let text = self.text_of(len);
     self.call(Call::AppendLeft { at: left as u32 + 1, text });
     self.call(call);
@@ -95,10 +93,10 @@ impl Generator {
   /// A blank tail that `trim` frees, so that it fits where `trim_start` alone
   /// does not.
   pub(super) fn trim_both_at_byte_limit(&mut self) {
-    let blanks = self.random.between(1, 2_000);
+    let blanks = self.some_bytes();
     let source = [b" x".to_vec(), vec![b'\n'; blanks]].concat();
     self.call(Call::Open { source });
-    let tail = LIMITS.bytes - 1 - blanks + self.random.below(2);
+    let tail = self.limits.bytes.saturating_sub(1 + blanks) + self.random.below(2);
     self.call(Call::Append { text: vec![b' '; tail] });
     self.call(Call::TrimStart { pattern: 0 });
     if self.random.one_in(2) {
@@ -110,8 +108,8 @@ impl Generator {
   /// Texts that an indent lengthens to the limit, or one past it.
   pub(super) fn indent_at_byte_limit(&mut self) {
     self.call(Call::Open { source: b"a".to_vec() });
-    let lines = self.random.between(1, 2_000);
-    let len = LIMITS.bytes - lines + self.random.below(2);
+    let lines = self.some_bytes();
+    let len = self.limits.bytes.saturating_sub(lines) + self.random.below(2);
     let mut text = b"x\n".repeat(lines - 1);
     text.resize(len, b'x');
     self.call(Call::UpdateWith { start: 0, end: 1, overwrite: 0, text });
@@ -130,6 +128,11 @@ impl Generator {
       3 => Call::PrependRight { at: 0, text },
       _ => Call::UpdateWith { start: 0, end, overwrite: 0, text },
     }
+  }
+
+  /// Up to 2,000, and not more than a quarter of what a desk may hold.
+  fn some_bytes(&mut self) -> usize {
+    self.random.between(1, 2_000.min(self.limits.bytes / 4).max(1))
   }
 
   /// A text of exactly `len` bytes.

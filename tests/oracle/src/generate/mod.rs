@@ -13,8 +13,13 @@ use crate::{Answer, Call, Counts, Desk, Limits, Script, random::Random};
 
 /// `count` calls, the same for the same seed.
 pub fn generate(seed: u64, count: usize) -> Vec<Call> {
-  let mut generator =
-    Generator { random: Random::new(seed), script: Script::new(Limits::FULL), calls: Vec::new() };
+  generate_within(Limits::FULL, seed, count)
+}
+
+/// The same for desks with these limits.
+pub fn generate_within(limits: Limits, seed: u64, count: usize) -> Vec<Call> {
+  let (random, script) = (Random::new(seed), Script::new(limits));
+  let mut generator = Generator { limits, random, script, calls: Vec::new() };
   while generator.calls.len() < count {
     generator.paper();
   }
@@ -23,6 +28,7 @@ pub fn generate(seed: u64, count: usize) -> Vec<Call> {
 }
 
 struct Generator {
+  limits: Limits,
   random: Random,
   script: Script,
   calls: Vec<Call>,

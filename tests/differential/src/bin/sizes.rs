@@ -1,0 +1,59 @@
+//! `sizes SEED COUNT [SECONDS]`: edits on desks in tables of any size, by the inner
+//! functions and by the oracle with the limits of those sizes, at least COUNT
+//! together, or as many as are made in SECONDS; then damaged memory of other
+//! sizes. At the first difference it prints the smallest paper that it finds, or
+//! the image, and fails.
+
+use std::{
+  process::ExitCode,
+  time::{Duration, Instant},
+};
+
+use differential::{
+  Core,
+  compare::{Compared, compare_on},
+  cores,
+  damage::{self, Judge},
+  papers,
+};
+
+fn main() -> ExitCode {
+  let arguments: Vec<Option<u64>> =
+    std::env::args().skip(1).map(|word| word.parse().ok()).collect();
+  let (seed, count, most) = match arguments[..] {
+    [Some(seed), Some(count)] => (seed, count, Duration::MAX),
+    [Some(seed), Some(count), Some(seconds)] => (seed, count, Duration::from_secs(seconds)),
+    _ => {
+      eprintln!("usage: sizes SEED COUNT [SECONDS]");
+      return ExitCode::from(2);
+    }
+  };
+  let mut core = cores::chosen_inner(seed);
+  println!("core: {}", core.name());
+  println!("seed: {seed}");
+
+  println!("papers on tables of any size");
+  let began = Instant::now();
+  let compared = compare_on(papers::sized::paper, &mut core, seed, count, most);
+  let Compared { tally, different } = compared;
+  print!("{tally}");
+  println!("seconds: {:.1}", began.elapsed().as_secs_f64());
+  if let Some((paper, found)) = different {
+    println!("differences: 1\n\nThe smallest paper found, which differs at its last call:\n");
+    println!("{paper}\n{}", found.what);
+    return ExitCode::FAILURE;
+  }
+
+  println!("damaged memory of other sizes");
+  let began = Instant::now();
+  let mut judge = Judge::new(&mut core, seed);
+  let judged = damage::of_any_size(&mut judge, seed);
+  print!("{}", judge.verdicts);
+  println!("seconds: {:.1}", began.elapsed().as_secs_f64());
+  if let Err(found) = judged {
+    println!("differences: 1\n\n{found}");
+    return ExitCode::FAILURE;
+  }
+  println!("differences: 0");
+  ExitCode::SUCCESS
+}

@@ -1,0 +1,76 @@
+//! Every call on desks that lead it each way: with room, and at each limit, so that
+//! it works on tables of its own; texts at the front of the store, and at its top.
+
+use differential::{
+  Core, Made,
+  image::{Style, encode_in},
+  layout::*,
+  made::{Aim, make},
+  step::Both,
+};
+use oracle::{
+  Call::{self, *},
+  DeskData, every_call,
+  random::Random,
+};
+
+pub fn all(core: &mut impl Core, seed: u64) -> Result<(), String> {
+  let mut random = Random::new(seed);
+  for aim in AIMS {
+    let desk = make(aim, &mut random);
+    for style in [Style::tight(), Style::at_top(), Style::any(&mut random)] {
+      let mut start = Both::of(encode_in(style, &desk, &mut random));
+      start.check_start(core)?;
+      for call in calls(&desk).into_iter().filter(|call| core.has(call)).collect::<Vec<_>>() {
+        let made = Made { call, seed: random.number() };
+        let number = start.clone().step(core, &made);
+        number.map_err(|what| format!("{aim:?}, {}: {what}", made.call))?;
+      }
+    }
+  }
+  Ok(())
+}
+
+/// Little, and up to each limit.
+const AIMS: [Aim; 6] = [
+  Aim { source: 0, chunks: 1, pieces: 0, bytes: 0 },
+  Aim { source: 40, chunks: 5, pieces: 9, bytes: 60 },
+  Aim { source: 4_000, chunks: MOST_CHUNKS, pieces: 50, bytes: 500 },
+  Aim { source: 1_000, chunks: 50, pieces: MOST_PIECES, bytes: 5_000 },
+  Aim { source: 1_000, chunks: 50, pieces: 100, bytes: MOST_BYTES },
+  Aim { source: MOST_SOURCE, chunks: MOST_CHUNKS, pieces: MOST_PIECES, bytes: MOST_BYTES },
+];
+
+/// Every call, at the front and in the middle of the source, with short texts and
+/// long ones.
+fn calls(desk: &DeskData) -> Vec<Call> {
+  let mut calls = every_call();
+  let at = (desk.source.len() / 2..).find(|&at| desk.source.is_char_boundary(at)).unwrap_or(0);
+  let at = at as u32;
+  let end = desk.source.len() as u32;
+  for text in [b"X".to_vec(), vec![b'x'; 8_000]] {
+    calls.extend([
+      UpdateWith { start: 0, end: at, overwrite: 0, text: text.clone() },
+      UpdateWith { start: at, end, overwrite: 1, text: text.clone() },
+      AppendLeft { at, text: text.clone() },
+      AppendRight { at, text: text.clone() },
+      PrependLeft { at, text: text.clone() },
+      PrependRight { at, text: text.clone() },
+      Append { text: text.clone() },
+      Prepend { text: text.clone() },
+      IndentWith { indentor: Some(text), exclude: Vec::new() },
+    ]);
+  }
+  calls.extend([
+    Open { source: desk.source.clone().into_bytes() },
+    Remove { start: 0, end: at },
+    Remove { start: at, end },
+    Reset { start: 0, end },
+    Relocate { start: 0, end: at, to: end },
+    Relocate { start: at, end, to: 0 },
+    IndentWith { indentor: None, exclude: vec![0, at] },
+    Slice { start: 0, end: None, room: None },
+    ToString { room: None },
+  ]);
+  calls
+}

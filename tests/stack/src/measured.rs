@@ -1,0 +1,79 @@
+//! A core that makes each call on a painted stack and keeps the most that the calls
+//! of each group used.
+
+use std::collections::BTreeMap;
+
+use differential::{Answer, Core, Lent, Unseen};
+use oracle::Call;
+
+use crate::painted::Painted;
+
+/// The groups, in the order in which they are printed.
+pub const GROUPS: [&str; 10] = [
+  "open",
+  "well_formed",
+  "remove, reset",
+  "append_left, append_right, prepend_left, prepend_right, append, prepend",
+  "update_with",
+  "relocate",
+  "trim, trim_start, trim_end, trim_lines",
+  "indent_with",
+  "slice, to_string, last_line, get_indent_string",
+  "len, len_utf16, line_count, is_empty, has_changed, last_char, is_range_within_edited_chunk",
+];
+
+/// The most that a call of a group used, which call that was, and how many calls
+/// were measured.
+#[derive(Debug, Default)]
+pub struct Most {
+  pub bytes: usize,
+  pub call: String,
+  pub calls: u64,
+}
+
+pub struct Measured<C> {
+  core: C,
+  stack: Painted,
+  pub most: BTreeMap<&'static str, Most>,
+}
+
+impl<C: Core> Measured<C> {
+  pub fn new(core: C) -> Self {
+    Self { core, stack: Painted::new(), most: BTreeMap::new() }
+  }
+
+  fn note(&mut self, name: &str, bytes: usize) {
+    let of_group = |group: &&str| group.split(", ").any(|member| member == name);
+    let group = GROUPS.into_iter().find(of_group).unwrap_or_else(|| panic!("{name} has no group"));
+    let most = self.most.entry(group).or_default();
+    most.calls += 1;
+    if bytes > most.bytes {
+      (most.bytes, most.call) = (bytes, name.to_string());
+    }
+  }
+}
+
+impl<C: Core> Core for Measured<C> {
+  fn name(&self) -> &'static str {
+    self.core.name()
+  }
+
+  fn call(&mut self, lent: &mut Lent, call: &Call, unseen: &Unseen, out: &mut [u8]) -> Answer {
+    let mut answer = Answer::NO_DESK;
+    let bytes = self.stack.used_by(|| answer = self.core.call(lent, call, unseen, out));
+    let line = call.to_string();
+    self.note(line.split(' ').next().unwrap_or_default(), bytes);
+    answer
+  }
+
+  fn has(&self, call: &Call) -> bool {
+    self.core.has(call)
+  }
+
+  fn well_formed(&mut self, lent: &Lent) -> Answer {
+    let mut answer = Answer::NO_DESK;
+    let bytes = self.stack.used_by(|| answer = self.core.well_formed(lent));
+    self.note("well_formed", bytes);
+    answer
+  }
+}
