@@ -1,5 +1,5 @@
 -- From what the check decides and the inner call promises to what the exported call promises.
-use mathlib.Core.Path.{_≡_, refl, sym, _∙_}
+use mathlib.Core.Path.{_≡_, refl, subst}
 use mathlib.Core.Bool.{Bool, true, false, not}
 use lib.Dec.{eqb}
 use mathlib.Core.List.{List, [], _++_}
@@ -11,6 +11,11 @@ use Rattle.counts.specs.Counts.{Decides}
 use Rattle.memory.specs.Layout.{magicStringOf}
 use Rattle.memory.specs.WellFormed.{Taken}
 use Rattle.memory.specs.Calls.{Same, Ran, Edited, Told, Reported}
+use Rattle.memory_used.specs.declared.Used.{Used}
+use Rattle.memory_used.specs.Above.{Above, Desk}
+use Rattle.well_formed.specs.declared.Seen.{Seen}
+use Rattle.well_formed.specs.declared.Seen.the-variants.{NoDesk, Desk as SeenDesk}
+use Rattle.well_formed.specs.Seen.{Sees}
 
 -- an option: any number but 0 is yes
 abbrev pub flag : ℕ → Bool
@@ -20,6 +25,21 @@ flag n = not (eqb n 0)
 pub record Checked (source t p s : List ℕ) (number : ℕ) : Type 0 where
   pub well-formed : Taken source t p s → number ≡ 0
   pub not-well-formed : (Taken source t p s → ⊥) → number ≡ 2
+
+-- what the check has seen: no desk, or one and what it uses
+module _ (source t p s : List ℕ) {r : Seen} where
+  pub seen-none : r ≡ NoDesk → Sees (Taken source t p s) t p s r → Taken source t p s → ⊥
+  seen-none e h = subst (Sees (Taken source t p s) t p s) e h
+
+  module _ (u : Used) (e : r ≡ SeenDesk u) (h : Sees (Taken source t p s) t p s r) where
+    seen : Taken source t p s × Above t p s u
+    seen = subst (Sees (Taken source t p s) t p s) e h
+
+    pub seen-taken : Taken source t p s
+    seen-taken = seen .0
+
+    pub seen-desk : Desk source t p s u
+    seen-desk = record { well-formed = seen .0 .well-formed; above = seen .1 }
 
 module _ {source t p s : List ℕ} where
   pub checked-yes : Taken source t p s → Checked source t p s 0

@@ -181,7 +181,7 @@ module _ (t₀ t source p s : List ℕ) (f : Fresh t₀ t (length source)) where
       record {
         desk = subst (ListsValid p s) (sym desk-entry) (record { intro = run-empty p s 0; outro = run-empty p s 0 });
         chunks = only (λ i. ValidTexts (textsOf p s (entryAt t i)))
-        (subst (λ (e : Entry). ValidTexts (textsOf p s e)) (sym chunk-entry) (record { intro = run-empty p s 0; outro = run-empty p s 0; replacement = text-none p s }));
+            (subst (λ (e : Entry). ValidTexts (textsOf p s e)) (sym chunk-entry) (record { intro = run-empty p s 0; outro = run-empty p s 0; replacement = text-none p s }));
       }
 
   fresh-count : pieceTotal t 1 ≤ length p / 4

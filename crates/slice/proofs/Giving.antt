@@ -161,19 +161,19 @@ module _ (source t p s : List ℕ) (start end : ℕ) (d : List ℕ) where
   abbrev m : MagicString
   m = magicStringOf source t p s
 
-  shown-some : (b : Bool) → between source start ≡ true → between source end ≡ b → show (Slice start (some end) (length d)) m ≡ cond b (sliced-into (length d) (slice start end m)) (refusal 3)
+  shown-some : (b : Bool) → between source start ≡ true → between source end ≡ b → show (Slice start (some end) (length d)) m ≡ cond (not b) (refusal 3) (sliced-into (length d) (slice start end m))
   unfolding show magicStringOf
-  shown-some b e f = ap (λ (x : Bool). cond (x && (between source end && true)) (sliced-into (length d) (slice start end m)) (refusal 3)) e
-      ∙ ap (λ (x : Bool). cond (x && true) (sliced-into (length d) (slice start end m)) (refusal 3)) f ∙ ap (λ (x : Bool). cond x (sliced-into (length d) (slice start end m)) (refusal 3)) (mathlib.Core.Bool.and-true b)
+  shown-some b e f = ap (λ (x : Bool). cond (not (x && (between source end && true))) (refusal 3) (sliced-into (length d) (slice start end m))) e
+      ∙ ap (λ (x : Bool). cond (not (x && true)) (refusal 3) (sliced-into (length d) (slice start end m))) f ∙ ap (λ (x : Bool). cond (not x) (refusal 3) (sliced-into (length d) (slice start end m))) (mathlib.Core.Bool.and-true b)
 
   shown-none : between source start ≡ true → show (Slice start none (length d)) m ≡ sliced-into (length d) (slice start (length source) m)
   unfolding show magicStringOf
-  shown-none e = ap (λ (x : Bool). cond (x && true) (sliced-into (length d) (slice start (length source) m)) (refusal 3)) e
+  shown-none e = ap (λ (x : Bool). cond (not (x && true)) (refusal 3) (sliced-into (length d) (slice start (length source) m))) e
 
   shown-3 : (b : Bool) → between source start ≡ false → show (Slice start (endOf b end) (length d)) m ≡ refusal 3
   unfolding show magicStringOf
-  shown-3 true e = ap (λ (x : Bool). cond (x && (between source end && true)) (sliced-into (length d) (slice start end m)) (refusal 3)) e
-  shown-3 false e = ap (λ (x : Bool). cond (x && true) (sliced-into (length d) (slice start (length source) m)) (refusal 3)) e
+  shown-3 true e = ap (λ (x : Bool). cond (not (x && (between source end && true))) (refusal 3) (sliced-into (length d) (slice start end m))) e
+  shown-3 false e = ap (λ (x : Bool). cond (not (x && true)) (refusal 3) (sliced-into (length d) (slice start (length source) m))) e
 
   pub told-3-start : (b : Bool) → between source start ≡ false → Told (Slice start (endOf b end) (length d)) m d d 3 0
   told-3-start b e = told start (endOf b end) m d d 3 0 (refusal 3) (shown-3 b e) (gives-3 d)

@@ -121,7 +121,7 @@ module _ {size : ℕ} {p rows₀ words₀ : List ℕ} (m : Markable size p rows�
       chunks-no n l f rows″ words″ =
           record {
             passed = rw f (pass-by (passes-no (a .passes) n (b .passed) f l) (λ w z. z) (λ w z. z) _
-            (both-sum (λ i j. pieceUses j (entryAt t (i + 1))) (λ i b. byteUses p b (entryAt t (i + 1))) n));
+                (both-sum (λ i j. pieceUses j (entryAt t (i + 1))) (λ i b. byteUses p b (entryAt t (i + 1))) n));
             counted = λ s. not-both (sym f ∙ s);
           }
 

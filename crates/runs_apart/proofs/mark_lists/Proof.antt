@@ -6,7 +6,7 @@ use Rattle.runs_apart.proofs.mark_lists.Statement.{statement}
 use Rattle.runs_apart.proofs.mark_lists.Tie as tie
 
 mark-run-requires : tie.Need-mark-run-requires
-mark-run-requires c κs = 
+mark-run-requires c κs =
     let start = c .before .before .before .before .before .before in
     ((start .pre .0, omega arith), (start .pre .1 .0, omega arith))
 
@@ -25,7 +25,7 @@ same-length-2 : tie.Need-same-length-2
 same-length-2 c = search needs
 
 returns : tie.Need-returns
-returns c = 
+returns c =
     let a = c .before .before .before .before .before .before .before .before .before .before .before .before .before .before .before .before .before .before .before .args in
     lists-yes (entryAt (a .t .now) (a .i)) (c .before .before .before .before .before .before .before .before .before .before .before .before .mark-run .ensures) _ _ (c .before .before .before .before .before .before .before .if1 .taken) (c .before .before .before .before .mark-run2 .ensures)
 
@@ -36,7 +36,7 @@ same-length-4 : tie.Need-same-length-4
 same-length-4 c = search needs
 
 returns-2 : tie.Need-returns-2
-returns-2 c = 
+returns-2 c =
     let a = c .before .before .before .before .before .before .before .before .before .before .before .before .args in
     lists-no (entryAt (a .t .now) (a .i)) (c .before .before .before .before .before .mark-run .ensures) _ _ (c .if1 .left)
 

@@ -11,7 +11,7 @@ word-requires : tie.Need-word-requires
 word-requires c κs = search needs
 
 returns : tie.Need-returns
-returns c = 
+returns c =
     let start = c .before .before .before .before .before .before in
     run-none _ _ _ _ _ _ _ (start .pre .1 .0) (sym (c .before .word .ensures .0) ∙ c .if1 .taken)
 

@@ -16,7 +16,7 @@ abbrev μ-loop : tie.MeasureT-loop
 μ-loop t n pieces rows₀ marks₀ size count₀ row₀ byte₀ k₀ rows marks count row byte k = n - k
 
 loop-holds : tie.Need-loop-holds Inv-loop μ-loop
-loop-holds c = 
+loop-holds c =
     let start = c .before .before .before .before in
     (omega arith, chunks-none (start .pre .1 .0) (start .args .t .now) (start .pre .1 .1))
 
@@ -24,7 +24,7 @@ add-k : tie.Need-add-k Inv-loop μ-loop
 add-k c = search needs
 
 mark-entry-requires : tie.Need-mark-entry-requires Inv-loop μ-loop
-mark-entry-requires c κs = 
+mark-entry-requires c κs =
     let start = c .before .before .before .before .before .before .before .before in
     let loop = c .before .before .before .loop in
     (omega arith, (chunks-markable (start .pre .1 .0) (start .args .t .now) (loop .inv .1), omega (arith, loop .inv .1 .few)))
@@ -33,7 +33,7 @@ loop-less : tie.Need-loop-less Inv-loop μ-loop
 loop-less c = search needs
 
 loop-again : tie.Need-loop-again Inv-loop μ-loop
-loop-again c = 
+loop-again c =
     let start = c .before .before .before .before .before .before .before .before .before .before .before .before .before .before in
     let loop = c .before .before .before .before .before .before .before .before .before .loop in
     let entry = c .before .before .before .before .before .mark-entry in
@@ -46,7 +46,7 @@ same-length-2 : tie.Need-same-length-2 Inv-loop μ-loop
 same-length-2 c = c .before .before .before .before .before .mark-entry .kept .1 .1 .1 .1 .0 ∙ c .before .before .before .before .before .before .before .before .before .loop .inv .1 .words-same
 
 returns : tie.Need-returns Inv-loop μ-loop
-returns c = 
+returns c =
     let start = c .before .before .before .before .before .before .before .before .before .before .before .before .before .before in
     let loop = c .before .before .before .before .before .before .before .before .before .loop in
     chunks-no (start .pre .1 .0) (start .args .t .now) (loop .inv .1) (c .before .before .before .before .before .mark-entry .ensures) _ (c .before .before .before .before .before .before .before .before .loop-test .taken) (c .if1 .left) _ _
@@ -58,7 +58,7 @@ same-length-4 : tie.Need-same-length-4 Inv-loop μ-loop
 same-length-4 c = c .before .loop .inv .1 .words-same
 
 returns-2 : tie.Need-returns-2 Inv-loop μ-loop
-returns-2 c = 
+returns-2 c =
     let start = c .before .before .before .before .before .before in
     chunks-done (start .pre .1 .0) (start .args .t .now) (c .before .loop .inv .1) _ (omega arith)
 

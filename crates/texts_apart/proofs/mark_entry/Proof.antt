@@ -9,7 +9,7 @@ mark-lists-requires : tie.Need-mark-lists-requires
 mark-lists-requires c κs = search needs
 
 mark-replacement-requires : tie.Need-mark-replacement-requires
-mark-replacement-requires c κs = 
+mark-replacement-requires c κs =
     let start = c .before .before .before .before .before .before .before .before .before .before .before .before .before in
     (start .pre .0, enough-kept (c .before .before .before .before .before .before .mark-lists .kept .1 .1 .1 .1 .0) (start .pre .1 .0 .enough))
 
@@ -20,7 +20,7 @@ same-length-2 : tie.Need-same-length-2
 same-length-2 c = search needs
 
 returns : tie.Need-returns
-returns c = 
+returns c =
     let a = c .before .before .before .before .before .before .before .before .before .before .before .before .before .before .before .before .args in
     entry-yes (entryAt (a .t .now) (a .i)) (c .before .before .before .before .before .before .before .before .before .mark-lists .ensures) (c .before .before .before .before .if1 .taken) _ _ (c .before .before .mark-replacement .ensures)
 
@@ -31,7 +31,7 @@ same-length-4 : tie.Need-same-length-4
 same-length-4 c = search needs
 
 returns-2 : tie.Need-returns-2
-returns-2 c = 
+returns-2 c =
     let a = c .before .before .before .before .before .before .before .before .before .before .before .before .args in
     entry-no (entryAt (a .t .now) (a .i)) (c .before .before .before .before .before .mark-lists .ensures) (c .if1 .left) _ _
 

@@ -24,7 +24,7 @@ same-length : tie.Need-same-length
 same-length c = search needs
 
 returns-2 : tie.Need-returns-2
-returns-2 c = 
+returns-2 c =
     rw (c .before .before .before .before .before .before .word .ensures .0, c .before .before .before .before .word2 .ensures .0) at (replacement-some _ _ (c .before .before .before .before .before .if1 .left) (c .before .before .mark-text .ensures))
 
 pub mark-replacement-spec : {M : Type 1} → statement M

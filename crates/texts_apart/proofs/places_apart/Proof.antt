@@ -12,7 +12,7 @@ array-borrow-prefix-rows : tie.Need-array-borrow-prefix-rows
 array-borrow-prefix-rows c = search needs
 
 slice-aggregate-places-by : tie.Need-slice-aggregate-places-by
-slice-aggregate-places-by c = 
+slice-aggregate-places-by c =
     let start = c .before .before .before in
     sym (zeros-length 2048 _ (omega (arith, start .pre .1 .0)))
 
@@ -20,7 +20,7 @@ slice-aggregate-places-by-2 : tie.Need-slice-aggregate-places-by-2
 slice-aggregate-places-by-2 c = search needs
 
 places-by-requires : tie.Need-places-by-requires
-places-by-requires c κs = 
+places-by-requires c κs =
     let start = c .before .before .before .before in
     (start .pre .0, (fresh-marks _ (start .pre .1 .0) (start .pre .1 .1) refl, fresh-clear (length (start .args .pieces .now) / 2)))
 

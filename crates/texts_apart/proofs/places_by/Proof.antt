@@ -9,7 +9,7 @@ mark-lists-requires : tie.Need-mark-lists-requires
 mark-lists-requires c κs = search needs
 
 mark-chunks-requires : tie.Need-mark-chunks-requires
-mark-chunks-requires c κs = 
+mark-chunks-requires c κs =
     let start = c .before .before .before .before .before .before .before .before .before .before .before .before .before .before in
     let lists = c .before .before .before .before .before .before .before .mark-lists in
     let taken = c .before .before .if1 .taken in
@@ -22,7 +22,7 @@ same-length-2 : tie.Need-same-length-2
 same-length-2 c = search needs
 
 returns : tie.Need-returns
-returns c = 
+returns c =
     let start = c .before .before .before .before .before .before .before .before .before .before .before .before .before .before .before .before .before .before .before in
     places-yes _ _ _ _ _ (start .pre .1 .1) _ (c .before .before .before .before .before .before .before .before .before .before .before .before .mark-lists .ensures) (c .before .before .before .before .before .before .before .if1 .taken) (c .before .before .before .before .mark-chunks .ensures)
 
@@ -33,7 +33,7 @@ same-length-4 : tie.Need-same-length-4
 same-length-4 c = search needs
 
 returns-2 : tie.Need-returns-2
-returns-2 c = 
+returns-2 c =
     let start = c .before .before .before .before .before .before .before .before .before .before .before .before in
     places-no _ _ _ _ _ (start .pre .1 .1) _ (c .before .before .before .before .before .mark-lists .ensures) (c .if1 .left)
 

@@ -11,12 +11,12 @@ replacement-valid-requires : tie.Need-replacement-valid-requires
 replacement-valid-requires c κs = search needs
 
 returns : tie.Need-returns
-returns c = 
+returns c =
     let a = c .before .before .before .before .before .before .args in
     entry-yes _ _ (entryAt (a .t .now) (a .i)) (c .before .before .lists-valid .ensures) (c .before .if1 .taken) (c .replacement-valid .ensures)
 
 returns-2 : tie.Need-returns-2
-returns-2 c = 
+returns-2 c =
     let a = c .before .before .before .before .before .args in
     entry-no _ _ (entryAt (a .t .now) (a .i)) (c .before .lists-valid .ensures) (c .if1 .left)
 

@@ -11,12 +11,12 @@ run-valid-requires-2 : tie.Need-run-valid-requires-2
 run-valid-requires-2 c κs = search needs
 
 returns : tie.Need-returns
-returns c = 
+returns c =
     let a = c .before .before .before .before .before .before .args in
     lists-yes _ _ (entryAt (a .t .now) (a .i)) (c .before .before .run-valid .ensures) (c .before .if1 .taken) (c .run-valid2 .ensures)
 
 returns-2 : tie.Need-returns-2
-returns-2 c = 
+returns-2 c =
     let a = c .before .before .before .before .before .args in
     lists-no _ _ (entryAt (a .t .now) (a .i)) (c .before .run-valid .ensures) (c .if1 .left)
 

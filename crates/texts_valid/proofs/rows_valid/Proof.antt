@@ -21,7 +21,7 @@ loop-holds : tie.Need-loop-holds Inv-loop μ-loop
 loop-holds c = (omega arith, λ k l. absurd (omega arith))
 
 add-piece-valid : tie.Need-add-piece-valid Inv-loop μ-loop
-add-piece-valid c = 
+add-piece-valid c =
     let row = row-of _ _ _ _ _ (c .before .before .before .before .pre) (c .loop-test .taken) .row in
     omega arith
 
@@ -38,11 +38,11 @@ loop-again : tie.Need-loop-again Inv-loop μ-loop
 loop-again c = (omega arith, below-more _ _ (c .before .before .before .loop .inv .1) (sym (c .before .piece-valid .ensures) ∙ c .if1 .taken))
 
 returns : tie.Need-returns Inv-loop μ-loop
-returns c = 
+returns c =
     is-no (λ x. not-both (sym (c .if1 .left) ∙ c .before .piece-valid .ensures ∙ all-run _ _ _ _ x _ (c .before .before .loop-test .taken)))
 
 returns-2 : tie.Need-returns-2 Inv-loop μ-loop
-returns-2 c = 
+returns-2 c =
     is-yes (run-all _ _ _ _ (λ k l. c .before .loop .inv .1 k (omega arith)))
 
 pub rows-valid-spec : {M : Type 1} → statement M

@@ -14,17 +14,17 @@ joined-bits-requires : tie.Need-joined-bits-requires
 joined-bits-requires c κs = search needs
 
 returns : tie.Need-returns
-returns c = 
+returns c =
     let counted = c .before .before .before .before .before .before .pre .1 in
     is-yes (ascii-all _ _ _ (c .before .joined-bits .ensures) (c .if1 .taken) (counted .byte) _ _ _ _ (counted .below))
 
 lists-valid-requires : tie.Need-lists-valid-requires
-lists-valid-requires c κs = 
+lists-valid-requires c κs =
     let counted = c .before .before .before .before .before .before .pre .1 in
     (omega arith, desk-inside _ _ _ _ _ _ (omega (arith, counted .row)) (counted .byte) (counted .below))
 
 chunks-valid-requires : tie.Need-chunks-valid-requires
-chunks-valid-requires c κs = 
+chunks-valid-requires c κs =
     let counted = c .before .before .before .before .before .before .before .before .pre .1 in
     (c .before .before .before .before .before .before .before .before .pre .0, chunks-inside _ _ _ _ _ _ (omega (arith, counted .row)) (counted .byte) (counted .below))
 

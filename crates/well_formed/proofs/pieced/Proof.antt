@@ -14,7 +14,7 @@ texts-valid-requires : tie.Need-texts-valid-requires
 texts-valid-requires c κs = (omega arith, c .before .before .before .before .places-apart .ensures .counted (c .before .before .if1 .taken))
 
 returns : tie.Need-returns
-returns c = 
+returns c =
     let start = c .before .before .before .before .before .before .before .before .before .before .before in
     let places = c .before .before .before .before .before .before .places-apart .ensures in
     let ok = c .before .before .before .before .if1 .taken in

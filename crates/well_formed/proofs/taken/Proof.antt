@@ -10,7 +10,7 @@ holds-desk-requires : tie.Need-holds-desk-requires
 holds-desk-requires c κs = search needs
 
 returns : tie.Need-returns
-returns c = 
+returns c =
     let a = c .before .before .before .before .before .before .before .args in
     taken-sees (a .chunks .now) (a .pieces .now) (a .store .now) (a .source .now) (c .before .before .full-size .ensures .yes (c .before .if1 .taken)) (c .holds-desk .result) (c .holds-desk .ensures)
 

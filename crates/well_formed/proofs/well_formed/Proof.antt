@@ -13,12 +13,12 @@ enum-told-2 : tie.Need-enum-told-2
 enum-told-2 c = search needs
 
 returns : tie.Need-returns
-returns c = 
+returns c =
     let a = c .before .before .before .before .before .before .before .args in
     sees-no (a .chunks .now) (a .pieces .now) (a .store .now) (c .enum-told2 .given .1) (c .before .before .taken .ensures)
 
 returns-2 : tie.Need-returns-2
-returns-2 c = 
+returns-2 c =
     let a = c .before .before .before .before .before .before .before .args in
     sees-yes (a .chunks .now) (a .pieces .now) (a .store .now) (c .enum-told .given .1) (c .before .before .taken .ensures)
 
