@@ -2,6 +2,7 @@
 // what the desk uses is handed from each to the next.
 ghost use Prim.Native.Nat.{_+_, _*_, _≤_};
 ghost use lib.ListN.{length};
+ghost use mathlib.Core.Path.{_≡_};
 ghost use Rattle.memory.specs.WellFormed.{WellFormed};
 ghost use Rattle.memory_used.specs.Above.{Desk};
 ghost use Rattle.inner_calls.specs.Paper.{PaperMade};
@@ -244,10 +245,18 @@ pub extern "C" fn inner_open(
     chunks: &mut [u32],
     pieces: &mut [u32],
     store: &mut [u8],
-) -> Answer {
-    let o = opening::open_any(source, chunks, pieces, store);
+) -> Answer
+    ensures { λ r. ⌜ (r .number ≡ 0 → WellFormed (now (source .entry)) (now (chunks .exit)) (now (pieces .exit)) (now (store .exit))) ⌝ }
+{
+    if well_formed::sized(chunks, pieces, store) {
+        let o = opening::open_with(source, chunks, pieces, store);
+        return Answer {
+            number: o.number,
+            value: 0,
+        };
+    }
     Answer {
-        number: o.number,
+        number: 2,
         value: 0,
     }
 }
@@ -267,7 +276,7 @@ pub extern "C" fn inner_paper(
     ensures { λ r. ⌜ PaperMade (now (source .entry)) (now (chunks .entry)) (now (pieces .entry)) (now (store .entry)) (now (numbers .entry))
         (now (chunks .exit)) (now (pieces .exit)) (now (store .exit)) (now (numbers .exit)) r ⌝ }
 {
-    let Seen::Desk(used) = well_formed::seen(source, chunks, pieces, store) else {
+    let Seen::Desk(used) = well_formed::holds_desk(source, chunks, pieces, store) else {
         return Answer {
             number: 2,
             value: 0,

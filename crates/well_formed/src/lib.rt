@@ -18,7 +18,7 @@ pub enum Seen {
 }
 
 // Whether the tables have whole rows, a chunk's at least, and are not longer than the full sizes.
-fn sized(chunks: &[u32], pieces: &[u32], store: &[u8]) -> bool
+pub fn sized(chunks: &[u32], pieces: &[u32], store: &[u8]) -> bool
     ensures { λ r. ⌜ Decides r (Sized (now (chunks .entry)) (now (pieces .entry)) (now (store .entry))) ⌝ }
 {
     if chunks.len() % 12 != 0 {

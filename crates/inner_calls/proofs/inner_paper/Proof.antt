@@ -1,10 +1,10 @@
 use borrow.Author.Needs.{needs}
-use Rattle.inner_calls.proofs.Papers.{refused, made}
+use Rattle.inner_calls.proofs.Papers.{seen-none, seen-desk, refused, made}
 use Rattle.inner_calls.proofs.inner_paper.Statement.{statement}
 use Rattle.inner_calls.proofs.inner_paper.Tie as tie
 
-seen-requires : tie.Need-seen-requires
-seen-requires c κs = search needs
+holds-desk-requires : tie.Need-holds-desk-requires
+holds-desk-requires c κs = search needs
 
 enum-known-used : tie.Need-enum-known-used
 enum-known-used c = search needs
@@ -22,10 +22,15 @@ same-length-3 : tie.Need-same-length-3
 same-length-3 c = search needs
 
 returns : tie.Need-returns
-returns c = refused (c .before .before .seen .ensures .none (c .enum-told .given .1))
+returns c =
+    let a = c .before .before .before .before .before .before .before .before .before .before .before .before .before .args in
+    refused (seen-none (a .source .now) (a .chunks .now) (a .pieces .now) (a .store .now) (c .enum-told .given .1) (c .before .before .holds-desk .ensures))
 
 all-requires : tie.Need-all-requires
-all-requires c κs = c .before .before .before .before .before .before .before .seen .ensures .desk _ (c .before .before .before .before .before .used .given .1)
+all-requires c κs =
+    let a = c .before .before .before .before .before .before .before .before .before .before .before .before .before .before .before .before .before .before .args in
+    let used = c .before .before .before .before .before .used in
+    seen-desk (a .source .now) (a .chunks .now) (a .pieces .now) (a .store .now) (used .given .0 .0) (used .given .1) (c .before .before .before .before .before .before .before .holds-desk .ensures)
 
 cast-t25 : tie.Need-cast-t25
 cast-t25 c = search needs
@@ -44,16 +49,17 @@ same-length-7 c = search needs
 
 returns-2 : tie.Need-returns-2
 returns-2 c =
+    let a = c .before .before .before .before .before .before .before .before .before .before .before .before .before .before .before .before .before .before .before .before .before .before .before .before .before .before .before .args in
     let all = c .before .before .before .before .before .before .before .before .all in
     let used = c .before .before .before .before .before .before .before .before .before .before .before .before .before .before .used in
-    let seen = c .before .before .before .before .before .before .before .before .before .before .before .before .before .before .before .before .seen in
-    made _ (seen .ensures .desk _ (used .given .1) .well-formed) (all .ensures .0)
+    let holds-desk = c .before .before .before .before .before .before .before .before .before .before .before .before .before .before .before .before .holds-desk in
+    made _ (seen-desk (a .source .now) (a .chunks .now) (a .pieces .now) (a .store .now) (used .given .0 .0) (used .given .1) (holds-desk .ensures) .well-formed) (all .ensures .0)
 
 pub inner-paper-spec : {M : Type 1} → statement M
 inner-paper-spec =
     tie.close
     (tie.spec
-    seen-requires
+    holds-desk-requires
     enum-known-used
     enum-told
     same-length
