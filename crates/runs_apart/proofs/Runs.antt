@@ -1,21 +1,23 @@
 -- Marks of rows and of bytes as one pass: a run and its texts, and two runs.
-use mathlib.Core.Path.{_≡_, refl, sym, _∙_}
+use mathlib.Core.Path.{_≡_, refl, sym, subst, _∙_}
 use mathlib.Core.Bool.{Bool, true, false}
 use mathlib.Core.List.{List}
 use Prim.Native.Nat.{ℕ, _+_, _-_, _*_, _/_, _≤_, _<_, max}
 use native.Mathlib.Omega.{arith}
+use native.Mathlib.Numerals.{add-one}
 use native.Mathlib.Decide.{decLt}
 use lib.ListN.{length}
-use Rattle.table.specs.Order.{Entry}
+use Rattle.table.specs.Order.{Entry, entryAt}
 use Rattle.memory.specs.Layout.{Place}
 use Rattle.memory.specs.WellFormed.{among, runUses, pieceUses, listUses}
 use Rattle.memory.specs.Laws.{among-none}
 use Rattle.memory_used.specs.declared.Used.{Used}
 use Rattle.memory_used.specs.Below.{Below}
+use Rattle.counts.specs.Counts.{sum-to}
 use Rattle.counts.specs.Sums.{not-both}
-use Rattle.marks.specs.Marks.{markAt, Bits, Marked, Passed, pieceCount}
-use Rattle.marks.proofs.Marking.{then-bits}
-use Rattle.marks.proofs.Passing.{pass-none, pass-on, pass-no, pass-by}
+use Rattle.marks.specs.Marks.{placeAt, pieceCount, markAt, Bits, Marked, Passed}
+use Rattle.marks.proofs.Marking.{then-bits, to-bits}
+use Rattle.marks.proofs.Passing.{pass-none, pass-on, pass-no, pass-by, PassesTo, passes-none, passes-more, passes-no, passes-done}
 use Rattle.bit_marks.specs.BitMarks.{bitAt}
 use Rattle.bit_marks.proofs.Marking.{marks-bits}
 use Rattle.text_marks.specs.declared.Top.{Top}
@@ -141,40 +143,88 @@ module _ (size : ℕ) (p rows words : List ℕ) (u : Used) (at n : ℕ) where
           counted = λ t. not-both t;
         }
 
--- ── two runs ──
--- after a run, the marks still serve
-pub still-markable : {size : ℕ} {p rows words rows′ words′ : List ℕ} {u : Used} {E : ℕ → ℕ → Type 0} {f : Spot → ℕ} {count : ℕ} {r : Step}
-    → Markable size p rows words → RunsPassed r size p rows words u E f count rows′ words′ → r .ok ≡ true
-    → length rows′ ≡ length rows → length words′ ≡ length words → Markable size p rows′ words′
-still-markable k a t lr lw =
-    record { rows-are = lr ∙ k .rows-are; few = k .few; bits = rows-bits _ _ (then-bits (a .passed .marked) t); enough = enough-kept lw (k .enough) }
+-- ── one after another ──
+-- after k parts, the marks are theirs, and u is what they use: part i lies below a byte and a row as E i says, marks what f i says and has c i pieces
+pub record StepsTo (size : ℕ) (p rows₀ words₀ : List ℕ) (u₀ : Used) (E : ℕ → ℕ → ℕ → Type 0) (f : ℕ → Spot → ℕ) (c : ℕ → ℕ) (k : ℕ) (rows words : List ℕ) (u : Used) : Type 0 where
+  pub rows-same : length rows ≡ length rows₀
+  pub words-same : length words ≡ length words₀
+  pub passes : PassesTo lower (sizes size p) (both (markAt rows₀) (bitAt words₀)) u₀ (λ i w. E i (w .byte) (w .row)) f k (both (markAt rows) (bitAt words)) u
+  pub counted : u .pieces ≡ u₀ .pieces + sum-to c k
+  pub few : u .pieces ≤ u₀ .pieces + k * 4096
 
+module _ {size : ℕ} {p rows₀ words₀ : List ℕ} (m : Markable size p rows₀ words₀) where
+  pub steps-none : {u₀ : Used} (E : ℕ → ℕ → ℕ → Type 0) (f : ℕ → Spot → ℕ) (c : ℕ → ℕ) → StepsTo size p rows₀ words₀ u₀ E f c 0 rows₀ words₀ u₀
+  steps-none E f c =
+      record {
+        rows-same = refl;
+        words-same = refl;
+        passes = passes-none _ _ (both-bits _ _ (m .bits) (marks-bits words₀));
+        counted = omega arith;
+        few = omega arith;
+      }
+
+  module _ {u₀ u : Used} {E : ℕ → ℕ → ℕ → Type 0} {f : ℕ → Spot → ℕ} {c : ℕ → ℕ} {k : ℕ} {rows words : List ℕ} (a : StepsTo size p rows₀ words₀ u₀ E f c k rows words u) where
+    -- the marks still serve
+    pub steps-markable : Markable size p rows words
+    steps-markable =
+        record { rows-are = a .rows-same ∙ m .rows-are; few = m .few; bits = rows-bits _ _ (to-bits (a .passes .marks)); enough = enough-kept (a .words-same) (m .enough) }
+
+    module _ {rows′ words′ : List ℕ} {r : Step} (b : RunsPassed r size p rows words u (E k) (f k) (c k) rows′ words′) where
+      pub steps-more : r .ok ≡ true → c k ≤ 4096 → length rows′ ≡ length rows → length words′ ≡ length words → StepsTo size p rows₀ words₀ u₀ E f c (k + 1) rows′ words′ (r .used)
+      steps-more s h lr lw =
+          record {
+            rows-same = lr ∙ a .rows-same;
+            words-same = lw ∙ a .words-same;
+            passes = passes-more (a .passes) (b .passed) s;
+            counted = rw add-one (omega (arith, b .counted s, a .counted));
+            few = omega (arith, b .counted s, a .few);
+          }
+
+      pub steps-no : (n : ℕ) → k < n → r .ok ≡ false → (rows″ words″ : List ℕ)
+          → RunsPassed r size p rows₀ words₀ u₀ (λ byte row. (i : ℕ) → i < n → E i byte row) (λ x. sum-to (λ i. f i x) n) (sum-to c n) rows″ words″
+      steps-no n l g rows″ words″ = record { passed = rw g (passes-no (a .passes) n (b .passed) g l); counted = λ s. not-both (sym g ∙ s) }
+
+    pub steps-done : (n : ℕ) → k ≡ n
+        → RunsPassed (record { ok = true; used = u }) size p rows₀ words₀ u₀ (λ byte row. (i : ℕ) → i < n → E i byte row) (λ x. sum-to (λ i. f i x) n) (sum-to c n) rows words
+    steps-done n e = record { passed = passes-done (a .passes) n e; counted = λ s. rw e at (a .counted) }
+
+-- what must lie below, what is marked and how many pieces there are may be said in another way
+pub passed-by : {size : ℕ} {p rows words rows′ words′ : List ℕ} {u : Used} {E : ℕ → ℕ → Type 0} {f : Spot → ℕ} {c : ℕ} {r : Step}
+    → RunsPassed r size p rows words u E f c rows′ words′ → (G : ℕ → ℕ → Type 0) → ((b row : ℕ) → E b row → G b row) → ((b row : ℕ) → G b row → E b row)
+    → (g : Spot → ℕ) → ((x : Spot) → g x ≡ f x) → (d : ℕ) → d ≡ c → RunsPassed r size p rows words u G g d rows′ words′
+passed-by a G x y g h d e =
+    record { passed = pass-by (a .passed) (λ w. x (w .byte) (w .row)) (λ w. y (w .byte) (w .row)) g h; counted = λ s. omega (arith, a .counted s) }
+
+-- ── two runs ──
 -- a run inside the table has no more rows than the table, so that a sum of counts fits a word
 pub run-small : (p : List ℕ) (b row : ℕ) (x : Place) → Below p b row x → x .1 ≤ row
 run-small p b row x h =
     elim (decLt 0 (x .1)) [ yes l ↦ let y = h (x .1 - 1) (omega arith) .0 in omega arith | no l ↦ omega arith ]
 
 pub run-few : {size : ℕ} {p rows words rows′ words′ : List ℕ} {u : Used} {r : Step} (x : Place)
-    → Markable size p rows words → RunPassed r size p rows words u x rows′ words′ → r .ok ≡ true → r .used .pieces ≤ u .pieces + 2048
-run-few {size = size} {p = p} x k a t = omega (arith, run-small p size (length p / 2) x (a .passed .marked .decides .yes t .fits), a .counted t, k .few)
+    → Markable size p rows words → RunPassed r size p rows words u x rows′ words′ → r .ok ≡ true → x .1 ≤ 2048
+run-few {size = size} {p = p} x k a t = omega (arith, run-small p size (length p / 2) x (a .passed .marked .decides .yes t .fits), k .few)
 
-both-add : (f g f′ g′ : ℕ → ℕ) (x : Spot) → both (λ j. f j + f′ j) (λ b. g b + g′ b) x ≡ both f g x + both f′ g′ x
+-- run k of row i: the first, and the second
+abbrev pub runAt : List ℕ → ℕ → ℕ → Place
+runAt t i k = placeAt t i (4 + k * 2)
+
+abbrev pub ListsTo : ℕ → List ℕ → ℕ → List ℕ → List ℕ → List ℕ → Used → ℕ → List ℕ → List ℕ → Used → Type 0
+ListsTo size t i p rows₀ words₀ u₀ k rows words u =
+    StepsTo size p rows₀ words₀ u₀ (λ j b row. Below p b row (runAt t i j)) (λ j. both (among (runAt t i j)) (λ b. runUses p b (runAt t i j))) (λ j. runAt t i j .1) k rows words u
+
+two : (P : ℕ → Type 0) → P 0 → P 1 → (k : ℕ) → k < 2 → P k
+two P a b k h = elim (decLt k 1) [ yes l ↦ subst P (omega arith) a | no l ↦ subst P (omega arith) b ]
+
+both-two : (f g f′ g′ : ℕ → ℕ) (x : Spot) → both (λ j. f j + f′ j) (λ b. g b + g′ b) x ≡ 0 + both f g x + both f′ g′ x
 unfolding both
-both-add f g f′ g′ (piece j) = refl
-both-add f g f′ g′ (byte b) = refl
+both-two f g f′ g′ (piece j) = omega arith
+both-two f g f′ g′ (byte b) = omega arith
 
-module _ {size : ℕ} {p rows words rows₁ words₁ : List ℕ} {u : Used} (e : Entry) {r : Step} (a : RunPassed r size p rows words u (e .intro) rows₁ words₁) where
-  pub lists-yes : {q : Step} (rows₂ words₂ : List ℕ) → r .ok ≡ true → RunPassed q size p rows₁ words₁ (r .used) (e .outro) rows₂ words₂
-      → ListsPassed q size p rows words u e rows₂ words₂
-  lists-yes rows₂ words₂ t b =
-      record {
-        passed = pass-by (pass-on (a .passed) t (b .passed)) (λ w x. x) (λ w x. x) _ (both-add _ _ _ _);
-        counted = λ s. omega (arith, a .counted t, b .counted s);
-      }
-
-  pub lists-no : (rows₂ words₂ : List ℕ) → r .ok ≡ false → ListsPassed r size p rows words u e rows₂ words₂
-  lists-no rows₂ words₂ f =
-      record {
-        passed = rw f (pass-by (pass-no (a .passed) _ _ f) (λ w x. x) (λ w x. x) _ (both-add _ _ _ _));
-        counted = λ t. not-both (sym f ∙ t);
-      }
+pub lists-passed : {size : ℕ} {p rows words rows′ words′ : List ℕ} {u : Used} {r : Step} (t : List ℕ) (i : ℕ)
+    → RunsPassed r size p rows words u (λ b row. (k : ℕ) → k < 2 → Below p b row (runAt t i k))
+    (λ x. sum-to (λ k. both (among (runAt t i k)) (λ b. runUses p b (runAt t i k)) x) 2) (sum-to (λ k. runAt t i k .1) 2) rows′ words′
+    → ListsPassed r size p rows words u (entryAt t i) rows′ words′
+lists-passed {p = p} t i a =
+    passed-by a _ (λ b row h. (h 0 (omega arith), h 1 (omega arith))) (λ b row h. two (λ k. Below p b row (runAt t i k)) (h .0) (h .1)) _
+    (both-two (among (runAt t i 0)) (λ b. runUses p b (runAt t i 0)) (among (runAt t i 1)) (λ b. runUses p b (runAt t i 1))) _ (omega arith)

@@ -66,7 +66,7 @@ fn mark_run(
     mark_some(pieces, rows, marks, size, at, n, used)
 }
 
-// Marks both runs of row i, and their texts.
+// Marks both runs of row i, and their texts. A loop, so that the code of a run stands once, in the loop over the rows.
 pub fn mark_lists(
     t: &[u32],
     i: u32,
@@ -82,9 +82,40 @@ pub fn mark_lists(
     ensures { λ r. ⌜ ListsPassed r size (now (pieces .entry)) (now (rows .entry)) (now (marks .entry)) used (entryAt (now (t .entry)) i)
         (now (rows .exit)) (now (marks .exit)) ⌝ }
 {
-    let a = mark_run(t, i, marks::INTRO, pieces, rows, marks, size, used);
-    if a.ok {
-        return mark_run(t, i, marks::OUTRO, pieces, rows, marks, size, a.used);
+    let mut count = used.pieces;
+    let mut row = used.row;
+    let mut byte = used.byte;
+    let mut k = 0;
+    while k < 2 {
+        let a = mark_run(
+            t,
+            i,
+            marks::INTRO + k * 2,
+            pieces,
+            rows,
+            marks,
+            size,
+            Used {
+                pieces: count,
+                row,
+                byte,
+            },
+        );
+        if a.ok {
+            count = a.used.pieces;
+            row = a.used.row;
+            byte = a.used.byte;
+            k += 1;
+        } else {
+            return a;
+        }
     }
-    a
+    Step {
+        ok: true,
+        used: Used {
+            pieces: count,
+            row,
+            byte,
+        },
+    }
 }

@@ -1,8 +1,8 @@
 -- A pass over the rows: a replacement, a row, rows one after another; and what it decides on marks that are clear.
-use mathlib.Core.Path.{_≡_, refl, sym, _∙_}
+use mathlib.Core.Path.{_≡_, refl, sym, ap, subst, _∙_}
 use mathlib.Core.Bool.{Bool, true, false}
 use mathlib.Core.List.{List}
-use Prim.Native.Nat.{ℕ, _+_, _*_, _/_, _≤_, _<_}
+use Prim.Native.Nat.{ℕ, zero, suc, _+_, _*_, _/_, _≤_, _<_}
 use native.Mathlib.Omega.{arith}
 use native.Mathlib.Numerals.{add-one}
 use borrow.Author.Tests.{ne-eqb, eq-eqb}
@@ -11,10 +11,10 @@ use Rattle.table.specs.Order.{Entry, entryAt}
 use Rattle.memory.specs.Layout.{NONE}
 use Rattle.memory.specs.WellFormed.{among, replacementUses, pieceUses, listUses, byteUses}
 use Rattle.counts.specs.Counts.{sum-to}
-use Rattle.counts.specs.Sums.{not-both, zeros-length, zeros-at}
+use Rattle.counts.specs.Sums.{not-both, sum-first, sum-same, zeros-length, zeros-at}
 use Rattle.memory_used.specs.declared.Used.{Used}
 use Rattle.memory_used.specs.Below.{Below, EntryBelow}
-use Rattle.marks.specs.Marks.{markAt, Bits, Passed, pieceCount, pieceTotal}
+use Rattle.marks.specs.Marks.{cell, pieceCount, markAt, Bits, Passed}
 use Rattle.marks.proofs.Marking.{then-bits, to-bits}
 use Rattle.marks.proofs.Passing.{pass-none, pass-on, pass-no, pass-by, PassesTo, passes-none, passes-more, passes-no, passes-done}
 use Rattle.bit_marks.specs.BitMarks.{bitAt}
@@ -24,8 +24,8 @@ use Rattle.text_marks.specs.Texts.{TextsPassed}
 use Rattle.text_marks.proofs.Marking.{enough-kept}
 use Rattle.runs_apart.specs.declared.Step.{Step}
 use Rattle.runs_apart.specs.Runs.{Spot, piece, byte, both, Markable, lower, sizes, RunsPassed, ListsPassed}
-use Rattle.runs_apart.proofs.Runs.{none, both-bits, rows-bits, lift-texts, run-small}
-use Rattle.texts_apart.specs.Places.{RowsBelow, Apart, Placed, Counted, Places, TextBelow, EntryPassed, ChunksPassed}
+use Rattle.runs_apart.proofs.Runs.{none, rows-bits, lift-texts, run-small, StepsTo}
+use Rattle.texts_apart.specs.Places.{RowsBelow, Apart, Places, nothing, TextBelow, textStart, rowEntry, EntryPassed, RowsPassed}
 
 -- ── a replacement ──
 pub replacement-none : {size top : ℕ} {m : ℕ → ℕ} (at n : ℕ) → Bits m → at ≡ NONE → Passed true _≤_ size m top (TextBelow (at, n)) (λ b. replacementUses b (at, n)) m top
@@ -63,122 +63,97 @@ module _ {size : ℕ} {p rows words rows₁ words₁ : List ℕ} {u : Used} (e :
       }
 
 -- a row inside the tables has no more than 4,096 pieces
-pub lists-few : {size : ℕ} {p rows words rows′ words′ : List ℕ} {u : Used} {r : Step} (e : Entry)
-    → Markable size p rows words → ListsPassed r size p rows words u e rows′ words′ → r .ok ≡ true → r .used .pieces ≤ u .pieces + 4096
-lists-few {size = size} {p = p} e k a t =
-    let f = a .passed .marked .decides .yes t .fits in
-    omega (arith, run-small p size (length p / 2) (e .intro) (f .0), run-small p size (length p / 2) (e .outro) (f .1), a .counted t, k .few)
-
 pub entry-few : {size : ℕ} {p rows words rows′ words′ : List ℕ} {u : Used} {r : Step} (e : Entry)
-    → Markable size p rows words → EntryPassed r size p rows words u e rows′ words′ → r .ok ≡ true → r .used .pieces ≤ u .pieces + 4096
+    → Markable size p rows words → EntryPassed r size p rows words u e rows′ words′ → r .ok ≡ true → pieceCount e ≤ 4096
 entry-few {size = size} {p = p} e k a t =
     let f = a .passed .marked .decides .yes t .fits in
-    omega (arith, run-small p size (length p / 2) (e .intro) (f .intro), run-small p size (length p / 2) (e .outro) (f .outro), a .counted t, k .few)
+    omega (arith, run-small p size (length p / 2) (e .intro) (f .intro), run-small p size (length p / 2) (e .outro) (f .outro), k .few)
 
 -- ── rows one after another ──
-both-sum : (f g : ℕ → ℕ → ℕ) (n : ℕ) (x : Spot) → both (λ j. sum-to (λ k. f k j) n) (λ b. sum-to (λ k. g k b) n) x ≡ sum-to (λ k. both (f k) (g k) x) n
-unfolding both
-both-sum f g n (piece j) = refl
-both-sum f g n (byte b) = refl
+abbrev pub RowsTo : ℕ → List ℕ → List ℕ → List ℕ → List ℕ → Used → ℕ → List ℕ → List ℕ → Used → Type 0
+RowsTo size t p rows₀ words₀ u₀ k rows words u =
+    StepsTo size p rows₀ words₀ u₀ (λ i b row. EntryBelow p b row (rowEntry t i)) (λ i. both (λ j. pieceUses j (rowEntry t i)) (λ b. byteUses p b (rowEntry t i)))
+    (λ i. pieceCount (rowEntry t i)) k rows words u
 
--- after k rows: the marks are theirs, and u is what they use
-pub record ChunksTo (size : ℕ) (t p rows₀ words₀ : List ℕ) (u₀ : Used) (k : ℕ) (rows words : List ℕ) (u : Used) : Type 0 where
-  pub rows-same : length rows ≡ length rows₀
-  pub words-same : length words ≡ length words₀
-  pub passes : PassesTo lower (sizes size p) (both (markAt rows₀) (bitAt words₀)) u₀ (λ i w. EntryBelow p (w .byte) (w .row) (entryAt t (i + 1)))
-      (λ i. both (λ j. pieceUses j (entryAt t (i + 1))) (λ b. byteUses p b (entryAt t (i + 1)))) k (both (markAt rows) (bitAt words)) u
-  pub counted : u .pieces ≡ u₀ .pieces + sum-to (λ i. pieceCount (entryAt t (i + 1))) k
-  pub few : u .pieces ≤ (k + 1) * 4096
+-- ── row 0, and the rows behind it ──
+pub start-first : (t : List ℕ) (i : ℕ) → i ≡ 0 → textStart t i ≡ NONE
+unfolding textStart
+start-first t i e = rw (eq-eqb i 0 e)
 
-module _ {size : ℕ} {p rows₀ words₀ : List ℕ} (m : Markable size p rows₀ words₀) (t : List ℕ) where
-  pub chunks-none : {u₀ : Used} → u₀ .pieces ≤ 4096 → ChunksTo size t p rows₀ words₀ u₀ 0 rows₀ words₀ u₀
-  chunks-none h =
+pub start-other : (t : List ℕ) (i : ℕ) → (i ≡ 0 → ⊥) → textStart t i ≡ cell t i 8
+unfolding textStart
+start-other t i ne = rw (ne-eqb i 0 ne)
+
+first-text : (t : List ℕ) → textStart t 0 ≡ NONE
+first-text t = start-first t 0 refl
+
+row-entry : (t : List ℕ) (k : ℕ) → rowEntry t (k + 1) ≡ entryAt t (k + 1)
+unfolding textStart
+row-entry t k = rw (ne-eqb (k + 1) 0 (λ e. omega arith))
+
+rows-sum : (t : List ℕ) (F : Entry → ℕ) (n : ℕ) → sum-to (λ i. F (rowEntry t i)) (n + 1) ≡ F (rowEntry t 0) + sum-to (λ k. F (entryAt t (k + 1))) n
+rows-sum t F n =
+    ap (sum-to (λ i. F (rowEntry t i))) (add-one n) ∙ sum-first (λ i. F (rowEntry t i)) n
+    ∙ ap (λ x. F (rowEntry t 0) + x) (sum-same _ _ n (λ k h. ap (λ i. F (rowEntry t i)) (sym (add-one k)) ∙ ap F (row-entry t k)))
+
+-- row 0 has the bytes of its two runs
+first-bytes : (t p : List ℕ) (b : ℕ) → byteUses p b (rowEntry t 0) ≡ listUses p b (entryAt t 0)
+unfolding replacementUses
+first-bytes t p b = omega (arith, ap (λ x. replacementUses b (x, cell t 0 9)) (first-text t))
+
+module _ (t p : List ℕ) (n : ℕ) where
+  below-rows : (b row : ℕ) → ((i : ℕ) → i < n + 1 → EntryBelow p b row (rowEntry t i)) → RowsBelow t p n b row
+  below-rows b row h =
+      let z = h 0 (omega arith) in
+      record { desk = (z .intro, z .outro); chunks = λ k l. rw (row-entry t k) at (h (k + 1) (omega arith)) }
+
+  rows-below : (b row : ℕ) → RowsBelow t p n b row → (i : ℕ) → i < n + 1 → EntryBelow p b row (rowEntry t i)
+  rows-below b row h zero l = record { intro = h .desk .0; outro = h .desk .1; text = λ ne. absurd (ne (first-text t)) }
+  rows-below b row h (suc k) l = subst (EntryBelow p b row) (sym (ap (rowEntry t) (sym (add-one k)) ∙ row-entry t k)) (h .chunks k (omega arith))
+
+  rows-apart : ((x : Spot) → sum-to (λ i. both (λ j. pieceUses j (rowEntry t i)) (λ b. byteUses p b (rowEntry t i)) x) (n + 1) ≤ 1) → Apart t p n
+  unfolding both
+  rows-apart h =
       record {
-        rows-same = refl;
-        words-same = refl;
-        passes = passes-none _ _ (both-bits _ _ (m .bits) (marks-bits words₀));
-        counted = omega arith;
-        few = omega arith;
+        pieces = λ j. omega (arith, h (piece j), rows-sum t (pieceUses j) n);
+        bytes = λ b. omega (arith, h (byte b), rows-sum t (byteUses p b) n, first-bytes t p b);
       }
 
-  module _ {u₀ u : Used} {k : ℕ} {rows words : List ℕ} (a : ChunksTo size t p rows₀ words₀ u₀ k rows words u) where
-    pub chunks-markable : Markable size p rows words
-    chunks-markable =
-        record { rows-are = a .rows-same ∙ m .rows-are; few = m .few; bits = rows-bits _ _ (to-bits (a .passes .marks)); enough = enough-kept (a .words-same) (m .enough) }
-
-    module _ {rows′ words′ : List ℕ} {r : Step} (b : EntryPassed r size p rows words u (entryAt t (k + 1)) rows′ words′) where
-      pub chunks-more : r .ok ≡ true → length rows′ ≡ length rows → length words′ ≡ length words → ChunksTo size t p rows₀ words₀ u₀ (k + 1) rows′ words′ (r .used)
-      chunks-more s lr lw =
-          record {
-            rows-same = lr ∙ a .rows-same;
-            words-same = lw ∙ a .words-same;
-            passes = passes-more (a .passes) (b .passed) s;
-            counted = rw add-one (omega (arith, b .counted s, a .counted));
-            few = omega (arith, entry-few (entryAt t (k + 1)) chunks-markable b s, a .few);
-          }
-
-      pub chunks-no : (n : ℕ) → k < n → r .ok ≡ false → (rows″ words″ : List ℕ) → ChunksPassed r size t p rows₀ words₀ n u₀ rows″ words″
-      chunks-no n l f rows″ words″ =
-          record {
-            passed = rw f (pass-by (passes-no (a .passes) n (b .passed) f l) (λ w z. z) (λ w z. z) _
-                (both-sum (λ i j. pieceUses j (entryAt t (i + 1))) (λ i b. byteUses p b (entryAt t (i + 1))) n));
-            counted = λ s. not-both (sym f ∙ s);
-          }
-
-    pub chunks-done : (n : ℕ) → k ≡ n → ChunksPassed (record { ok = true; used = u }) size t p rows₀ words₀ n u₀ rows words
-    chunks-done n e =
-        record {
-          passed = pass-by (passes-done (a .passes) n e) (λ w z. z) (λ w z. z) _ (both-sum (λ i j. pieceUses j (entryAt t (i + 1))) (λ i b. byteUses p b (entryAt t (i + 1))) n);
-          counted = λ s. rw e at (a .counted);
-        }
+  apart-rows : Apart t p n → (x : Spot) → sum-to (λ i. both (λ j. pieceUses j (rowEntry t i)) (λ b. byteUses p b (rowEntry t i)) x) (n + 1) ≤ 1
+  unfolding both
+  apart-rows h (piece j) = omega (arith, h .pieces j, rows-sum t (pieceUses j) n)
+  apart-rows h (byte b) = omega (arith, h .bytes b, rows-sum t (byteUses p b) n, first-bytes t p b)
 
 -- ── on marks that are clear ──
--- what lies above nothing
-abbrev pub nothing : Used
-nothing = record { pieces = 0; row = 0; byte = 0 }
+clear-at : (rows words : List ℕ) → ((j : ℕ) → markAt rows j ≡ 0) × ((b : ℕ) → bitAt words b ≡ 0) → (x : Spot) → both (markAt rows) (bitAt words) x ≡ 0
+unfolding both
+clear-at rows words clear (piece j) = clear .0 j
+clear-at rows words clear (byte b) = clear .1 b
 
-module _ (size : ℕ) (t p rows words : List ℕ) (clear : ((j : ℕ) → markAt rows j ≡ 0) × ((b : ℕ) → bitAt words b ≡ 0)) where
-  module _ (n : ℕ) (r : Step) (m′ : Spot → ℕ)
-      (a : Passed (r .ok) lower (sizes size p) (both (markAt rows) (bitAt words)) nothing
-      (λ w. (Below p (w .byte) (w .row) (entryAt t 0 .intro) × Below p (w .byte) (w .row) (entryAt t 0 .outro)) × ((k : ℕ) → k < n → EntryBelow p (w .byte) (w .row) (entryAt t (k + 1))))
-      (λ x. both (λ j. pieceUses j (entryAt t 0)) (λ b. listUses p b (entryAt t 0)) x
-      + both (λ j. sum-to (λ k. pieceUses j (entryAt t (k + 1))) n) (λ b. sum-to (λ k. byteUses p b (entryAt t (k + 1))) n) x) m′ (r .used)) where
-    placed-yes : r .ok ≡ true → Placed t p n size
-    unfolding both
-    placed-yes s =
-        let f = a .marked .decides .yes s in
-        record {
-          below = record { desk = f .fits .0; chunks = f .fits .1 };
-          apart = record { pieces = λ j. omega (arith, f .free (piece j)); bytes = λ b. omega (arith, f .free (byte b)) };
-        }
-
-    placed-no : r .ok ≡ false → Placed t p n size → ⊥
-    unfolding both
-    placed-no s q =
-        a .marked .decides .no s
-        (record {
-          fits = (q .below .desk, q .below .chunks);
-          free = λ x. elim x [ piece j ↦ omega (arith, q .apart .pieces j, clear .0 j) | byte b ↦ omega (arith, q .apart .bytes b, clear .1 b) ];
-        })
-
-    pub placed-decided : (r .ok ≡ true → r .used .pieces ≡ pieceTotal t n) → Places r t p n size
-    placed-decided c =
-        record {
-          decides = record { yes = placed-yes; no = placed-no };
-          counted = λ s.
-              let up = a .raised s in
-              let x = up .above (r .used) (omega arith, omega arith) .1 in
-              let y = up .least (sizes size p) (omega arith, omega arith) (a .marked .decides .yes s .fits) in
-              record { pieces = c s; below = record { desk = x .0; chunks = x .1 }; row = y .1; byte = y .0 };
-        }
-
-  module _ {r : Step} {rows₁ words₁ : List ℕ} (n : ℕ) (a : ListsPassed r size p rows words nothing (entryAt t 0) rows₁ words₁) where
-    pub places-yes : {q : Step} {rows₂ words₂ : List ℕ} → r .ok ≡ true → ChunksPassed q size t p rows₁ words₁ n (r .used) rows₂ words₂ → Places q t p n size
-    places-yes {q} s b = placed-decided n q _ (pass-on (a .passed) s (b .passed)) (λ e. omega (arith, a .counted s, b .counted e))
-
-    pub places-no : r .ok ≡ false → Places r t p n size
-    places-no f =
-        placed-decided n r (both (markAt rows₁) (bitAt words₁)) (rw f (pass-no (a .passed) _ _ f)) (λ s. not-both (sym f ∙ s))
+module _ (size : ℕ) (t p : List ℕ) {rows words rows′ words′ : List ℕ} (n : ℕ) {r : Step} (clear : ((j : ℕ) → markAt rows j ≡ 0) × ((b : ℕ) → bitAt words b ≡ 0))
+    (a : RowsPassed r size t p rows words (n + 1) nothing rows′ words′) where
+  pub places-decided : Places r t p n size
+  places-decided =
+      record {
+        decides = record {
+          yes = λ s.
+              let f = a .passed .marked .decides .yes s in
+              record { below = below-rows t p n size (length p / 2) (f .fits); apart = rows-apart t p n (λ x. omega (arith, f .free x)) };
+          no = λ s q.
+              a .passed .marked .decides .no s
+              (record { fits = rows-below t p n size (length p / 2) (q .below); free = λ x. omega (arith, apart-rows t p n (q .apart) x, clear-at rows words clear x) });
+        };
+        counted = λ s.
+            let up = a .passed .raised s in
+            let x = up .above (r .used) (omega arith, omega arith) .1 in
+            let y = up .least (sizes size p) (omega arith, omega arith) (a .passed .marked .decides .yes s .fits) in
+            record {
+              pieces = omega (arith, a .counted s, rows-sum t pieceCount n);
+              below = below-rows t p n (r .used .byte) (r .used .row) x;
+              row = y .1;
+              byte = y .0;
+            };
+      }
 
 -- marks of their own: clear, and one for each piece row and each byte
 pub fresh-marks : {size : ℕ} {p : List ℕ} (k : ℕ) → length p ≤ 4096 → size ≤ 32768 → k ≡ length p / 2 → Markable size p (take k (replicate 2048 0)) (replicate 512 0)

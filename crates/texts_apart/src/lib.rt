@@ -2,13 +2,12 @@
 ghost use mathlib.Core.Path.{_≡_};
 ghost use Prim.Native.Nat.{ℕ, _+_, _*_, _≤_, _<_};
 ghost use lib.ListN.{length};
-ghost use Rattle.table.specs.Order.{entryAt};
 ghost use Rattle.memory.specs.WellFormed.{replacementUses};
-ghost use Rattle.marks.specs.Marks.{placeAt, markAt};
+ghost use Rattle.marks.specs.Marks.{markAt};
 ghost use Rattle.bit_marks.specs.BitMarks.{bitAt};
 ghost use Rattle.text_marks.specs.Texts.{Enough, TextsPassed};
 ghost use Rattle.runs_apart.specs.Runs.{Markable};
-ghost use Rattle.texts_apart.specs.Places.{TextBelow, EntryPassed, ChunksPassed, Places};
+ghost use Rattle.texts_apart.specs.Places.{TextBelow, textStart, rowEntry, EntryPassed, RowsPassed, nothing, Places};
 use memory_used::Used;
 use runs_apart::Step;
 use text_marks::Top;
@@ -18,14 +17,25 @@ const NONE: usize = 0xFFFF_FFFF;
 
 const TEXT: usize = 8;
 
+// Where the replacement of row i begins. Row 0, the desk's own, has none.
+fn text_start(t: &[u32], i: u32) -> usize
+    requires { ⌜ i * 12 + 12 ≤ length (now t) ⌝ }
+    ensures { λ r. ⌜ (r ≡ textStart (now (t .entry)) i) × (r < 4294967296) ⌝ }
+{
+    if i == 0 {
+        return NONE;
+    }
+    marks::word(t, i, TEXT)
+}
+
 // Marks the replacement of row i, if it has one.
 fn mark_replacement(t: &[u32], i: u32, marks: &mut [u64], size: usize, byte: usize) -> Top
     requires { ⌜ i * 12 + 12 ≤ length (now t) ⌝ }
     requires { ⌜ Enough size (now marks) ⌝ }
-    ensures { λ r. ⌜ TextsPassed r size (now (marks .entry)) byte (TextBelow (placeAt (now (t .entry)) i 8))
-        (λ b. replacementUses b (placeAt (now (t .entry)) i 8)) (now (marks .exit)) ⌝ }
+    ensures { λ r. ⌜ TextsPassed r size (now (marks .entry)) byte (TextBelow (rowEntry (now (t .entry)) i .text))
+        (λ b. replacementUses b (rowEntry (now (t .entry)) i .text)) (now (marks .exit)) ⌝ }
 {
-    let at = marks::word(t, i, TEXT);
+    let at = text_start(t, i);
     if at == NONE {
         return Top { ok: true, byte };
     }
@@ -46,7 +56,7 @@ fn mark_entry(
     requires { ⌜ i * 12 + 12 ≤ length (now t) ⌝ }
     requires { ⌜ Markable size (now pieces) (now rows) (now marks) ⌝ }
     requires { ⌜ used .pieces ≤ 0x1000_0000_0000 ⌝ }
-    ensures { λ r. ⌜ EntryPassed r size (now (pieces .entry)) (now (rows .entry)) (now (marks .entry)) used (entryAt (now (t .entry)) i)
+    ensures { λ r. ⌜ EntryPassed r size (now (pieces .entry)) (now (rows .entry)) (now (marks .entry)) used (rowEntry (now (t .entry)) i)
         (now (rows .exit)) (now (marks .exit)) ⌝ }
 {
     let a = runs_apart::mark_lists(t, i, pieces, rows, marks, size, used);
@@ -64,27 +74,24 @@ fn mark_entry(
     a
 }
 
-// Marks all runs and texts of rows 1 to n.
-fn mark_chunks(
+// Marks all runs and texts of the first n rows.
+fn mark_rows(
     t: &[u32],
     n: u32,
     pieces: &[u32],
     rows: &mut [u8],
     marks: &mut [u64],
     size: usize,
-    used: Used,
 ) -> Step
-    requires { ⌜ n * 12 + 12 ≤ length (now t) ⌝ }
+    requires { ⌜ n * 12 ≤ length (now t) ⌝ }
     requires { ⌜ Markable size (now pieces) (now rows) (now marks) ⌝ }
-    requires { ⌜ used .pieces ≤ 4096 ⌝ }
-    ensures { λ r. ⌜ ChunksPassed r size (now (t .entry)) (now (pieces .entry)) (now (rows .entry)) (now (marks .entry)) n used (now (rows .exit)) (now (marks .exit)) ⌝ }
+    ensures { λ r. ⌜ RowsPassed r size (now (t .entry)) (now (pieces .entry)) (now (rows .entry)) (now (marks .entry)) n nothing (now (rows .exit)) (now (marks .exit)) ⌝ }
 {
-    let mut count = used.pieces;
-    let mut row = used.row;
-    let mut byte = used.byte;
+    let mut count = 0;
+    let mut row = 0;
+    let mut byte = 0;
     let mut k = 0;
     while k < n {
-        k += 1;
         let a = mark_entry(
             t,
             k,
@@ -102,9 +109,10 @@ fn mark_chunks(
             count = a.used.pieces;
             row = a.used.row;
             byte = a.used.byte;
-            continue;
+            k += 1;
+        } else {
+            return a;
         }
-        return a;
     }
     Step {
         ok: true,
@@ -125,33 +133,17 @@ fn places_by(
     marks: &mut [u64],
     size: usize,
 ) -> Step
-    requires { ⌜ n * 12 + 12 ≤ length (now t) ⌝ }
+    requires { ⌜ (n * 12 + 12 ≤ length (now t)) × (n < 4294967295) ⌝ }
     requires { ⌜ Markable size (now pieces) (now rows) (now marks) ⌝ }
     requires { ⌜ ((j : ℕ) → markAt (now rows) j ≡ 0) × ((b : ℕ) → bitAt (now marks) b ≡ 0) ⌝ }
     ensures { λ r. ⌜ Places r (now (t .entry)) (now (pieces .entry)) n size ⌝ }
 {
-    let a = runs_apart::mark_lists(
-        t,
-        0,
-        pieces,
-        rows,
-        marks,
-        size,
-        Used {
-            pieces: 0,
-            row: 0,
-            byte: 0,
-        },
-    );
-    if a.ok {
-        return mark_chunks(t, n, pieces, rows, marks, size, a.used);
-    }
-    a
+    mark_rows(t, n + 1, pieces, rows, marks, size)
 }
 
 // The same with marks of its own, for at most 2,048 piece rows and 32,768 bytes.
 pub fn places_apart(t: &[u32], n: u32, pieces: &[u32], size: usize) -> Step
-    requires { ⌜ n * 12 + 12 ≤ length (now t) ⌝ }
+    requires { ⌜ (n * 12 + 12 ≤ length (now t)) × (n < 4294967295) ⌝ }
     requires { ⌜ length (now pieces) ≤ 4096 ⌝ }
     requires { ⌜ size ≤ 32768 ⌝ }
     ensures { λ r. ⌜ Places r (now (t .entry)) (now (pieces .entry)) n size ⌝ }

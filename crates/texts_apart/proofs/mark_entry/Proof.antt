@@ -1,5 +1,5 @@
-use Rattle.table.specs.Order.{entryAt}
 use Rattle.text_marks.proofs.Marking.{enough-kept}
+use Rattle.texts_apart.specs.Places.{rowEntry}
 use Rattle.texts_apart.proofs.Places.{entry-yes, entry-no}
 use borrow.Author.Needs.{needs}
 use Rattle.texts_apart.proofs.mark_entry.Statement.{statement}
@@ -22,7 +22,7 @@ same-length-2 c = search needs
 returns : tie.Need-returns
 returns c =
     let a = c .before .before .before .before .before .before .before .before .before .before .before .before .before .before .before .before .args in
-    entry-yes (entryAt (a .t .now) (a .i)) (c .before .before .before .before .before .before .before .before .before .mark-lists .ensures) (c .before .before .before .before .if1 .taken) _ _ (c .before .before .mark-replacement .ensures)
+    entry-yes (rowEntry (a .t .now) (a .i)) (c .before .before .before .before .before .before .before .before .before .mark-lists .ensures) (c .before .before .before .before .if1 .taken) _ _ (c .before .before .mark-replacement .ensures)
 
 same-length-3 : tie.Need-same-length-3
 same-length-3 c = search needs
@@ -33,7 +33,7 @@ same-length-4 c = search needs
 returns-2 : tie.Need-returns-2
 returns-2 c =
     let a = c .before .before .before .before .before .before .before .before .before .before .before .before .args in
-    entry-no (entryAt (a .t .now) (a .i)) (c .before .before .before .before .before .mark-lists .ensures) (c .if1 .left) _ _
+    entry-no (rowEntry (a .t .now) (a .i)) (c .before .before .before .before .before .mark-lists .ensures) (c .if1 .left) _ _
 
 pub mark-entry-spec : {M : Type 1} → statement M
 mark-entry-spec =

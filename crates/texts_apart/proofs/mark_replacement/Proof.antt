@@ -5,17 +5,17 @@ use borrow.Author.Needs.{needs}
 use Rattle.texts_apart.proofs.mark_replacement.Statement.{statement}
 use Rattle.texts_apart.proofs.mark_replacement.Tie as tie
 
-word-requires : tie.Need-word-requires
-word-requires c κs = search needs
+text-start-requires : tie.Need-text-start-requires
+text-start-requires c κs = search needs
 
 returns : tie.Need-returns
-returns c = replacement-none _ _ (marks-bits _) (sym (c .before .word .ensures .0) ∙ c .if1 .taken)
+returns c = replacement-none _ _ (marks-bits _) (sym (c .before .text-start .ensures .0) ∙ c .if1 .taken)
 
 add-word : tie.Need-add-word
 add-word c = search needs
 
-word-requires-2 : tie.Need-word-requires-2
-word-requires-2 c κs = search needs
+word-requires : tie.Need-word-requires
+word-requires c κs = search needs
 
 mark-text-requires : tie.Need-mark-text-requires
 mark-text-requires c κs = search needs
@@ -25,16 +25,16 @@ same-length c = search needs
 
 returns-2 : tie.Need-returns-2
 returns-2 c =
-    rw (c .before .before .before .before .before .before .word .ensures .0, c .before .before .before .before .word2 .ensures .0) at (replacement-some _ _ (c .before .before .before .before .before .if1 .left) (c .before .before .mark-text .ensures))
+    rw (c .before .before .before .before .before .before .text-start .ensures .0, c .before .before .before .before .word .ensures .0) at (replacement-some _ _ (c .before .before .before .before .before .if1 .left) (c .before .before .mark-text .ensures))
 
 pub mark-replacement-spec : {M : Type 1} → statement M
 mark-replacement-spec =
     tie.close
     (tie.spec
-    word-requires
+    text-start-requires
     returns
     add-word
-    word-requires-2
+    word-requires
     mark-text-requires
     same-length
     returns-2)
