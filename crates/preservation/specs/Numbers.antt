@@ -63,7 +63,7 @@ sliced-listed room (refused k) h = wider (eqb k 0) (eqb k 11) (eqb k 12) (eqb k 
     wider false false true false e h = refl
     wider false false false false e h = absurd (true≢false (sym h))
 
-report-listed : (q : Report) (m : MagicString) → among (show q m .number) (report-numbers q) ≡ true
+pub report-listed : (q : Report) (m : MagicString) → among (show q m .number) (report-numbers q) ≡ true
 unfolding show slice-rs.slice
 report-listed (to-string room) m = into-listed room (mod-rs.to-string m) (14 ∷ []) refl
 report-listed (slice start end room) m =
@@ -81,7 +81,7 @@ report-listed (is-range-within-edited-chunk a b) m = refl
 report-listed last-char m = refl
 
 -- ---- any call
-opened-listed : (k : Limits) (source : Text) (m : MagicString) → among (opened k source m .number) (13 ∷ 1 ∷ []) ≡ true
+pub opened-listed : (k : Limits) (source : Text) (m : MagicString) → among (opened k source m .number) (13 ∷ 1 ∷ []) ≡ true
 unfolding opened
 opened-listed k source m =
     let P : Result → Type 0 = λ r. among (r .number) (13 ∷ 1 ∷ []) ≡ true in
