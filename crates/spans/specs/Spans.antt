@@ -5,6 +5,8 @@ use mathlib.Core.List.{List}
 use Prim.Native.Nat.{ℕ, _+_, _≤_, _<_}
 use lib.ListN.{length, getD}
 use Rattle.table.specs.Table.{rowAt}
+use Rattle.table.specs.Ring.{Ring}
+use Rattle.table.specs.Order.{nextOf, prevOf}
 use Rattle.utf8.specs.Rfc3629.{between}
 use Rattle.counts.specs.Counts.{one, indicator, sum-to}
 
@@ -53,3 +55,9 @@ pub record Edged (source : List ℕ) (a e : ℕ) : Type 0 where
 
 abbrev pub Edges : List ℕ → List ℕ → ℕ → Type 0
 Edges source t n = (k : ℕ) → k < n → Edged source (startsOf t k) (endsOf t k)
+
+-- the chunks 1 to n stand in one list, linked both ways, and their spans cover a source that is not empty, with ends between characters
+pub record Listed (source t : List ℕ) (n : ℕ) : Type 0 where
+  pub ring : Ring (nextOf t) (prevOf t) n
+  pub tiled : Tiled (startsOf t) (endsOf t) n (length source)
+  pub edges : Edges source t n
