@@ -4,18 +4,19 @@ use mathlib.Core.Bool.{true}
 use mathlib.Core.List.{List, [], _∷_}
 use Prim.Native.Nat.{ℕ, zero, suc, _+_, _-_, _≤_, _<_}
 use native.Mathlib.Omega.{arith}
-use native.Mathlib.Decide.{ℕ-discrete, decLt}
+use native.Mathlib.Decide.{ℕ-discrete}
 use lib.ListN.{length}
 use Rattle.utf8.specs.Rfc3629.{between}
 use Rattle.utf8.specs.Chars.{All, nil, cons}
-use Rattle.table.specs.Ring.{Each, Edge, Links, Ring, ring-of}
+use Rattle.table.specs.Ring.{Each, Edge, Links, ring-of}
 use Rattle.table.specs.Order.{nextOf, prevOf}
 use Rattle.model.specs.Text.{sum}
 use Rattle.memory.specs.WellFormed.{times}
-use Rattle.counts.specs.Counts.{indicator, sum-to}
-use Rattle.counts.specs.Sums.{one-at, one-other, indicator-in, indicator-before, indicator-after}
+use Rattle.counts.specs.Counts.{indicator}
+use Rattle.counts.specs.Sums.{one-at, one-other, indicator-in, indicator-before}
 use Rattle.counts.specs.Once.{In, Once, times-nil, times-cons, twice, sum-once, once-all}
-use Rattle.spans.specs.Spans.{startOf, endOf, startsOf, endsOf, Tiled, Edges, Listed}
+use Rattle.spans.specs.Spans.{startOf, endOf, startsOf, endsOf, Listed}
+use Rattle.spans.proofs.Spans.{indicator-join, sum-ones-is}
 use Rattle.in_order.specs.Joined.{Joined}
 
 -- ── rows of a list ──
@@ -45,26 +46,8 @@ sum-length : (xs : List ℕ) → sum (λ i. 1) xs ≡ length xs
 sum-length [] = refl
 sum-length (x ∷ xs) = omega (arith, sum-length xs)
 
-sum-numbers : (n : ℕ) → sum-to (λ k. 1) n ≡ n
-sum-numbers zero = refl
-sum-numbers (suc n) = omega (arith, sum-numbers n)
-
 once-length : {n : ℕ} {xs : List ℕ} → Once n xs → length xs ≡ n
-once-length {n} {xs} o = sym (sum-length xs) ∙ sum-once o (λ i. 1) ∙ sum-numbers n
-
--- two stretches, one behind the other
-indicator-join : (a b e x : ℕ) → a ≤ b → b ≤ e → indicator a b x + indicator b e x ≡ indicator a e x
-indicator-join a b e x h k =
-    elim (decLt x a) [
-      | yes p ↦ omega (arith, indicator-before a b x p, indicator-before b e x (omega arith), indicator-before a e x p)
-      | no p ↦ elim (decLt x b) [
-        | yes q ↦ omega (arith, indicator-in a b x (omega arith) q, indicator-before b e x q, indicator-in a e x (omega arith) (omega arith))
-        | no q ↦ elim (decLt x e) [
-          | yes r ↦ omega (arith, indicator-after a b x (omega arith), indicator-in b e x (omega arith) r, indicator-in a e x (omega arith) r)
-          | no r ↦ omega (arith, indicator-after a b x (omega arith), indicator-after b e x (omega arith), indicator-after a e x (omega arith))
-        ]
-      ]
-    ]
+once-length {n} {xs} o = sym (sum-length xs) ∙ sum-once o (λ i. 1) ∙ sum-ones-is n
 
 -- where the span of row i ends; row 0, from which the list begins, ends at 0
 abbrev pub endAt : List ℕ → ℕ → ℕ
@@ -163,11 +146,14 @@ module _ {source t : List ℕ} {n : ℕ} (joined : (i : ℕ) → i ≤ n → Joi
       } in
       record {
         ring = ring-of (nextOf t) (prevOf t) n (c .rows) (once-length o) (c .links) (c .inside) .1;
-        tiled = record {
-          filled = filled;
-          inside = λ k h. inside-is (k + 1) (omega arith, omega arith);
-          cover = λ b h. sym (sum-once o (λ i. indicator (startOf t i) (endOf t i) b)) ∙ holds b h 0 (c .rows) (omega arith) (c .links) (c .inside)
-              ∙ indicator-in 0 (length source) b (omega arith) h;
+        spans = record {
+          empty = λ z. absurd (omega arith);
+          full = λ p. record {
+            filled = filled;
+            inside = λ k h. inside-is (k + 1) (omega arith, omega arith);
+            cover = λ b h. sym (sum-once o (λ i. indicator (startOf t i) (endOf t i) b)) ∙ holds b h 0 (c .rows) (omega arith) (c .links) (c .inside)
+                ∙ indicator-in 0 (length source) b (omega arith) h;
+          };
         };
         edges = λ k h. record {
           start = once-all o (starts-between 0 (c .rows) (omega arith) (c .links) (c .inside)) k h;

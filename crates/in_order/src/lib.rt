@@ -2,22 +2,10 @@
 ghost use mathlib.Core.Path.{_≡_};
 ghost use mathlib.Core.Bool.{true};
 ghost use Prim.Native.Nat.{_+_, _*_, _≤_, _<_};
-ghost use lib.ListN.{length, getD};
+ghost use lib.ListN.{length};
 ghost use Rattle.utf8.specs.Rfc3629.{utf8 as isText};
 ghost use Rattle.spans.specs.Spans.{Listed};
 ghost use Rattle.in_order.specs.Joined.{Joined};
-
-const NEXT: usize = 2;
-
-const PREV: usize = 3;
-
-// Word k of row i.
-fn word(t: &[u32], i: u32, k: usize) -> u32
-    requires { ⌜ (i * 12 + 12 ≤ length (now t)) × (k < 12) ⌝ }
-    ensures { λ r. ⌜ r ≡ getD (now (t .entry)) (i * 12 + k) 0 ⌝ }
-{
-    t[i as usize * 12 + k]
-}
 
 // Whether the chunk behind row i in the list is linked back to it and starts at e, between characters. If there is none, e is the source's end.
 fn joined(source: &[u8], t: &[u32], n: u32, i: u32, e: usize) -> bool
@@ -25,11 +13,11 @@ fn joined(source: &[u8], t: &[u32], n: u32, i: u32, e: usize) -> bool
     requires { ⌜ (n * 12 + 12 ≤ length (now t)) × (i ≤ n) ⌝ }
     ensures { λ r. ⌜ (r ≡ true → Joined (now (source .entry)) (now (t .entry)) n i e) ⌝ }
 {
-    let x = word(t, i, NEXT);
+    let x = spans::next(t, i);
     if x > n {
         return false;
     }
-    if word(t, x, PREV) != i {
+    if spans::prev(t, x) != i {
         return false;
     }
     if x == 0 {

@@ -1,1 +1,5 @@
-mod Ring
+mod Stands
+mod Spans
+mod Step
+mod Rest
+mod Listing

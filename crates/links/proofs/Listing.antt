@@ -1,0 +1,93 @@
+-- A walk that marks each byte of the source once is a list whose spans cover it.
+use mathlib.Core.Path.{_≡_, refl, ap, sym, _∙_}
+use mathlib.Core.Bool.{Bool, true}
+use mathlib.Core.List.{List, [], _∷_}
+use Prim.Native.Nat.{ℕ, _+_, _-_, _≤_, _<_}
+use native.Mathlib.Omega.{arith}
+use native.Mathlib.Decide.{decLt}
+use lib.ListN.{length, getD}
+use Rattle.utf8.specs.Rfc3629.{utf8}
+use Rattle.utf8.specs.Boundaries.{between-past}
+use Rattle.utf8.specs.Chars.{All}
+use Rattle.table.specs.Ring.{Edge, Ring, ring-of}
+use Rattle.table.specs.Order.{nextOf, prevOf}
+use Rattle.model.specs.Text.{sum}
+use Rattle.model.specs.Lists.{all-map}
+use Rattle.counts.specs.Counts.{Decides, indicator, sum-to}
+use Rattle.counts.specs.Sums.{decides-by, sum-zero, sum-same, sum-tight, indicator-after}
+use Rattle.counts.specs.Once.{Once, sum-once, all-once, once-all, ring-once}
+use Rattle.spans.specs.Spans.{startsOf, endsOf, Empty, Spans, Edges, Listed}
+use Rattle.spans.proofs.Spans.{sum-ones-is}
+use Rattle.links.specs.Walk.{Proper, holds, Alone}
+use Rattle.links.proofs.Spans.{sizes}
+use Rattle.links.proofs.Rest.{rowsFrom, Rest}
+
+module _ {source t : List ℕ} {n : ℕ} {m : List ℕ} (pos : 0 < length source) (clear : (b : ℕ) → getD m b 0 ≡ 0) where
+  rest-listed : Rest source t n n 0 m (length source) → Listed source t n
+  rest-listed r =
+      let ring : Ring (nextOf t) (prevOf t) n = record { links = r .links; inside = r .inside } in
+      let o : Once n (rowsFrom t n 0) = ring-once (nextOf t) (prevOf t) n ring in
+      let proper : (k : ℕ) → k < n → Proper source t (k + 1) = once-all o (r .proper) in
+      record {
+        ring = ring;
+        spans = record {
+          empty = λ z. absurd (omega arith);
+          full = λ p. record {
+            filled = λ k h. proper k h .filled;
+            inside = λ k h. proper k h .inside;
+            cover = λ b h. sym (sum-once o (λ i. holds t i b))
+                ∙ sum-tight (λ b. sum (λ x. holds t x b) (rowsFrom t n 0)) (λ b. 1) (length source) (λ c l. omega (arith, r .free c)) (omega (arith, sum-ones-is (length source), sizes (r .proper), r .size)) b h;
+          };
+        };
+        edges = λ k h. proper k h .edged;
+      }
+
+  listed-rest : Listed source t n → Rest source t n n 0 m (length source)
+  listed-rest l =
+      let o : Once n (rowsFrom t n 0) = ring-once (nextOf t) (prevOf t) n (l .ring) in
+      let d = l .spans .full pos in
+      let proper : All (Proper source t) (rowsFrom t n 0) = all-once o (λ k h. record { filled = d .filled k h; inside = d .inside k h; edged = l .edges k h }) in
+      let once : (b : ℕ) → b < length source → sum (λ x. holds t x b) (rowsFrom t n 0) ≡ 1 = λ b h. sum-once o (λ i. holds t i b) ∙ d .cover b h in
+      record {
+        links = l .ring .links;
+        inside = l .ring .inside;
+        proper = proper;
+        free = λ b. elim (decLt b (length source)) [
+          | yes h ↦ omega (arith, clear b, once b h)
+          | no h ↦ omega (
+              arith,
+              clear b,
+              sum-once o (λ i. holds t i b),
+              sum-zero (λ k. indicator (startsOf t k) (endsOf t k) b) n (λ k g. indicator-after (startsOf t k) (endsOf t k) b (omega (arith, d .inside k g))),
+            )
+        ];
+        size = sizes proper ∙ sum-same (λ b. sum (λ x. holds t x b) (rowsFrom t n 0)) (λ b. 1) (length source) once ∙ sum-ones-is (length source);
+      }
+
+  pub walk-decided : {r : Bool} → Decides r (Rest source t n n 0 m (length source)) → Decides r (Listed source t n)
+  walk-decided d = decides-by rest-listed listed-rest d
+
+-- ── an empty source ──
+module _ (t : List ℕ) (n : ℕ) where
+  pub alone-yes : Empty t n → Edge (nextOf t) (prevOf t) 0 1 → Edge (nextOf t) (prevOf t) 1 0 → Alone t n
+  alone-yes e x y =
+      record {
+        span = e;
+        ring = rw (e .single) (ring-of (nextOf t) (prevOf t) 1 (1 ∷ []) refl (x, y) ((omega arith, omega arith), tt) .1);
+      }
+
+  pub alone-edges : Alone t n → Edge (nextOf t) (prevOf t) 0 1 × Edge (nextOf t) (prevOf t) 1 0
+  alone-edges a =
+      let r : Ring (nextOf t) (prevOf t) 1 = rw (a .span .single) at (a .ring) in
+      let q : nextOf t 0 ≡ 1 = omega (arith, r .inside .0) in
+      (rw q at (r .links .0), rw q at (r .links .1))
+
+  pub alone-decided : {r : Bool} (source : List ℕ) → utf8 source ≡ true → length source ≡ 0 → Decides r (Alone t n) → Decides r (Listed source t n)
+  alone-decided source u z d =
+      decides-by
+      (λ a. record {
+        ring = a .ring;
+        spans = record { empty = λ q. a .span; full = λ p. absurd (omega arith) };
+        edges = λ k h. record { start = between-past source (startsOf t k) u (omega arith); end = between-past source (endsOf t k) u (omega arith) };
+      })
+      (λ l. record { span = l .spans .empty z; ring = l .ring }) d
