@@ -2,15 +2,15 @@
 use mathlib.Core.Path.{_≡_}
 use mathlib.Core.Bool.{Bool, true}
 use mathlib.Core.List.{List}
-use Prim.Native.Nat.{ℕ, _*_, _/_, _≤_}
+use Prim.Native.Nat.{ℕ, _+_, _*_, _/_, _≤_}
 use native.Mathlib.Omega.{arith}
 use lib.ListN.{length}
 use Rattle.utf8.specs.Rfc3629.{utf8}
-use Rattle.table.specs.Order.{countOf, Linked}
+use Rattle.table.specs.Order.{countOf}
 use Rattle.memory.specs.WellFormed.{Sized, Full, WellFormed, Taken}
 use Rattle.counts.specs.Counts.{Decides}
 use Rattle.counts.specs.Sums.{decides-by}
-use Rattle.spans.specs.Spans.{Spans, Edges}
+use Rattle.spans.specs.Spans.{Listed}
 use Rattle.marks.specs.Marks.{RunsApart, pieceTotal, TextsApart}
 use Rattle.well_formed.specs.Rows.{Shaped, Chunked, Pieced}
 use Rattle.well_formed.specs.Bridge.{rows-formed, formed-rows}
@@ -20,8 +20,10 @@ pub whole-rows : {t p s : List ℕ} → Sized t p s → length p / 2 * 2 ≡ len
 whole-rows z = omega (arith, z .whole-pieces)
 
 -- n is the count that was read
-pub chunked-yes : {q : Bool} (source t : List ℕ) (n : ℕ) → n ≡ countOf t → Linked t → Spans t n (length source) → Decides q (Edges source t n) → Decides q (Chunked source t)
-chunked-yes source t n e l x d = decides-by (λ y. record { linked = l; spans = rw e at x; edges = rw e at y }) (λ c. rw e (c .edges)) d
+pub chunked-by : {q : Bool} (source t : List ℕ) (n : ℕ) → n ≡ countOf t → n * 12 + 12 ≤ length t → Decides q (Listed source t n) → Decides q (Chunked source t)
+chunked-by source t n e h d =
+    decides-by (λ l. record { linked = record { ring = rw e at (l .ring); room = omega arith }; spans = rw e at (l .spans); edges = rw e at (l .edges) })
+    (λ c. record { ring = rw e (c .linked .ring); spans = rw e (c .spans); edges = rw e (c .edges) }) d
 
 pub pieced-yes : {q : Bool} (t p s : List ℕ) (n : ℕ) → n ≡ countOf t → pieceTotal t n ≤ length p / 4 → RunsApart t n (length p) → Decides q (TextsApart t p s n) → Decides q (Pieced t p s)
 pieced-yes t p s n e k r d = decides-by (λ y. record { count = rw e at k; runs = rw e at r; texts = rw e at y }) (λ c. rw e (c .texts)) d
