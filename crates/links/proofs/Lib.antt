@@ -1,5 +1,4 @@
-mod Stands
-mod Spans
-mod Step
+mod Tests
+mod Stretches
 mod Rest
 mod Listing

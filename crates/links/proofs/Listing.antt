@@ -5,26 +5,33 @@ use mathlib.Core.List.{List, [], _∷_}
 use Prim.Native.Nat.{ℕ, _+_, _-_, _≤_, _<_}
 use native.Mathlib.Omega.{arith}
 use native.Mathlib.Decide.{decLt}
-use lib.ListN.{length, getD}
+use lib.ListN.{length}
 use Rattle.utf8.specs.Rfc3629.{utf8}
 use Rattle.utf8.specs.Boundaries.{between-past}
 use Rattle.utf8.specs.Chars.{All}
 use Rattle.table.specs.Ring.{Edge, Ring, ring-of}
 use Rattle.table.specs.Order.{nextOf, prevOf}
 use Rattle.model.specs.Text.{sum}
-use Rattle.model.specs.Lists.{all-map}
+use Rattle.model.specs.Lists.{all-map, sum-same as sum-same-list}
 use Rattle.counts.specs.Counts.{Decides, indicator, sum-to}
-use Rattle.counts.specs.Sums.{decides-by, sum-zero, sum-same, sum-tight, indicator-after}
+use Rattle.counts.specs.Sums.{decides-by, sum-zero, sum-same, sum-tight, sum-indicator, indicator-after}
+use Rattle.counts.specs.Lists.{sum-swap}
 use Rattle.counts.specs.Once.{Once, sum-once, all-once, once-all, ring-once}
-use Rattle.spans.specs.Spans.{startsOf, endsOf, Empty, Spans, Edges, Listed}
+use Rattle.spans.specs.Spans.{startOf, endOf, startsOf, endsOf, Empty, Listed}
 use Rattle.spans.proofs.Spans.{sum-ones-is}
-use Rattle.links.specs.Walk.{Proper, holds, Alone}
-use Rattle.links.proofs.Spans.{sizes}
-use Rattle.links.proofs.Rest.{rowsFrom, Rest}
+use Rattle.links.specs.Walk.{Proper, Alone}
+use Rattle.links.proofs.Rest.{holds, sizeOf, rowsFrom, Whole}
 
-module _ {source t : List ℕ} {n : ℕ} {m : List ℕ} (pos : 0 < length source) (clear : (b : ℕ) → getD m b 0 ≡ 0) where
-  rest-listed : Rest source t n n 0 m (length source) → Listed source t n
-  rest-listed r =
+-- how many bytes the spans of rows have, byte by byte of the source
+sizes : {source t : List ℕ} {xs : List ℕ} → All (Proper source t) xs → sum (sizeOf t) xs ≡ sum-to (λ b. sum (λ x. holds t x b) xs) (length source)
+sizes {source} {t} {xs} p =
+    sum-same-list (sizeOf t) (λ x. sum-to (holds t x) (length source))
+    (all-map (λ x (q : Proper source t x). omega (arith, q .filled, q .inside, sum-indicator (startOf t x) (endOf t x) (length source) (omega (arith, q .filled)))) p)
+    ∙ sum-swap (holds t) xs (length source)
+
+module _ {source t : List ℕ} {n : ℕ} (pos : 0 < length source) where
+  whole-listed : Whole source t n → Listed source t n
+  whole-listed r =
       let ring : Ring (nextOf t) (prevOf t) n = record { links = r .links; inside = r .inside } in
       let o : Once n (rowsFrom t n 0) = ring-once (nextOf t) (prevOf t) n ring in
       let proper : (k : ℕ) → k < n → Proper source t (k + 1) = once-all o (r .proper) in
@@ -36,14 +43,14 @@ module _ {source t : List ℕ} {n : ℕ} {m : List ℕ} (pos : 0 < length source
             filled = λ k h. proper k h .filled;
             inside = λ k h. proper k h .inside;
             cover = λ b h. sym (sum-once o (λ i. holds t i b))
-                ∙ sum-tight (λ b. sum (λ x. holds t x b) (rowsFrom t n 0)) (λ b. 1) (length source) (λ c l. omega (arith, r .free c)) (omega (arith, sum-ones-is (length source), sizes (r .proper), r .size)) b h;
+                ∙ sum-tight (λ b. sum (λ x. holds t x b) (rowsFrom t n 0)) (λ b. 1) (length source) (λ c l. omega (arith, r .once c)) (omega (arith, sum-ones-is (length source), sizes (r .proper), r .size)) b h;
           };
         };
         edges = λ k h. proper k h .edged;
       }
 
-  listed-rest : Listed source t n → Rest source t n n 0 m (length source)
-  listed-rest l =
+  listed-whole : Listed source t n → Whole source t n
+  listed-whole l =
       let o : Once n (rowsFrom t n 0) = ring-once (nextOf t) (prevOf t) n (l .ring) in
       let d = l .spans .full pos in
       let proper : All (Proper source t) (rowsFrom t n 0) = all-once o (λ k h. record { filled = d .filled k h; inside = d .inside k h; edged = l .edges k h }) in
@@ -52,20 +59,19 @@ module _ {source t : List ℕ} {n : ℕ} {m : List ℕ} (pos : 0 < length source
         links = l .ring .links;
         inside = l .ring .inside;
         proper = proper;
-        free = λ b. elim (decLt b (length source)) [
-          | yes h ↦ omega (arith, clear b, once b h)
+        once = λ b. elim (decLt b (length source)) [
+          | yes h ↦ omega (arith, once b h)
           | no h ↦ omega (
               arith,
-              clear b,
               sum-once o (λ i. holds t i b),
               sum-zero (λ k. indicator (startsOf t k) (endsOf t k) b) n (λ k g. indicator-after (startsOf t k) (endsOf t k) b (omega (arith, d .inside k g))),
             )
         ];
-        size = sizes proper ∙ sum-same (λ b. sum (λ x. holds t x b) (rowsFrom t n 0)) (λ b. 1) (length source) once ∙ sum-ones-is (length source);
+        size = omega (arith, sizes proper, sum-same (λ b. sum (λ x. holds t x b) (rowsFrom t n 0)) (λ b. 1) (length source) once, sum-ones-is (length source));
       }
 
-  pub walk-decided : {r : Bool} → Decides r (Rest source t n n 0 m (length source)) → Decides r (Listed source t n)
-  walk-decided d = decides-by rest-listed listed-rest d
+  pub whole-decided : {r : Bool} → Decides r (Whole source t n) → Decides r (Listed source t n)
+  whole-decided d = decides-by whole-listed listed-whole d
 
 -- ── an empty source ──
 module _ (t : List ℕ) (n : ℕ) where

@@ -1,14 +1,24 @@
--- A walk along the chunk list that marks the bytes of each span: what one step of it promises.
+-- A walk along the chunk list: what its steps promise. Spans that follow one another are pending until one does not; then their bytes are marked at once.
 use mathlib.Core.Path.{_≡_}
 use mathlib.Core.List.{List}
-use Prim.Native.Nat.{ℕ, _+_, _≤_, _<_}
+use Prim.Native.Nat.{ℕ, _+_, _-_, _≤_, _<_}
 use lib.ListN.{length, getD}
 use Rattle.table.specs.Ring.{Edge, Ring}
 use Rattle.table.specs.Order.{nextOf, prevOf}
 use Rattle.counts.specs.Counts.{indicator}
 use Rattle.counts.specs.Once.{In}
-use Rattle.marks.specs.Marks.{Free}
 use Rattle.spans.specs.Spans.{startOf, endOf, Edged, Empty}
+use Rattle.links.specs.declared.Pending.{Pending}
+
+-- row x may stand behind a
+pub record Behind (t : List ℕ) (n a x : ℕ) : Type 0 where
+  pub near : In n x
+  pub edge : Edge (nextOf t) (prevOf t) a x
+
+-- x is the row behind a, or 0 if none may stand there
+pub record Found (t : List ℕ) (n a x : ℕ) : Type 0 where
+  pub some : (x ≡ 0 → ⊥) → Behind t n a x
+  pub none : x ≡ 0 → (y : ℕ) → Behind t n a y → ⊥
 
 -- the span of row i is not empty, ends inside the source, and both its ends stand between characters
 pub record Proper (source t : List ℕ) (i : ℕ) : Type 0 where
@@ -16,21 +26,41 @@ pub record Proper (source t : List ℕ) (i : ℕ) : Type 0 where
   pub inside : endOf t i ≤ length source
   pub edged : Edged source (startOf t i) (endOf t i)
 
--- 1 if byte b is in the span of row i, else 0
-abbrev pub holds : List ℕ → ℕ → ℕ → ℕ
-holds t i b = indicator (startOf t i) (endOf t i) b
+-- how often byte b is marked or pending
+abbrev pub held : List ℕ → Pending → ℕ → ℕ
+held m o b = getD m b 0 + indicator (o .from) (o .at) b
 
--- row x may stand behind a, and its bytes may be marked
-pub record Next (source t : List ℕ) (n a x : ℕ) (m : List ℕ) : Type 0 where
-  pub near : In n x
-  pub edge : Edge (nextOf t) (prevOf t) a x
-  pub free : Free m (Proper source t x) (holds t x)
+-- how many bytes are pending
+abbrev pub pendingSize : Pending → ℕ
+pendingSize o = o .at - o .from
 
--- a step gives the row behind a, and its bytes are marked; or 0, if it may not
-pub record Step (source t : List ℕ) (n a : ℕ) (m : List ℕ) (x : ℕ) (m′ : List ℕ) : Type 0 where
-  pub some : (x ≡ 0 → ⊥) → Next source t n a x m
-  pub marks : (x ≡ 0 → ⊥) → (b : ℕ) → getD m′ b 0 ≡ getD m b 0 + holds t x b
-  pub none : x ≡ 0 → (y : ℕ) → Next source t n a y m → ⊥
+-- no byte is held twice, and no more are pending than are left
+pub record Fits (m : List ℕ) (o : Pending) : Type 0 where
+  pub once : (b : ℕ) → held m o b ≤ 1
+  pub within : pendingSize o ≤ o .left
+
+-- the span from s up to e is held, too
+pub record Grown (s e : ℕ) (m : List ℕ) (o : Pending) (m′ : List ℕ) (o′ : Pending) : Type 0 where
+  pub end : o′ .at ≡ e
+  pub bytes : (b : ℕ) → held m′ o′ b ≡ held m o b + indicator s e b
+  pub size : pendingSize o′ + o .left ≡ pendingSize o + (e - s) + o′ .left
+
+-- it is, unless what was pending did not fit: then the answer ends before it starts
+pub record Turned (s e : ℕ) (m : List ℕ) (o : Pending) (m′ : List ℕ) (o′ : Pending) : Type 0 where
+  pub on : o′ .from ≤ o′ .at → Grown s e m o m′ o′
+  pub off : o′ .at < o′ .from → Fits m o → ⊥
+
+-- the same of the span of row i, which is tested first
+pub record Passed (source t : List ℕ) (i : ℕ) (m : List ℕ) (o : Pending) (m′ : List ℕ) (o′ : Pending) : Type 0 where
+  pub proper : o′ .from ≤ o′ .at → Proper source t i
+  pub on : o′ .from ≤ o′ .at → Grown (startOf t i) (endOf t i) m o m′ o′
+  pub off : o′ .at < o′ .from → Proper source t i → Fits m o → ⊥
+
+-- the walk ends at a: it leads to row 0, and what is pending is all that is left
+pub record Ended (t : List ℕ) (a : ℕ) (m : List ℕ) (o : Pending) : Type 0 where
+  pub edge : Edge (nextOf t) (prevOf t) a 0
+  pub once : (b : ℕ) → held m o b ≤ 1
+  pub all : pendingSize o ≡ o .left
 
 -- the one chunk of an empty source
 pub record Alone (t : List ℕ) (n : ℕ) : Type 0 where

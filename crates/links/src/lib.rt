@@ -3,14 +3,14 @@ ghost use mathlib.Core.Path.{_≡_};
 ghost use mathlib.Core.Bool.{true};
 ghost use Prim.Native.Nat.{ℕ, _+_, _*_, _≤_, _<_};
 ghost use lib.ListN.{length, getD};
-ghost use Rattle.utf8.specs.Rfc3629.{utf8 as isText};
+ghost use Rattle.utf8.specs.Rfc3629.{utf8 as isText, between};
 ghost use Rattle.table.specs.Ring.{Edge};
 ghost use Rattle.table.specs.Order.{nextOf, prevOf};
-ghost use Rattle.counts.specs.Counts.{Decides};
+ghost use Rattle.counts.specs.Counts.{Decides, indicator};
 ghost use Rattle.spans.specs.Spans.{Empty, Listed};
 ghost use Rattle.marks.specs.Marks.{Marked};
 ghost use Rattle.bit_marks.specs.BitMarks.{marksOf};
-ghost use Rattle.links.specs.Walk.{Proper, holds, Step, Alone};
+ghost use Rattle.links.specs.Walk.{Found, Proper, pendingSize, Turned, Passed, Ended, Alone};
 
 // Whether row a leads to row b, and b back to a.
 fn edge(t: &[u32], a: u32, b: u32) -> bool
@@ -26,35 +26,10 @@ fn edge(t: &[u32], a: u32, b: u32) -> bool
     true
 }
 
-// Marks the bytes of the span of row i. False if it is empty, ends past the source or inside a character, or if a byte is marked already.
-fn mark_span(source: &[u8], t: &[u32], i: u32, marks: &mut [u64]) -> bool
-    requires { ⌜ isText (now source) ≡ true ⌝ }
-    requires { ⌜ i * 12 + 12 ≤ length (now t) ⌝ }
-    requires { ⌜ (length (now source) ≤ length (now marks) * 64) × (length (now marks) < 0x400_0000_0000_0000) ⌝ }
-    ensures { λ r. ⌜ Marked r (marksOf (now (marks .entry))) (Proper (now (source .entry)) (now (t .entry)) i) (holds (now (t .entry)) i) (marksOf (now (marks .exit))) ⌝ }
-{
-    let a = spans::start(t, i);
-    let e = spans::end(t, i);
-    if a >= e {
-        return false;
-    }
-    if e > source.len() {
-        return false;
-    }
-    if utf8::boundary(source, a) {
-        if utf8::boundary(source, e) {
-            return bit_marks::mark_range(marks, a, e - a);
-        }
-    }
-    false
-}
-
-// The row behind a, with the bytes of its span marked; 0 if there is none, it is not linked back to a, or its bytes cannot be marked.
-fn next_marked(source: &[u8], t: &[u32], n: u32, a: u32, marks: &mut [u64]) -> u32
-    requires { ⌜ isText (now source) ≡ true ⌝ }
+// The row behind a, if it is one of the rows 1 to n and linked back to a; else 0.
+fn next_row(t: &[u32], n: u32, a: u32) -> u32
     requires { ⌜ (n * 12 + 12 ≤ length (now t)) × (a ≤ n) ⌝ }
-    requires { ⌜ (length (now source) ≤ length (now marks) * 64) × (length (now marks) < 0x400_0000_0000_0000) ⌝ }
-    ensures { λ r. ⌜ Step (now (source .entry)) (now (t .entry)) n a (marksOf (now (marks .entry))) r (marksOf (now (marks .exit))) ⌝ }
+    ensures { λ r. ⌜ Found (now (t .entry)) n a r ⌝ }
 {
     let x = spans::next(t, a);
     if x == 0 {
@@ -66,13 +41,111 @@ fn next_marked(source: &[u8], t: &[u32], n: u32, a: u32, marks: &mut [u64]) -> u
     if spans::prev(t, x) != a {
         return 0;
     }
-    if mark_span(source, t, x, marks) {
-        return x;
-    }
-    0
+    x
 }
 
-// Whether a walk of n steps along the list comes back to row 0 and marks each byte of the source once. The marks are clear.
+// Whether the span of row i is not empty, ends inside the source, and both its ends stand between characters, as `at` does.
+fn proper(source: &[u8], t: &[u32], i: u32, at: usize) -> bool
+    requires { ⌜ (isText (now source) ≡ true) × (between (now source) at ≡ true) ⌝ }
+    requires { ⌜ i * 12 + 12 ≤ length (now t) ⌝ }
+    ensures { λ r. ⌜ Decides r (Proper (now (source .entry)) (now (t .entry)) i) ⌝ }
+{
+    let start = spans::start(t, i);
+    let end = spans::end(t, i);
+    if start >= end {
+        return false;
+    }
+    if end > source.len() {
+        return false;
+    }
+    if start == at {
+        return utf8::boundary(source, end);
+    }
+    if utf8::boundary(source, start) {
+        return utf8::boundary(source, end);
+    }
+    false
+}
+
+// Spans passed that follow one another, from `from` up to `at`, with their bytes not marked yet; `left` bytes of the source are not marked.
+struct Pending {
+    from: usize,
+    at: usize,
+    left: usize,
+}
+
+// Marks what is pending. False if it is more than is left, or a byte is marked already.
+fn mark_pending(pending: Pending, marks: &mut [u64]) -> bool
+    requires { ⌜ (pending .from ≤ pending .at) × (pending .at ≤ length (now marks) * 64) × (length (now marks) < 0x400_0000_0000_0000) ⌝ }
+    ensures { λ r. ⌜ Marked r (marksOf (now (marks .entry))) (pendingSize pending ≤ pending .left) (indicator (pending .from) (pending .at)) (marksOf (now (marks .exit))) ⌝ }
+{
+    let size = pending.at - pending.from;
+    if size > pending.left {
+        return false;
+    }
+    bit_marks::mark_range(marks, pending.from, size)
+}
+
+// A span goes on from what is pending, or what is pending is marked and the span is pending instead. If it cannot be marked, the answer ends before it starts.
+fn turn(pending: Pending, start: usize, end: usize, marks: &mut [u64]) -> Pending
+    requires { ⌜ (pending .from ≤ pending .at) × (pending .at ≤ length (now marks) * 64) × (length (now marks) < 0x400_0000_0000_0000) ⌝ }
+    requires { ⌜ start < end ⌝ }
+    ensures { λ r. ⌜ Turned start end (marksOf (now (marks .entry))) pending (marksOf (now (marks .exit))) r ⌝ }
+{
+    if start == pending.at {
+        return Pending {
+            from: pending.from,
+            at: end,
+            left: pending.left,
+        };
+    }
+    if mark_pending(pending, marks) {
+        return Pending {
+            from: start,
+            at: end,
+            left: pending.left - (pending.at - pending.from),
+        };
+    }
+    Pending {
+        from: 1,
+        at: 0,
+        left: 0,
+    }
+}
+
+// The same of the span of row i, after it is tested.
+fn pass(source: &[u8], t: &[u32], i: u32, pending: Pending, marks: &mut [u64]) -> Pending
+    requires { ⌜ (isText (now source) ≡ true) × (between (now source) (pending .at) ≡ true) ⌝ }
+    requires { ⌜ i * 12 + 12 ≤ length (now t) ⌝ }
+    requires { ⌜ (pending .from ≤ pending .at) × (pending .at ≤ length (now marks) * 64) × (length (now marks) < 0x400_0000_0000_0000) ⌝ }
+    ensures { λ r. ⌜ Passed (now (source .entry)) (now (t .entry)) i (marksOf (now (marks .entry))) pending (marksOf (now (marks .exit))) r ⌝ }
+{
+    if proper(source, t, i, pending.at) {
+        return turn(pending, spans::start(t, i), spans::end(t, i), marks);
+    }
+    Pending {
+        from: 1,
+        at: 0,
+        left: 0,
+    }
+}
+
+// Whether the walk may end at row a: it leads to row 0, and what is pending is all that is left and can be marked.
+fn ended(t: &[u32], a: u32, pending: Pending, marks: &mut [u64]) -> bool
+    requires { ⌜ a * 12 + 12 ≤ length (now t) ⌝ }
+    requires { ⌜ (pending .from ≤ pending .at) × (pending .at ≤ length (now marks) * 64) × (length (now marks) < 0x400_0000_0000_0000) ⌝ }
+    ensures { λ r. ⌜ Decides r (Ended (now (t .entry)) a (marksOf (now (marks .entry))) pending) ⌝ }
+{
+    if pending.at - pending.from != pending.left {
+        return false;
+    }
+    if edge(t, a, 0) {
+        return mark_pending(pending, marks);
+    }
+    false
+}
+
+// Whether a walk of n steps along the list comes back to row 0 and holds each byte of the source once. The marks are clear.
 fn walk(source: &[u8], t: &[u32], n: u32, marks: &mut [u64]) -> bool
     requires { ⌜ (isText (now source) ≡ true) × (0 < length (now source)) ⌝ }
     requires { ⌜ n * 12 + 12 ≤ length (now t) ⌝ }
@@ -80,25 +153,25 @@ fn walk(source: &[u8], t: &[u32], n: u32, marks: &mut [u64]) -> bool
     requires { ⌜ ((b : ℕ) → getD (marksOf (now marks)) b 0 ≡ 0) ⌝ }
     ensures { λ r. ⌜ Decides r (Listed (now (source .entry)) (now (t .entry)) n) ⌝ }
 {
-    let mut left = source.len();
+    let mut pending = Pending {
+        from: 0,
+        at: 0,
+        left: source.len(),
+    };
     let mut a = 0;
     let mut k = 0;
     while k < n {
-        a = next_marked(source, t, n, a, marks);
+        a = next_row(t, n, a);
         if a == 0 {
             return false;
         }
-        let size = spans::size(t, a);
-        if size > left {
+        pending = pass(source, t, a, pending, marks);
+        if pending.from > pending.at {
             return false;
         }
-        left -= size;
         k += 1;
     }
-    if left != 0 {
-        return false;
-    }
-    edge(t, a, 0)
+    ended(t, a, pending, marks)
 }
 
 // The same with marks of its own.
