@@ -1,6 +1,7 @@
 use borrow.Author.Needs.{needs}
 use borrow.Author.Tests.{eqb-true}
 use native.Mathlib.Omega.{arith}
+use lib.ListN.{length}
 use Rattle.counts.specs.Sums.{not-both}
 use Rattle.in_order.proofs.Row.{joined-last, joined-on}
 use Rattle.in_order.proofs.joined.Statement.{statement}
@@ -20,8 +21,9 @@ returns-2 c = λ e. not-both e
 
 returns-3 : tie.Need-returns-3
 returns-3 c = λ e.
+    let start = c .before .before .before .before .before .before .before in
     joined-last (c .before .before .before .before .next .ensures) (c .before .before .before .if1 .left) (c .before .before .prev .ensures) (c .before .if2 .left)
-    (c .before .before .before .before .before .before .before .pre .0) (c .if3 .taken) (eqb-true _ _ e)
+    (start .pre .0) (c .if3 .taken) (eqb-true (start .args .e) (length (start .args .source .now)) e)
 
 start-requires : tie.Need-start-requires
 start-requires c κs = search needs
