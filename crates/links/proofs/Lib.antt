@@ -1,4 +1,5 @@
 mod Tests
 mod Stretches
+mod Flip
 mod Rest
 mod Listing

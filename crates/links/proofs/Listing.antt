@@ -1,4 +1,4 @@
--- A walk that marks each byte of the source once is a list whose spans cover it.
+-- A list that holds each byte of the source once is one whose spans cover it.
 use mathlib.Core.Path.{_≡_, refl, ap, sym, _∙_}
 use mathlib.Core.Bool.{Bool, true}
 use mathlib.Core.List.{List, [], _∷_}
@@ -9,7 +9,7 @@ use lib.ListN.{length}
 use Rattle.utf8.specs.Rfc3629.{utf8}
 use Rattle.utf8.specs.Boundaries.{between-past}
 use Rattle.utf8.specs.Chars.{All}
-use Rattle.table.specs.Ring.{Edge, Ring, ring-of}
+use Rattle.table.specs.Ring.{Edge, Ring, follow, length-follow, ring-of}
 use Rattle.table.specs.Order.{nextOf, prevOf}
 use Rattle.model.specs.Text.{sum}
 use Rattle.model.specs.Lists.{all-map, sum-same as sum-same-list}
@@ -20,7 +20,7 @@ use Rattle.counts.specs.Once.{Once, sum-once, all-once, once-all, ring-once}
 use Rattle.spans.specs.Spans.{startOf, endOf, startsOf, endsOf, Empty, Listed}
 use Rattle.spans.proofs.Spans.{sum-ones-is}
 use Rattle.links.specs.Walk.{Proper, Alone}
-use Rattle.links.proofs.Rest.{holds, sizeOf, rowsFrom, Whole}
+use Rattle.links.proofs.Rest.{holds, sizeOf, Whole}
 
 -- how many bytes the spans of rows have, byte by byte of the source
 sizes : {source t : List ℕ} {xs : List ℕ} → All (Proper source t) xs → sum (sizeOf t) xs ≡ sum-to (λ b. sum (λ x. holds t x b) xs) (length source)
@@ -32,18 +32,20 @@ sizes {source} {t} {xs} p =
 module _ {source t : List ℕ} {n : ℕ} (pos : 0 < length source) where
   whole-listed : Whole source t n → Listed source t n
   whole-listed r =
-      let ring : Ring (nextOf t) (prevOf t) n = record { links = r .links; inside = r .inside } in
-      let o : Once n (rowsFrom t n 0) = ring-once (nextOf t) (prevOf t) n ring in
-      let proper : (k : ℕ) → k < n → Proper source t (k + 1) = once-all o (r .proper) in
+      let z = r .between in
+      let xs = r .rows in
+      let f = ring-of (nextOf t) (prevOf t) n xs (r .count) (z .links) (z .inside) in
+      let o : Once n xs = rw (f .0) at (ring-once (nextOf t) (prevOf t) n (f .1)) in
+      let proper : (k : ℕ) → k < n → Proper source t (k + 1) = once-all o (z .proper) in
       record {
-        ring = ring;
+        ring = f .1;
         spans = record {
-          empty = λ z. absurd (omega arith);
-          full = λ p. record {
+          empty = λ q. absurd (omega arith);
+          full = λ q. record {
             filled = λ k h. proper k h .filled;
             inside = λ k h. proper k h .inside;
             cover = λ b h. sym (sum-once o (λ i. holds t i b))
-                ∙ sum-tight (λ b. sum (λ x. holds t x b) (rowsFrom t n 0)) (λ b. 1) (length source) (λ c l. omega (arith, r .once c)) (omega (arith, sum-ones-is (length source), sizes (r .proper), r .size)) b h;
+                ∙ sum-tight (λ b. sum (λ x. holds t x b) xs) (λ b. 1) (length source) (λ c l. omega (arith, z .once c)) (omega (arith, sum-ones-is (length source), sizes (z .proper), z .size)) b h;
           };
         };
         edges = λ k h. proper k h .edged;
@@ -51,23 +53,28 @@ module _ {source t : List ℕ} {n : ℕ} (pos : 0 < length source) where
 
   listed-whole : Listed source t n → Whole source t n
   listed-whole l =
-      let o : Once n (rowsFrom t n 0) = ring-once (nextOf t) (prevOf t) n (l .ring) in
+      let xs = follow (nextOf t) n (nextOf t 0) in
+      let o : Once n xs = ring-once (nextOf t) (prevOf t) n (l .ring) in
       let d = l .spans .full pos in
-      let proper : All (Proper source t) (rowsFrom t n 0) = all-once o (λ k h. record { filled = d .filled k h; inside = d .inside k h; edged = l .edges k h }) in
-      let once : (b : ℕ) → b < length source → sum (λ x. holds t x b) (rowsFrom t n 0) ≡ 1 = λ b h. sum-once o (λ i. holds t i b) ∙ d .cover b h in
+      let proper : All (Proper source t) xs = all-once o (λ k h. record { filled = d .filled k h; inside = d .inside k h; edged = l .edges k h }) in
+      let once : (b : ℕ) → b < length source → sum (λ x. holds t x b) xs ≡ 1 = λ b h. sum-once o (λ i. holds t i b) ∙ d .cover b h in
       record {
-        links = l .ring .links;
-        inside = l .ring .inside;
-        proper = proper;
-        once = λ b. elim (decLt b (length source)) [
-          | yes h ↦ omega (arith, once b h)
-          | no h ↦ omega (
-              arith,
-              sum-once o (λ i. holds t i b),
-              sum-zero (λ k. indicator (startsOf t k) (endsOf t k) b) n (λ k g. indicator-after (startsOf t k) (endsOf t k) b (omega (arith, d .inside k g))),
-            )
-        ];
-        size = omega (arith, sizes proper, sum-same (λ b. sum (λ x. holds t x b) (rowsFrom t n 0)) (λ b. 1) (length source) once, sum-ones-is (length source));
+        rows = xs;
+        count = length-follow (nextOf t) n (nextOf t 0);
+        between = record {
+          links = l .ring .links;
+          inside = l .ring .inside;
+          proper = proper;
+          once = λ b. elim (decLt b (length source)) [
+            | yes h ↦ omega (arith, once b h)
+            | no h ↦ omega (
+                arith,
+                sum-once o (λ i. holds t i b),
+                sum-zero (λ k. indicator (startsOf t k) (endsOf t k) b) n (λ k g. indicator-after (startsOf t k) (endsOf t k) b (omega (arith, d .inside k g))),
+              )
+          ];
+          size = omega (arith, sizes proper, sum-same (λ b. sum (λ x. holds t x b) xs) (λ b. 1) (length source) once, sum-ones-is (length source));
+        };
       }
 
   pub whole-decided : {r : Bool} → Decides r (Whole source t n) → Decides r (Listed source t n)

@@ -1,24 +1,34 @@
--- A walk along the chunk list: what its steps promise. Spans that follow one another are pending until one does not; then their bytes are marked at once.
+-- A walk along the chunk list from both of its ends: what a step promises. Spans that follow one another are pending until one does not; then their bytes are marked at once.
 use mathlib.Core.Path.{_≡_}
+use mathlib.Core.Bool.{true}
 use mathlib.Core.List.{List}
-use Prim.Native.Nat.{ℕ, _+_, _-_, _≤_, _<_}
+use Prim.Native.Nat.{ℕ, _+_, _-_, _*_, _≤_, _<_}
 use lib.ListN.{length, getD}
+use Rattle.utf8.specs.Rfc3629.{between}
 use Rattle.table.specs.Ring.{Edge, Ring}
 use Rattle.table.specs.Order.{nextOf, prevOf}
 use Rattle.counts.specs.Counts.{indicator}
 use Rattle.counts.specs.Once.{In}
 use Rattle.spans.specs.Spans.{startOf, endOf, Edged, Empty}
-use Rattle.links.specs.declared.Pending.{Pending}
+use Rattle.links.specs.declared.Side.{Side}
 
--- row x may stand behind a
-pub record Behind (t : List ℕ) (n a x : ℕ) : Type 0 where
+-- where word k of a row leads: word 2 to the next row, word 3 to the one before. So the other of the two is word 5 - k
+abbrev pub leads : List ℕ → ℕ → ℕ → ℕ
+leads t k i = getD t (i * 12 + k) 0
+
+-- word k of row a leads to b, and the other word of b back to a
+abbrev pub Joint : List ℕ → ℕ → ℕ → ℕ → Type 0
+Joint t k a b = Edge (leads t k) (leads t (5 - k)) a b
+
+-- row x may come after a, by word k
+pub record Behind (t : List ℕ) (n k a x : ℕ) : Type 0 where
   pub near : In n x
-  pub edge : Edge (nextOf t) (prevOf t) a x
+  pub edge : Joint t k a x
 
--- x is the row behind a, or 0 if none may stand there
-pub record Found (t : List ℕ) (n a x : ℕ) : Type 0 where
-  pub some : (x ≡ 0 → ⊥) → Behind t n a x
-  pub none : x ≡ 0 → (y : ℕ) → Behind t n a y → ⊥
+-- x comes after a, or is 0 and none may
+pub record Found (t : List ℕ) (n k a x : ℕ) : Type 0 where
+  pub some : (x ≡ 0 → ⊥) → Behind t n k a x
+  pub none : x ≡ 0 → (y : ℕ) → Behind t n k a y → ⊥
 
 -- the span of row i is not empty, ends inside the source, and both its ends stand between characters
 pub record Proper (source t : List ℕ) (i : ℕ) : Type 0 where
@@ -26,41 +36,52 @@ pub record Proper (source t : List ℕ) (i : ℕ) : Type 0 where
   pub inside : endOf t i ≤ length source
   pub edged : Edged source (startOf t i) (endOf t i)
 
--- how often byte b is marked or pending
-abbrev pub held : List ℕ → Pending → ℕ → ℕ
-held m o b = getD m b 0 + indicator (o .from) (o .at) b
+-- how often byte b is marked or pending; how many bytes are pending
+abbrev pub held : List ℕ → Side → ℕ → ℕ
+held m s b = getD m b 0 + indicator (s .from) (s .to) b
 
--- how many bytes are pending
-abbrev pub pendingSize : Pending → ℕ
-pendingSize o = o .at - o .from
+abbrev pub pendingSize : Side → ℕ
+pendingSize s = s .to - s .from
 
 -- no byte is held twice, and no more are pending than are left
-pub record Fits (m : List ℕ) (o : Pending) : Type 0 where
-  pub once : (b : ℕ) → held m o b ≤ 1
-  pub within : pendingSize o ≤ o .left
+pub record Fits (m : List ℕ) (s : Side) : Type 0 where
+  pub once : (b : ℕ) → held m s b ≤ 1
+  pub within : pendingSize s ≤ s .left
 
--- the span from s up to e is held, too
-pub record Grown (s e : ℕ) (m : List ℕ) (o : Pending) (m′ : List ℕ) (o′ : Pending) : Type 0 where
-  pub end : o′ .at ≡ e
-  pub bytes : (b : ℕ) → held m′ o′ b ≡ held m o b + indicator s e b
-  pub size : pendingSize o′ + o .left ≡ pendingSize o + (e - s) + o′ .left
+-- what is pending lies inside, between characters, and can be marked
+pub record Sound (source : List ℕ) (s : Side) : Type 0 where
+  pub started : s .from ≤ s .to
+  pub inside : s .to ≤ length source
+  pub edged : Edged source (s .from) (s .to)
 
--- it is, unless what was pending did not fit: then the answer ends before it starts
-pub record Turned (s e : ℕ) (m : List ℕ) (o : Pending) (m′ : List ℕ) (o′ : Pending) : Type 0 where
-  pub on : o′ .from ≤ o′ .at → Grown s e m o m′ o′
-  pub off : o′ .at < o′ .from → Fits m o → ⊥
+-- the span from a up to e is held, too; what is pending stays sound if the span is
+pub record Grown (a e : ℕ) (m : List ℕ) (s : Side) (m′ : List ℕ) (s′ : Side) : Type 0 where
+  pub bytes : (b : ℕ) → held m′ s′ b ≡ held m s b + indicator a e b
+  pub size : pendingSize s′ + s .left ≡ pendingSize s + (e - a) + s′ .left
+  pub sound : (source : List ℕ) → e ≤ length source → Edged source a e → Sound source s → Sound source s′
 
--- the same of the span of row i, which is tested first
-pub record Passed (source t : List ℕ) (i : ℕ) (m : List ℕ) (o : Pending) (m′ : List ℕ) (o′ : Pending) : Type 0 where
-  pub proper : o′ .from ≤ o′ .at → Proper source t i
-  pub on : o′ .from ≤ o′ .at → Grown (startOf t i) (endOf t i) m o m′ o′
-  pub off : o′ .at < o′ .from → Proper source t i → Fits m o → ⊥
+-- it is, at row i, unless what was pending did not fit: then the row is 0
+pub record Turned (i a e : ℕ) (m : List ℕ) (s : Side) (m′ : List ℕ) (s′ : Side) : Type 0 where
+  pub row : (s′ .row ≡ 0 → ⊥) → s′ .row ≡ i
+  pub on : (s′ .row ≡ 0 → ⊥) → Grown a e m s m′ s′
+  pub off : s′ .row ≡ 0 → Fits m s → ⊥
 
--- the walk ends at a: it leads to row 0, and what is pending is all that is left
-pub record Ended (t : List ℕ) (a : ℕ) (m : List ℕ) (o : Pending) : Type 0 where
-  pub edge : Edge (nextOf t) (prevOf t) a 0
-  pub once : (b : ℕ) → held m o b ≤ 1
-  pub all : pendingSize o ≡ o .left
+-- a step by word k, to a row whose span is proper and held
+pub record Went (source t : List ℕ) (n k : ℕ) (m : List ℕ) (s : Side) (m′ : List ℕ) (s′ : Side) : Type 0 where
+  pub behind : Behind t n k (s .row) (s′ .row)
+  pub proper : Proper source t (s′ .row)
+  pub grown : Grown (startOf t (s′ .row)) (endOf t (s′ .row)) m s m′ s′
+
+-- or none, and the row is 0
+pub record Stepped (source t : List ℕ) (n k : ℕ) (m : List ℕ) (s : Side) (m′ : List ℕ) (s′ : Side) : Type 0 where
+  pub some : (s′ .row ≡ 0 → ⊥) → Went source t n k m s m′ s′
+  pub none : s′ .row ≡ 0 → (y : ℕ) → Behind t n k (s .row) y → Proper source t y → Fits m s → ⊥
+
+-- the two sides meet, and what is pending is all that is left
+pub record Ended (t : List ℕ) (k : ℕ) (m : List ℕ) (near far : Side) : Type 0 where
+  pub edge : Joint t k (near .row) (far .row)
+  pub once : (b : ℕ) → held m near b + indicator (far .from) (far .to) b ≤ 1
+  pub all : pendingSize near + pendingSize far ≡ near .left
 
 -- the one chunk of an empty source
 pub record Alone (t : List ℕ) (n : ℕ) : Type 0 where

@@ -3,51 +3,60 @@ ghost use mathlib.Core.Path.{_≡_};
 ghost use mathlib.Core.Bool.{true};
 ghost use Prim.Native.Nat.{ℕ, _+_, _*_, _≤_, _<_};
 ghost use lib.ListN.{length, getD};
-ghost use Rattle.utf8.specs.Rfc3629.{utf8 as isText, between};
-ghost use Rattle.table.specs.Ring.{Edge};
-ghost use Rattle.table.specs.Order.{nextOf, prevOf};
+ghost use Rattle.utf8.specs.Rfc3629.{utf8 as isText};
 ghost use Rattle.counts.specs.Counts.{Decides, indicator};
-ghost use Rattle.spans.specs.Spans.{Empty, Listed};
+ghost use Rattle.spans.specs.Spans.{Edged, Empty, Listed};
 ghost use Rattle.marks.specs.Marks.{Marked};
 ghost use Rattle.bit_marks.specs.BitMarks.{marksOf};
-ghost use Rattle.links.specs.Walk.{Found, Proper, pendingSize, Turned, Passed, Ended, Alone};
+ghost use Rattle.links.specs.Walk.{leads, Joint, Found, Proper, pendingSize, Sound, Turned, Stepped, Ended, Alone};
 
-// Whether row a leads to row b, and b back to a.
-fn edge(t: &[u32], a: u32, b: u32) -> bool
-    requires { ⌜ (a * 12 + 12 ≤ length (now t)) × (b * 12 + 12 ≤ length (now t)) ⌝ }
-    ensures { λ r. ⌜ Decides r (Edge (nextOf (now (t .entry))) (prevOf (now (t .entry))) a b) ⌝ }
+// The words of a row that lead to the next row and to the one before. The other one of word k is word 5 - k.
+const NEXT: usize = 2;
+
+// Word k of row i.
+fn word(t: &[u32], i: u32, k: usize) -> u32
+    requires { ⌜ (i * 12 + 12 ≤ length (now t)) × (k < 12) ⌝ }
+    ensures { λ r. ⌜ r ≡ leads (now (t .entry)) k i ⌝ }
 {
-    if spans::next(t, a) != b {
+    t[i as usize * 12 + k]
+}
+
+// Whether word k of row a leads to row b, and the other word of b back to a.
+fn edge(t: &[u32], k: usize, a: u32, b: u32) -> bool
+    requires { ⌜ (a * 12 + 12 ≤ length (now t)) × (b * 12 + 12 ≤ length (now t)) × (k ≤ 5) ⌝ }
+    ensures { λ r. ⌜ Decides r (Joint (now (t .entry)) k a b) ⌝ }
+{
+    if word(t, a, k) != b {
         return false;
     }
-    if spans::prev(t, b) != a {
+    if word(t, b, 5 - k) != a {
         return false;
     }
     true
 }
 
-// The row behind a, if it is one of the rows 1 to n and linked back to a; else 0.
-fn next_row(t: &[u32], n: u32, a: u32) -> u32
-    requires { ⌜ (n * 12 + 12 ≤ length (now t)) × (a ≤ n) ⌝ }
-    ensures { λ r. ⌜ Found (now (t .entry)) n a r ⌝ }
+// The row to which word k of row a leads, if it is one of the rows 1 to n and its other word leads back to a; else 0.
+fn linked_row(t: &[u32], n: u32, k: usize, a: u32) -> u32
+    requires { ⌜ (n * 12 + 12 ≤ length (now t)) × (a ≤ n) × (k ≤ 5) ⌝ }
+    ensures { λ r. ⌜ Found (now (t .entry)) n k a r ⌝ }
 {
-    let x = spans::next(t, a);
+    let x = word(t, a, k);
     if x == 0 {
         return 0;
     }
     if x > n {
         return 0;
     }
-    if spans::prev(t, x) != a {
+    if word(t, x, 5 - k) != a {
         return 0;
     }
     x
 }
 
-// Whether the span of row i is not empty, ends inside the source, and both its ends stand between characters, as `at` does.
-fn proper(source: &[u8], t: &[u32], i: u32, at: usize) -> bool
-    requires { ⌜ (isText (now source) ≡ true) × (between (now source) at ≡ true) ⌝ }
-    requires { ⌜ i * 12 + 12 ≤ length (now t) ⌝ }
+// Whether the span of row i is not empty, ends inside the source, and both its ends stand between characters. As `from` and `to` do, they are not tested anew.
+fn proper(source: &[u8], t: &[u32], i: u32, from: usize, to: usize) -> bool
+    requires { ⌜ (isText (now source) ≡ true) × (i * 12 + 12 ≤ length (now t)) ⌝ }
+    requires { ⌜ Edged (now source) from to ⌝ }
     ensures { λ r. ⌜ Decides r (Proper (now (source .entry)) (now (t .entry)) i) ⌝ }
 {
     let start = spans::start(t, i);
@@ -58,8 +67,11 @@ fn proper(source: &[u8], t: &[u32], i: u32, at: usize) -> bool
     if end > source.len() {
         return false;
     }
-    if start == at {
+    if start == to {
         return utf8::boundary(source, end);
+    }
+    if end == from {
+        return utf8::boundary(source, start);
     }
     if utf8::boundary(source, start) {
         return utf8::boundary(source, end);
@@ -67,85 +79,115 @@ fn proper(source: &[u8], t: &[u32], i: u32, at: usize) -> bool
     false
 }
 
-// Spans passed that follow one another, from `from` up to `at`, with their bytes not marked yet; `left` bytes of the source are not marked.
-struct Pending {
+// One side of the walk: the row that it has come to; the spans from `from` up to `to`, which it passed and whose bytes are not marked yet;
+// and how many bytes of the source are not marked.
+struct Side {
+    row: u32,
     from: usize,
-    at: usize,
+    to: usize,
     left: usize,
 }
 
 // Marks what is pending. False if it is more than is left, or a byte is marked already.
-fn mark_pending(pending: Pending, marks: &mut [u64]) -> bool
-    requires { ⌜ (pending .from ≤ pending .at) × (pending .at ≤ length (now marks) * 64) × (length (now marks) < 0x400_0000_0000_0000) ⌝ }
-    ensures { λ r. ⌜ Marked r (marksOf (now (marks .entry))) (pendingSize pending ≤ pending .left) (indicator (pending .from) (pending .at)) (marksOf (now (marks .exit))) ⌝ }
+fn mark_pending(side: Side, marks: &mut [u64]) -> bool
+    requires { ⌜ (side .from ≤ side .to) × (side .to ≤ length (now marks) * 64) × (length (now marks) < 0x400_0000_0000_0000) ⌝ }
+    ensures { λ r. ⌜ Marked r (marksOf (now (marks .entry))) (pendingSize side ≤ side .left) (indicator (side .from) (side .to)) (marksOf (now (marks .exit))) ⌝ }
 {
-    let size = pending.at - pending.from;
-    if size > pending.left {
+    let size = side.to - side.from;
+    if size > side.left {
         return false;
     }
-    bit_marks::mark_range(marks, pending.from, size)
+    bit_marks::mark_range(marks, side.from, size)
 }
 
-// A span goes on from what is pending, or what is pending is marked and the span is pending instead. If it cannot be marked, the answer ends before it starts.
-fn turn(pending: Pending, start: usize, end: usize, marks: &mut [u64]) -> Pending
-    requires { ⌜ (pending .from ≤ pending .at) × (pending .at ≤ length (now marks) * 64) × (length (now marks) < 0x400_0000_0000_0000) ⌝ }
-    requires { ⌜ start < end ⌝ }
-    ensures { λ r. ⌜ Turned start end (marksOf (now (marks .entry))) pending (marksOf (now (marks .exit))) r ⌝ }
+// The span of row i goes on from what is pending, at either end, or that is marked and the span is pending instead. Row 0 if it cannot be marked.
+fn turn(side: Side, i: u32, start: usize, end: usize, marks: &mut [u64]) -> Side
+    requires { ⌜ (side .from ≤ side .to) × (side .to ≤ length (now marks) * 64) × (length (now marks) < 0x400_0000_0000_0000) ⌝ }
+    requires { ⌜ (start < end) × (0 < i) ⌝ }
+    ensures { λ r. ⌜ Turned i start end (marksOf (now (marks .entry))) side (marksOf (now (marks .exit))) r ⌝ }
 {
-    if start == pending.at {
-        return Pending {
-            from: pending.from,
-            at: end,
-            left: pending.left,
+    if start == side.to {
+        return Side {
+            row: i,
+            from: side.from,
+            to: end,
+            left: side.left,
         };
     }
-    if mark_pending(pending, marks) {
-        return Pending {
+    if end == side.from {
+        return Side {
+            row: i,
             from: start,
-            at: end,
-            left: pending.left - (pending.at - pending.from),
+            to: side.to,
+            left: side.left,
         };
     }
-    Pending {
-        from: 1,
-        at: 0,
+    if mark_pending(side, marks) {
+        return Side {
+            row: i,
+            from: start,
+            to: end,
+            left: side.left - (side.to - side.from),
+        };
+    }
+    Side {
+        row: 0,
+        from: 0,
+        to: 0,
         left: 0,
     }
 }
 
-// The same of the span of row i, after it is tested.
-fn pass(source: &[u8], t: &[u32], i: u32, pending: Pending, marks: &mut [u64]) -> Pending
-    requires { ⌜ (isText (now source) ≡ true) × (between (now source) (pending .at) ≡ true) ⌝ }
-    requires { ⌜ i * 12 + 12 ≤ length (now t) ⌝ }
-    requires { ⌜ (pending .from ≤ pending .at) × (pending .at ≤ length (now marks) * 64) × (length (now marks) < 0x400_0000_0000_0000) ⌝ }
-    ensures { λ r. ⌜ Passed (now (source .entry)) (now (t .entry)) i (marksOf (now (marks .entry))) pending (marksOf (now (marks .exit))) r ⌝ }
+// A step of one side by word k. Row 0 if the list does not go on, or the next span is not proper or cannot be marked.
+fn step(source: &[u8], t: &[u32], n: u32, k: usize, side: Side, marks: &mut [u64]) -> Side
+    requires { ⌜ (isText (now source) ≡ true) × Sound (now source) side ⌝ }
+    requires { ⌜ (n * 12 + 12 ≤ length (now t)) × (side .row ≤ n) × (k ≤ 5) ⌝ }
+    requires { ⌜ (length (now source) ≤ length (now marks) * 64) × (length (now marks) < 0x400_0000_0000_0000) ⌝ }
+    ensures { λ r. ⌜ Stepped (now (source .entry)) (now (t .entry)) n k (marksOf (now (marks .entry))) side (marksOf (now (marks .exit))) r ⌝ }
 {
-    if proper(source, t, i, pending.at) {
-        return turn(pending, spans::start(t, i), spans::end(t, i), marks);
+    let i = linked_row(t, n, k, side.row);
+    if i != 0 {
+        if proper(source, t, i, side.from, side.to) {
+            return turn(side, i, spans::start(t, i), spans::end(t, i), marks);
+        }
     }
-    Pending {
-        from: 1,
-        at: 0,
+    Side {
+        row: 0,
+        from: 0,
+        to: 0,
         left: 0,
     }
 }
 
-// Whether the walk may end at row a: it leads to row 0, and what is pending is all that is left and can be marked.
-fn ended(t: &[u32], a: u32, pending: Pending, marks: &mut [u64]) -> bool
-    requires { ⌜ a * 12 + 12 ≤ length (now t) ⌝ }
-    requires { ⌜ (pending .from ≤ pending .at) × (pending .at ≤ length (now marks) * 64) × (length (now marks) < 0x400_0000_0000_0000) ⌝ }
-    ensures { λ r. ⌜ Decides r (Ended (now (t .entry)) a (marksOf (now (marks .entry))) pending) ⌝ }
+// Marks what is pending, if it is all that is left.
+fn mark_rest(side: Side, left: usize, marks: &mut [u64]) -> bool
+    requires { ⌜ (side .from ≤ side .to) × (side .to ≤ length (now marks) * 64) × (length (now marks) < 0x400_0000_0000_0000) ⌝ }
+    ensures { λ r. ⌜ Marked r (marksOf (now (marks .entry))) (pendingSize side ≡ left) (indicator (side .from) (side .to)) (marksOf (now (marks .exit))) ⌝ }
 {
-    if pending.at - pending.from != pending.left {
+    let size = side.to - side.from;
+    if size != left {
         return false;
     }
-    if edge(t, a, 0) {
-        return mark_pending(pending, marks);
+    bit_marks::mark_range(marks, side.from, size)
+}
+
+// Whether the walk may end: the two sides meet, and what is pending is all that is left and can be marked.
+fn ended(t: &[u32], k: usize, near: Side, far: Side, marks: &mut [u64]) -> bool
+    requires { ⌜ (near .row * 12 + 12 ≤ length (now t)) × (far .row * 12 + 12 ≤ length (now t)) × (k ≤ 5) ⌝ }
+    requires { ⌜ (near .from ≤ near .to) × (near .to ≤ length (now marks) * 64) × (length (now marks) < 0x400_0000_0000_0000) ⌝ }
+    requires { ⌜ (far .from ≤ far .to) × (far .to ≤ length (now marks) * 64) ⌝ }
+    ensures { λ r. ⌜ Decides r (Ended (now (t .entry)) k (marksOf (now (marks .entry))) near far) ⌝ }
+{
+    if edge(t, k, near.row, far.row) {
+        if mark_pending(near, marks) {
+            return mark_rest(far, near.left - (near.to - near.from), marks);
+        }
     }
     false
 }
 
-// Whether a walk of n steps along the list comes back to row 0 and holds each byte of the source once. The marks are clear.
+// Whether a walk of n steps along the list, from both of its ends by turns, holds each byte of the source once. The marks are clear.
+// The reads of one side need not wait for those of the other.
 fn walk(source: &[u8], t: &[u32], n: u32, marks: &mut [u64]) -> bool
     requires { ⌜ (isText (now source) ≡ true) × (0 < length (now source)) ⌝ }
     requires { ⌜ n * 12 + 12 ≤ length (now t) ⌝ }
@@ -153,25 +195,37 @@ fn walk(source: &[u8], t: &[u32], n: u32, marks: &mut [u64]) -> bool
     requires { ⌜ ((b : ℕ) → getD (marksOf (now marks)) b 0 ≡ 0) ⌝ }
     ensures { λ r. ⌜ Decides r (Listed (now (source .entry)) (now (t .entry)) n) ⌝ }
 {
-    let mut pending = Pending {
+    let size = source.len();
+    let mut near = Side {
+        row: 0,
         from: 0,
-        at: 0,
-        left: source.len(),
+        to: 0,
+        left: size,
     };
-    let mut a = 0;
+    let mut far = Side {
+        row: 0,
+        from: size,
+        to: size,
+        left: size,
+    };
+    let mut word = NEXT;
     let mut k = 0;
     while k < n {
-        a = next_row(t, n, a);
-        if a == 0 {
+        let side = step(source, t, n, word, near, marks);
+        if side.row == 0 {
             return false;
         }
-        pending = pass(source, t, a, pending, marks);
-        if pending.from > pending.at {
-            return false;
-        }
+        near = Side {
+            row: far.row,
+            from: far.from,
+            to: far.to,
+            left: side.left,
+        };
+        far = side;
+        word = 5 - word;
         k += 1;
     }
-    ended(t, a, pending, marks)
+    ended(t, word, near, far, marks)
 }
 
 // The same with marks of its own.
@@ -208,8 +262,8 @@ fn alone(t: &[u32], n: u32) -> bool
     ensures { λ r. ⌜ Decides r (Alone (now (t .entry)) n) ⌝ }
 {
     if span_empty(t, n) {
-        if edge(t, 0, 1) {
-            return edge(t, 1, 0);
+        if edge(t, NEXT, 0, 1) {
+            return edge(t, NEXT, 1, 0);
         }
     }
     false

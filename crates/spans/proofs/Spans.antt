@@ -19,6 +19,9 @@ indicator-join a b e x h k =
       ]
     ]
 
+pub indicator-none : (a x : ℕ) → indicator a a x ≡ 0
+indicator-none a x = elim (decLt x a) [ yes h ↦ indicator-before a a x h | no h ↦ indicator-after a a x (omega arith) ]
+
 pub sum-ones-is : (n : ℕ) → sum-to (λ k. 1) n ≡ n
 sum-ones-is zero = refl
 sum-ones-is (suc n) = omega (arith, sum-ones-is n)

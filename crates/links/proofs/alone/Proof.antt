@@ -9,10 +9,10 @@ span-empty-requires : tie.Need-span-empty-requires
 span-empty-requires c κs = search needs
 
 edge-requires : tie.Need-edge-requires
-edge-requires c κs = let e = c .before .span-empty .ensures .yes (c .if1 .taken) .single in (omega arith, omega arith)
+edge-requires c κs = let e = c .before .span-empty .ensures .yes (c .if1 .taken) .single in (omega arith, omega arith, omega arith)
 
 edge-requires-2 : tie.Need-edge-requires-2
-edge-requires-2 c κs = let e = c .before .before .before .span-empty .ensures .yes (c .before .before .if1 .taken) .single in (omega arith, omega arith)
+edge-requires-2 c κs = let e = c .before .before .before .span-empty .ensures .yes (c .before .before .if1 .taken) .single in (omega arith, omega arith, omega arith)
 
 returns : tie.Need-returns
 returns c =

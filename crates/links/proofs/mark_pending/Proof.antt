@@ -20,9 +20,9 @@ same-length c = search needs
 
 returns-2 : tie.Need-returns-2
 returns-2 c =
-    let size = c .before .before .before .before in
-    let start = size .before .before .before .before in
-    pending-marked _ _ refl (start .pre .0) (start .pre .1) (size .if1 .left) (c .before .before .mark-range .ensures)
+    let tested = c .before .before .before .before in
+    let start = tested .before .before .before .before in
+    pending-marked _ _ (tested .if1 .left) refl (start .pre .0) (start .pre .1) (c .before .before .mark-range .ensures)
 
 pub mark-pending-spec : {M : Type 1} → statement M
 mark-pending-spec =

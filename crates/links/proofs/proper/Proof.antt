@@ -1,6 +1,6 @@
 use native.Mathlib.Omega.{arith}
 use Rattle.counts.specs.Sums.{is-no}
-use Rattle.links.proofs.Tests.{stands, stands-not, stands-at, proper-told}
+use Rattle.links.proofs.Tests.{stands, stands-not, stands-at, proper-end, proper-start}
 use borrow.Author.Needs.{needs}
 use Rattle.links.proofs.proper.Statement.{statement}
 use Rattle.links.proofs.proper.Tie as tie
@@ -25,27 +25,38 @@ returns-3 c =
     let end = c .before .before .before .before in
     let start = end .before in
     let entry = start .before .before .before in
-    proper-told (start .start .ensures) (end .end .ensures) (c .before .before .before .if1 .left) (c .before .before .if2 .left)
-    (stands-at (entry .args .source .now) (start .start .ensures) (c .before .if3 .taken) (entry .pre .0 .1)) (c .boundary .ensures)
+    proper-end (start .start .ensures) (end .end .ensures) (c .before .before .before .if1 .left) (c .before .before .if2 .left)
+    (stands-at (entry .args .source .now) (start .start .ensures) (c .before .if3 .taken) (entry .pre .1 .end)) (c .boundary .ensures)
 
 boundary-requires-2 : tie.Need-boundary-requires-2
 boundary-requires-2 c κs = search needs
 
+returns-4 : tie.Need-returns-4
+returns-4 c =
+    let end = c .before .before .before .before .before in
+    let start = end .before in
+    let entry = start .before .before .before in
+    proper-start (start .start .ensures) (end .end .ensures) (c .before .before .before .before .if1 .left) (c .before .before .before .if2 .left)
+    (stands-at (entry .args .source .now) (end .end .ensures) (c .before .if4 .taken) (entry .pre .1 .start)) (c .boundary2 .ensures)
+
 boundary-requires-3 : tie.Need-boundary-requires-3
 boundary-requires-3 c κs = search needs
 
-returns-4 : tie.Need-returns-4
-returns-4 c =
-    let end = c .before .before .before .before .before .before in
-    let start = end .before in
-    let source = start .before .before .before .args .source .now in
-    proper-told (start .start .ensures) (end .end .ensures) (c .before .before .before .before .before .if1 .left) (c .before .before .before .before .if2 .left)
-    (stands source (start .start .ensures) (c .before .before .boundary2 .ensures) (c .before .if4 .taken)) (c .boundary3 .ensures)
+boundary-requires-4 : tie.Need-boundary-requires-4
+boundary-requires-4 c κs = search needs
 
 returns-5 : tie.Need-returns-5
 returns-5 c =
-    let start = c .before .before .before .before .before .before in
-    is-no (λ p. stands-not (start .before .before .before .args .source .now) (start .start .ensures) (c .before .boundary2 .ensures) (c .if4 .left) (p .edged .start))
+    let end = c .before .before .before .before .before .before .before in
+    let start = end .before in
+    let source = start .before .before .before .args .source .now in
+    proper-end (start .start .ensures) (end .end .ensures) (c .before .before .before .before .before .before .if1 .left) (c .before .before .before .before .before .if2 .left)
+    (stands source (start .start .ensures) (c .before .before .boundary3 .ensures) (c .before .if5 .taken)) (c .boundary4 .ensures)
+
+returns-6 : tie.Need-returns-6
+returns-6 c =
+    let start = c .before .before .before .before .before .before .before in
+    is-no (λ p. stands-not (start .before .before .before .args .source .now) (start .start .ensures) (c .before .boundary3 .ensures) (c .if5 .left) (p .edged .start))
 
 pub proper-spec : {M : Type 1} → statement M
 proper-spec =
@@ -58,6 +69,8 @@ proper-spec =
     boundary-requires
     returns-3
     boundary-requires-2
-    boundary-requires-3
     returns-4
-    returns-5)
+    boundary-requires-3
+    boundary-requires-4
+    returns-5
+    returns-6)
