@@ -13,11 +13,11 @@ fn joined(source: &[u8], t: &[u32], n: u32, i: u32, e: usize) -> bool
     requires { ⌜ (n * 12 + 12 ≤ length (now t)) × (i ≤ n) ⌝ }
     ensures { λ r. ⌜ (r ≡ true → Joined (now (source .entry)) (now (t .entry)) n i e) ⌝ }
 {
-    let x = spans::next(t, i);
+    let x = spans::word(t, i, spans::NEXT);
     if x > n {
         return false;
     }
-    if spans::prev(t, x) != i {
+    if spans::word(t, x, spans::PREV) != i {
         return false;
     }
     if x == 0 {

@@ -1,8 +1,8 @@
 -- A list that holds each byte of the source once is one whose spans cover it.
-use mathlib.Core.Path.{_≡_, refl, ap, sym, _∙_}
+use mathlib.Core.Path.{_≡_, refl, sym, _∙_}
 use mathlib.Core.Bool.{Bool, true}
 use mathlib.Core.List.{List, [], _∷_}
-use Prim.Native.Nat.{ℕ, _+_, _-_, _≤_, _<_}
+use Prim.Native.Nat.{ℕ, _+_, _-_, _<_}
 use native.Mathlib.Omega.{arith}
 use native.Mathlib.Decide.{decLt}
 use lib.ListN.{length}
@@ -68,10 +68,10 @@ module _ {source t : List ℕ} {n : ℕ} (pos : 0 < length source) where
           once = λ b. elim (decLt b (length source)) [
             | yes h ↦ omega (arith, once b h)
             | no h ↦ omega (
-                arith,
-                sum-once o (λ i. holds t i b),
-                sum-zero (λ k. indicator (startsOf t k) (endsOf t k) b) n (λ k g. indicator-after (startsOf t k) (endsOf t k) b (omega (arith, d .inside k g))),
-              )
+              arith,
+              sum-once o (λ i. holds t i b),
+              sum-zero (λ k. indicator (startsOf t k) (endsOf t k) b) n (λ k g. indicator-after (startsOf t k) (endsOf t k) b (omega (arith, d .inside k g))),
+            )
           ];
           size = omega (arith, sizes proper, sum-same (λ b. sum (λ x. holds t x b) xs) (λ b. 1) (length source) once, sum-ones-is (length source));
         };

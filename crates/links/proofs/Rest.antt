@@ -18,7 +18,7 @@ use Rattle.counts.specs.Once.{In}
 use Rattle.spans.specs.Spans.{startOf, endOf}
 use Rattle.spans.proofs.Spans.{indicator-none}
 use Rattle.links.specs.declared.Side.{Side}
-use Rattle.links.specs.Walk.{leads, Joint, Behind, Proper, held, pendingSize, Fits, Sound, Stepped, Ended}
+use Rattle.links.specs.Walk.{leads, Joint, Behind, Proper, held, pendingSize, Sound, Stepped, Ended}
 use Rattle.links.proofs.Flip.{flip-links, flip-each, flip-sum}
 
 -- 1 if byte b is in the span of row i, else 0; how many bytes it has

@@ -4,7 +4,7 @@ use mathlib.Core.Bool.{Bool, true, false}
 use mathlib.Core.List.{List}
 use Prim.Native.Nat.{ℕ, _+_, _-_, _*_, _≤_, _<_}
 use native.Mathlib.Omega.{arith}
-use lib.ListN.{length, getD}
+use lib.ListN.{length}
 use Rattle.memory.specs.WellFormed.{among}
 use Rattle.counts.specs.Counts.{Decides, indicator}
 use Rattle.spans.specs.Spans.{startOf, endOf}

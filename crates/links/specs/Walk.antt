@@ -1,10 +1,8 @@
 -- A walk along the chunk list from both of its ends: what a step promises. Spans that follow one another are pending until one does not; then their bytes are marked at once.
 use mathlib.Core.Path.{_≡_}
-use mathlib.Core.Bool.{true}
 use mathlib.Core.List.{List}
 use Prim.Native.Nat.{ℕ, _+_, _-_, _*_, _≤_, _<_}
 use lib.ListN.{length, getD}
-use Rattle.utf8.specs.Rfc3629.{between}
 use Rattle.table.specs.Ring.{Edge, Ring}
 use Rattle.table.specs.Order.{nextOf, prevOf}
 use Rattle.counts.specs.Counts.{indicator}

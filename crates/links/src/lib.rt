@@ -8,28 +8,17 @@ ghost use Rattle.counts.specs.Counts.{Decides, indicator};
 ghost use Rattle.spans.specs.Spans.{Edged, Empty, Listed};
 ghost use Rattle.marks.specs.Marks.{Marked};
 ghost use Rattle.bit_marks.specs.BitMarks.{marksOf};
-ghost use Rattle.links.specs.Walk.{leads, Joint, Found, Proper, pendingSize, Sound, Turned, Stepped, Ended, Alone};
+ghost use Rattle.links.specs.Walk.{Joint, Found, Proper, pendingSize, Sound, Turned, Stepped, Ended, Alone};
 
-// The words of a row that lead to the next row and to the one before. The other one of word k is word 5 - k.
-const NEXT: usize = 2;
-
-// Word k of row i.
-fn word(t: &[u32], i: u32, k: usize) -> u32
-    requires { ⌜ (i * 12 + 12 ≤ length (now t)) × (k < 12) ⌝ }
-    ensures { λ r. ⌜ r ≡ leads (now (t .entry)) k i ⌝ }
-{
-    t[i as usize * 12 + k]
-}
-
-// Whether word k of row a leads to row b, and the other word of b back to a.
+// Whether word k of row a leads to row b, and the other word of b back to a. Words 2 and 3 lead to the next row and to the one before: the other one of word k is word 5 - k.
 fn edge(t: &[u32], k: usize, a: u32, b: u32) -> bool
     requires { ⌜ (a * 12 + 12 ≤ length (now t)) × (b * 12 + 12 ≤ length (now t)) × (k ≤ 5) ⌝ }
     ensures { λ r. ⌜ Decides r (Joint (now (t .entry)) k a b) ⌝ }
 {
-    if word(t, a, k) != b {
+    if spans::word(t, a, k) != b {
         return false;
     }
-    if word(t, b, 5 - k) != a {
+    if spans::word(t, b, 5 - k) != a {
         return false;
     }
     true
@@ -40,20 +29,21 @@ fn linked_row(t: &[u32], n: u32, k: usize, a: u32) -> u32
     requires { ⌜ (n * 12 + 12 ≤ length (now t)) × (a ≤ n) × (k ≤ 5) ⌝ }
     ensures { λ r. ⌜ Found (now (t .entry)) n k a r ⌝ }
 {
-    let x = word(t, a, k);
+    let x = spans::word(t, a, k);
     if x == 0 {
         return 0;
     }
     if x > n {
         return 0;
     }
-    if word(t, x, 5 - k) != a {
+    if spans::word(t, x, 5 - k) != a {
         return 0;
     }
     x
 }
 
-// Whether the span of row i is not empty, ends inside the source, and both its ends stand between characters. As `from` and `to` do, they are not tested anew.
+// Whether the span of row i is not empty, ends inside the source, and both its ends stand between characters.
+// `from` and `to` stand there, so an end that is one of them is not tested anew.
 fn proper(source: &[u8], t: &[u32], i: u32, from: usize, to: usize) -> bool
     requires { ⌜ (isText (now source) ≡ true) × (i * 12 + 12 ≤ length (now t)) ⌝ }
     requires { ⌜ Edged (now source) from to ⌝ }
@@ -79,8 +69,8 @@ fn proper(source: &[u8], t: &[u32], i: u32, from: usize, to: usize) -> bool
     false
 }
 
-// One side of the walk: the row that it has come to; the spans from `from` up to `to`, which it passed and whose bytes are not marked yet;
-// and how many bytes of the source are not marked.
+// One side of the walk: the row that it has come to; what is pending, the spans from `from` up to `to` that it passed and whose bytes are not marked yet;
+// and, on the side whose turn it is, how many bytes of the source are not marked.
 struct Side {
     row: u32,
     from: usize,
@@ -186,7 +176,7 @@ fn ended(t: &[u32], k: usize, near: Side, far: Side, marks: &mut [u64]) -> bool
     false
 }
 
-// Whether a walk of n steps along the list, from both of its ends by turns, holds each byte of the source once. The marks are clear.
+// Whether n steps along the list, from both of its ends by turns, pass spans that hold each byte of the source once, and the two sides meet. The marks are clear.
 // The reads of one side need not wait for those of the other.
 fn walk(source: &[u8], t: &[u32], n: u32, marks: &mut [u64]) -> bool
     requires { ⌜ (isText (now source) ≡ true) × (0 < length (now source)) ⌝ }
@@ -208,7 +198,7 @@ fn walk(source: &[u8], t: &[u32], n: u32, marks: &mut [u64]) -> bool
         to: size,
         left: size,
     };
-    let mut word = NEXT;
+    let mut word = spans::NEXT;
     let mut k = 0;
     while k < n {
         let side = step(source, t, n, word, near, marks);
@@ -262,8 +252,8 @@ fn alone(t: &[u32], n: u32) -> bool
     ensures { λ r. ⌜ Decides r (Alone (now (t .entry)) n) ⌝ }
 {
     if span_empty(t, n) {
-        if edge(t, NEXT, 0, 1) {
-            return edge(t, NEXT, 1, 0);
+        if edge(t, spans::NEXT, 0, 1) {
+            return edge(t, spans::NEXT, 1, 0);
         }
     }
     false

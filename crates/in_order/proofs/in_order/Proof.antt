@@ -20,7 +20,9 @@ joined-requires : tie.Need-joined-requires Inv-loop μ-loop
 joined-requires c κs = search needs
 
 returns : tie.Need-returns Inv-loop μ-loop
-returns c = λ e. passed-all (c .before .before .before .loop .inv) (c .before .before .joined .ensures (c .before .if1 .taken)) (c .if2 .taken) (c .before .before .before .before .before .before .pre .1 .0)
+returns c = λ e.
+    let loop = c .before .before .before in
+    passed-all (loop .loop .inv) (c .before .before .joined .ensures (c .before .if1 .taken)) (c .if2 .taken) (loop .before .before .before .pre .1 .0)
 
 add-i : tie.Need-add-i Inv-loop μ-loop
 add-i c = search needs
@@ -41,7 +43,8 @@ loop-again : tie.Need-loop-again Inv-loop μ-loop
 loop-again c =
     let read = c .before in
     let test = read .before .before in
-    passed-more (test .before .before .before .loop .inv) (test .before .before .joined .ensures (test .before .if1 .taken)) (test .if2 .left) (read .before .end .ensures) (read .start .ensures) (omega arith)
+    passed-more (test .before .before .before .loop .inv) (test .before .before .joined .ensures (test .before .if1 .taken)) (test .if2 .left)
+    (read .before .end .ensures) (read .start .ensures) (omega arith)
 
 returns-3 : tie.Need-returns-3 Inv-loop μ-loop
 returns-3 c = λ e. not-both e

@@ -7,14 +7,14 @@ use Rattle.in_order.proofs.Row.{joined-last, joined-on}
 use Rattle.in_order.proofs.joined.Statement.{statement}
 use Rattle.in_order.proofs.joined.Tie as tie
 
-next-requires : tie.Need-next-requires
-next-requires c κs = search needs
+word-requires : tie.Need-word-requires
+word-requires c κs = search needs
 
 returns : tie.Need-returns
 returns c = λ e. not-both e
 
-prev-requires : tie.Need-prev-requires
-prev-requires c κs = search needs
+word-requires-2 : tie.Need-word-requires-2
+word-requires-2 c κs = search needs
 
 returns-2 : tie.Need-returns-2
 returns-2 c = λ e. not-both e
@@ -22,7 +22,7 @@ returns-2 c = λ e. not-both e
 returns-3 : tie.Need-returns-3
 returns-3 c = λ e.
     let start = c .before .before .before .before .before .before .before in
-    joined-last (c .before .before .before .before .next .ensures) (c .before .before .before .if1 .left) (c .before .before .prev .ensures) (c .before .if2 .left)
+    joined-last (c .before .before .before .before .word .ensures) (c .before .before .before .if1 .left) (c .before .before .word2 .ensures) (c .before .if2 .left)
     (start .pre .0) (c .if3 .taken) (eqb-true (start .args .e) (length (start .args .source .now)) e)
 
 start-requires : tie.Need-start-requires
@@ -41,16 +41,16 @@ returns-6 : tie.Need-returns-6
 returns-6 c =
     let tested = c .before in
     let linked = c .before .before .before .before in
-    joined-on (linked .before .before .before .before .next .ensures) (linked .before .before .before .if1 .left) (linked .before .before .prev .ensures) (linked .before .if2 .left)
+    joined-on (linked .before .before .before .before .word .ensures) (linked .before .before .before .if1 .left) (linked .before .before .word2 .ensures) (linked .before .if2 .left)
     (linked .if3 .left) (tested .before .before .start .ensures) (tested .before .if4 .left) (omega arith) (c .boundary .ensures)
 
 pub joined-spec : {M : Type 1} → statement M
 joined-spec =
     tie.close
     (tie.spec
-    next-requires
+    word-requires
     returns
-    prev-requires
+    word-requires-2
     returns-2
     returns-3
     start-requires

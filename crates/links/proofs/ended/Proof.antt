@@ -1,4 +1,4 @@
-use mathlib.Core.Path.{refl, _∙_}
+use mathlib.Core.Path.{refl}
 use native.Mathlib.Omega.{arith}
 use Rattle.counts.specs.Sums.{is-no}
 use Rattle.links.proofs.Stretches.{ended-not, ended-by}

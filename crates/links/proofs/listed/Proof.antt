@@ -1,4 +1,3 @@
-use native.Mathlib.Omega.{arith}
 use Rattle.counts.specs.Sums.{is-yes}
 use Rattle.links.proofs.Listing.{alone-decided}
 use borrow.Author.Needs.{needs}

@@ -38,7 +38,8 @@ returns c =
     let read = turned .before .before in
     let tested = read .before .before in
     let found = tested .before .before .before in
-    step-on (found .linked-row .ensures) (tested .before .before .if1 .taken) (tested .before .proper .ensures) (tested .if2 .taken) (read .before .start .ensures) (read .end .ensures) (turned .turn .ensures)
+    step-on (found .linked-row .ensures) (tested .before .before .if1 .taken) (tested .before .proper .ensures) (tested .if2 .taken)
+    (read .before .start .ensures) (read .end .ensures) (turned .turn .ensures)
 
 returns-2 : tie.Need-returns-2
 returns-2 c = step-not (c .before .before .before .linked-row .ensures) (c .before .before .if1 .taken) (c .before .proper .ensures) (c .if2 .left)

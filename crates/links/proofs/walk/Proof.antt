@@ -50,8 +50,7 @@ loop-less c = search needs
 loop-again : tie.Need-loop-again Inv-loop μ-loop
 loop-again c =
     let stepped = c .before .before .before .before in
-    let loop = stepped .before .before .before in
-    (
+    let loop = stepped .before .before .before in (
       omega arith,
       stepped .step .kept .1 .1 .1 .1 .1 .0 ∙ loop .loop .inv .1,
       walking-more (loop .loop .inv .2) (stepped .before .before .loop-test .taken) (stepped .step .ensures) (c .if1 .left) _ refl,
@@ -61,8 +60,7 @@ ended-requires : tie.Need-ended-requires Inv-loop μ-loop
 ended-requires c κs =
     let walking = c .before .before .loop .inv .2 in
     let near = walking .near-sound in
-    let far = walking .far-sound in
-    (
+    let far = walking .far-sound in (
       (omega (arith, walking .near-row), omega (arith, walking .far-row), walking .word),
       ((near .started, omega (arith, near .inside), omega arith), (far .started, omega (arith, far .inside))),
     )
