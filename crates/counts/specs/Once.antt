@@ -114,7 +114,7 @@ pigeon n xs l a d =
 
 -- ── the members of a ring ──
 module _ (nx pv : ℕ → ℕ) where
-  twice : (n i : ℕ) (xs : List ℕ) → Links (Edge nx pv) i xs 0 → Each (In n) xs → (j : ℕ) → times j xs ≤ 1
+  pub twice : (n i : ℕ) (xs : List ℕ) → Links (Edge nx pv) i xs 0 → Each (In n) xs → (j : ℕ) → times j xs ≤ 1
   twice n i [] l p j = omega (arith, times-nil j)
   twice n i (x ∷ xs) l p j =
       elim (ℕ-discrete x j) [

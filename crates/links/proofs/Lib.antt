@@ -1,1 +1,5 @@
-mod Ring
+mod Tests
+mod Stretches
+mod Flip
+mod Rest
+mod Listing

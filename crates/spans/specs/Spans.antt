@@ -3,10 +3,12 @@ use mathlib.Core.Path.{_≡_}
 use mathlib.Core.Bool.{true}
 use mathlib.Core.List.{List}
 use Prim.Native.Nat.{ℕ, _+_, _≤_, _<_}
-use lib.ListN.{length, getD}
+use lib.ListN.{length}
 use Rattle.table.specs.Table.{rowAt}
+use Rattle.table.specs.Ring.{Ring}
+use Rattle.table.specs.Order.{nextOf, prevOf}
 use Rattle.utf8.specs.Rfc3629.{between}
-use Rattle.counts.specs.Counts.{one, indicator, sum-to}
+use Rattle.counts.specs.Counts.{indicator, sum-to}
 
 -- the span of row i
 abbrev pub startOf : List ℕ → ℕ → ℕ
@@ -39,13 +41,6 @@ pub record Spans (t : List ℕ) (n len : ℕ) : Type 0 where
   pub empty : len ≡ 0 → Empty t n
   pub full : 0 < len → Tiled (startsOf t) (endsOf t) n len
 
--- between the two halves of the check: the marks say where spans start, and there is one at the source's end
-pub record Begun (s e : ℕ → ℕ) (n len : ℕ) (m : List ℕ) : Type 0 where
-  pub same : length m ≡ len + 1
-  pub filled : (k : ℕ) → k < n → s k < e k
-  pub inside : (k : ℕ) → k < n → e k ≤ len
-  pub marks : (p : ℕ) → getD m p 0 ≡ one len p + sum-to (λ k. one (s k) p) n
-
 -- both ends of a span stand between characters; those of the spans of rows 1 to n do
 pub record Edged (source : List ℕ) (a e : ℕ) : Type 0 where
   pub start : between source a ≡ true
@@ -53,3 +48,9 @@ pub record Edged (source : List ℕ) (a e : ℕ) : Type 0 where
 
 abbrev pub Edges : List ℕ → List ℕ → ℕ → Type 0
 Edges source t n = (k : ℕ) → k < n → Edged source (startsOf t k) (endsOf t k)
+
+-- the chunks 1 to n stand in one list, linked both ways, and their spans cover the source, with ends between characters
+pub record Listed (source t : List ℕ) (n : ℕ) : Type 0 where
+  pub ring : Ring (nextOf t) (prevOf t) n
+  pub spans : Spans t n (length source)
+  pub edges : Edges source t n

@@ -10,7 +10,7 @@ use Rattle.table.specs.Order.{entryAt, countOf, Linked}
 use Rattle.memory.specs.WellFormed.{Full, WellFormed, Taken}
 use Rattle.counts.specs.Counts.{Decides}
 use Rattle.counts.specs.Sums.{is-yes, is-no, decides-by}
-use Rattle.spans.specs.Spans.{Spans, Edges}
+use Rattle.spans.specs.Spans.{Listed}
 use Rattle.memory_used.specs.declared.Used.{Used}
 use Rattle.memory_used.specs.Above.{Above}
 use Rattle.memory_used.proofs.Below.{run-below, entry-below}
@@ -25,8 +25,10 @@ use Rattle.well_formed.specs.Rows.{Shaped, Chunked, Pieced}
 use Rattle.well_formed.specs.Bridge.{count-is, rows-formed, formed-rows}
 
 -- n is the count that was read
-pub chunked-yes : {q : Bool} (source t : List ℕ) (n : ℕ) → n ≡ countOf t → Linked t → Spans t n (length source) → Decides q (Edges source t n) → Decides q (Chunked source t)
-chunked-yes source t n e l x d = decides-by (λ y. record { linked = l; spans = rw e at x; edges = rw e at y }) (λ c. rw e (c .edges)) d
+pub chunked-by : {q : Bool} (source t : List ℕ) (n : ℕ) → n ≡ countOf t → n * 12 + 12 ≤ length t → Decides q (Listed source t n) → Decides q (Chunked source t)
+chunked-by source t n e h d =
+    decides-by (λ l. record { linked = record { ring = rw e at (l .ring); room = omega arith }; spans = rw e at (l .spans); edges = rw e at (l .edges) })
+    (λ c. record { ring = rw e (c .linked .ring); spans = rw e (c .spans); edges = rw e (c .edges) }) d
 
 -- ── what is seen ──
 module _ (t p s : List ℕ) where

@@ -82,13 +82,14 @@ fn chunked(source: &[u8], chunks: &[u32]) -> bool
     requires { ⌜ length (now source) ≤ 16384 ⌝ }
     ensures { λ r. ⌜ Decides r (Chunked (now (source .entry)) (now (chunks .entry))) ⌝ }
 {
-    if links::linked(chunks) {
-        let n = count(chunks);
-        if spans::covered(chunks, n, source.len()) {
-            return edges::ends_between(source, chunks, n);
-        }
+    if chunks.len() < 12 {
+        return false;
     }
-    false
+    let n = count(chunks);
+    if chunks.len() < n as usize * 12 + 12 {
+        return false;
+    }
+    links::listed(source, chunks, n)
 }
 
 // Whether runs and texts lie inside the tables and apart, are not too many and are UTF-8; and what they use.

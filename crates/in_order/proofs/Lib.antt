@@ -1,0 +1,3 @@
+mod Row
+mod Chain
+mod Passed

@@ -1,0 +1,56 @@
+// Whether the chunks, in the order of their list, follow one another in the source: then list, spans and ends are told at once, row by row and without marks.
+ghost use mathlib.Core.Path.{_≡_};
+ghost use mathlib.Core.Bool.{true};
+ghost use Prim.Native.Nat.{_+_, _*_, _≤_, _<_};
+ghost use lib.ListN.{length};
+ghost use Rattle.utf8.specs.Rfc3629.{utf8 as isText};
+ghost use Rattle.spans.specs.Spans.{Listed};
+ghost use Rattle.in_order.specs.Joined.{Joined};
+
+// Whether the chunk behind row i in the list is linked back to it and starts at e, between characters. If there is none, e is the source's end.
+fn joined(source: &[u8], t: &[u32], n: u32, i: u32, e: usize) -> bool
+    requires { ⌜ isText (now source) ≡ true ⌝ }
+    requires { ⌜ (n * 12 + 12 ≤ length (now t)) × (i ≤ n) ⌝ }
+    ensures { λ r. ⌜ (r ≡ true → Joined (now (source .entry)) (now (t .entry)) n i e) ⌝ }
+{
+    let x = spans::word(t, i, spans::NEXT);
+    if x > n {
+        return false;
+    }
+    if spans::word(t, x, spans::PREV) != i {
+        return false;
+    }
+    if x == 0 {
+        return e == source.len();
+    }
+    if spans::start(t, x) != e {
+        return false;
+    }
+    if e >= source.len() {
+        return false;
+    }
+    utf8::boundary(source, e)
+}
+
+// Whether the chunks 1 to n stand in one list and their spans in its order: the first starts at 0, each where the one before ends, and the last ends at the source's end.
+// The rows are taken in the order of their numbers. As spans are not empty, no row can be outside the list.
+pub fn in_order(source: &[u8], t: &[u32], n: u32) -> bool
+    requires { ⌜ isText (now source) ≡ true ⌝ }
+    requires { ⌜ 0 < length (now source) ⌝ }
+    requires { ⌜ n * 12 + 12 ≤ length (now t) ⌝ }
+    ensures { λ r. ⌜ (r ≡ true → Listed (now (source .entry)) (now (t .entry)) n) ⌝ }
+{
+    let mut i = 0;
+    let mut e = 0;
+    while joined(source, t, n, i, e) {
+        if i == n {
+            return true;
+        }
+        i += 1;
+        e = spans::end(t, i);
+        if spans::start(t, i) >= e {
+            return false;
+        }
+    }
+    false
+}
