@@ -1,6 +1,8 @@
 //! Compares a core (the exported functions, or a stand-in) with the oracle: call
-//! by call on random scripts, and image by image on damaged memory.
+//! by call on random scripts, and image by image on damaged memory; and the orders
+//! of lists of edits with each other.
 
+pub mod any_order;
 pub mod compare;
 pub mod cores;
 pub mod damage;

@@ -26,6 +26,11 @@ impl Out {
     &mut self.bytes[self.ahead..][..self.room]
   }
 
+  /// The buffer, and the bytes before and behind it.
+  pub fn all(&self) -> &[u8] {
+    &self.bytes
+  }
+
   /// The buffer begins with these bytes, and nothing else was written.
   pub fn check(&self, written: &[u8]) -> Result<(), String> {
     let (ahead, rest) = self.bytes.split_at(self.ahead);

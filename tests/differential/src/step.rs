@@ -161,7 +161,7 @@ fn check_answer(answer: Answer, expected: &Expected) -> Result<(), String> {
 }
 
 /// The length of the lent buffer: the call's, or any that is long enough.
-fn room(call: &Call, expected: &Expected, random: &mut Random) -> usize {
+pub fn room(call: &Call, expected: &Expected, random: &mut Random) -> usize {
   let longer = [0, 0, 1, 7, random.below(100), MOST_SOURCE + MOST_BYTES][random.below(6)];
   match call.clone().room_mut() {
     None => 0,

@@ -65,6 +65,18 @@ impl Call {
     }
   }
 
+  /// The same to be changed.
+  pub fn text_mut(&mut self) -> Option<&mut Vec<u8>> {
+    use Call::*;
+    match self {
+      UpdateWith { text, .. } | Append { text } | Prepend { text } => Some(text),
+      AppendLeft { text, .. } | AppendRight { text, .. } => Some(text),
+      PrependLeft { text, .. } | PrependRight { text, .. } => Some(text),
+      IndentWith { indentor, .. } => indentor.as_mut(),
+      _ => None,
+    }
+  }
+
   /// The positions that must not lie inside a character: all but those of the
   /// range report.
   pub fn positions(&self) -> Vec<u32> {

@@ -7,6 +7,7 @@ mod places;
 
 pub use decode::decode;
 pub use encode::{Style, encode, encode_in};
+pub use places::shuffle;
 
 use oracle::random::Random;
 

@@ -27,6 +27,12 @@ impl Caller {
     self.made(call)
   }
 
+  /// A call on the desk, no opening.
+  pub fn call_on_desk(&mut self) -> Made {
+    let call = self.any_on_desk();
+    self.made(call)
+  }
+
   /// Makes the call on the oracle's side.
   pub(super) fn made(&mut self, call: Call) -> Made {
     apply(&mut self.desk, &call);
@@ -39,7 +45,18 @@ impl Caller {
   fn any(&mut self) -> Call {
     match self.random.below(200) {
       0 => Call::Open { source: self.source() },
-      1..=7 => self.replace_chunk(),
+      choice => self.on_desk(choice),
+    }
+  }
+
+  fn any_on_desk(&mut self) -> Call {
+    let choice = self.random.between(1, 199);
+    self.on_desk(choice)
+  }
+
+  fn on_desk(&mut self, choice: usize) -> Call {
+    match choice {
+      0..=7 => self.replace_chunk(),
       8..=109 => self.edit(),
       110..=134 => self.trim_or_indent(),
       135..=164 => self.filling(),

@@ -1,0 +1,248 @@
+//! Random desks and lists of edits that pass the checks, or fail one of them alone.
+
+use oracle::{Call, Desk, DeskData, Limits, apply, random::Random};
+
+use super::{
+  Later, Sitting,
+  orders::{ALL_UP_TO, orders},
+  premises::{CHECKS, Check, Premises, inserts},
+  sitting::Start,
+};
+use crate::{
+  Made,
+  layout::*,
+  made::{self, Aim, make},
+  papers::Caller,
+};
+
+/// A sitting of this seed: its list passes every check, or all but the one left
+/// out, which it fails. None where the seed gives no such list.
+pub fn sitting(left_out: Option<Check>, seed: u64) -> Option<Sitting> {
+  let random = &mut Random::new(seed);
+  let plan = Plan::any(left_out, random);
+  let desk = plan.start.desk();
+  let premises = Premises::on(&desk);
+  let mut list = list(&plan, &desk, &premises, left_out, random);
+  if plan.uses_up_bytes {
+    let left = premises.left(&list).bytes + plan.one_more as i64;
+    add_bytes(&mut list, left.try_into().ok()?, random)?;
+  }
+  let whole = !plan.exact || list.len() == plan.edits;
+  if !whole || list.is_empty() || !premises.failed(&list).iter().eq(&left_out) {
+    return None;
+  }
+  let later = later(&desk, &list, random);
+  let orders = orders(list.len(), random);
+  Some(Sitting { start: plan.start, list, orders, later, seed: random.number() })
+}
+
+/// What a list is to have.
+struct Plan {
+  start: Start,
+  edits: usize,
+  /// How many of the edits are insertions, where that matters.
+  insertions: Option<usize>,
+  /// Whether the list must have as many edits as planned.
+  exact: bool,
+  uses_up_bytes: bool,
+  /// One chunk, piece or byte more than there is space for.
+  one_more: usize,
+}
+
+const EMPTY_SOURCE: Check = *CHECKS.start();
+const NO_SPACE: Check = *CHECKS.end();
+
+impl Plan {
+  fn any(left_out: Option<Check>, random: &mut Random) -> Self {
+    match (left_out, random.below(20)) {
+      (Some(EMPTY_SOURCE), _) => Self::short(0, random),
+      (Some(NO_SPACE), _) => Self::space_used_up(1, random),
+      (Some(_), _) => Self::short(random.between(1, 6), random),
+      (None, 0..=13) => Self::short(random.between(1, 24), random),
+      (None, 14..=16) => Self::long(random),
+      (None, _) => Self::space_used_up(0, random),
+    }
+  }
+
+  fn short(source: usize, random: &mut Random) -> Self {
+    let edits = [1, 2, 2, 3, 3, ALL_UP_TO, ALL_UP_TO][random.below(7)];
+    Self::of(start(source, random), edits)
+  }
+
+  fn long(random: &mut Random) -> Self {
+    let edits = random.between(ALL_UP_TO + 1, 40);
+    Self::of(start(random.between(4 * edits, 600), random), edits)
+  }
+
+  fn of(start: Start, edits: usize) -> Self {
+    Self { start, edits, insertions: None, exact: false, uses_up_bytes: false, one_more: 0 }
+  }
+
+  /// Some of the limits are just reached by the reckoning, or passed by one.
+  fn space_used_up(one_more: usize, random: &mut Random) -> Self {
+    let edits = [1, 2, 2, 3, 3, 4, 4, 4, 9, 40, MOST_CHUNKS / 3][random.below(11)];
+    let insertions = [edits, random.between(0, edits)][random.below(2)];
+    let which = random.between(1, 7);
+    let aim = Aim { source: random.between(10, 300).max(8 * edits), ..Aim::small(random) };
+    let chunks = if which & 1 != 0 { MOST_CHUNKS - 3 * edits + one_more } else { aim.chunks };
+    let pieces = if which & 2 != 0 { MOST_PIECES - insertions + one_more } else { aim.pieces };
+    let bytes = if random.one_in(2) { random.below(MOST_BYTES) } else { aim.bytes };
+    let source = aim.source.max(5 * chunks).min(MOST_SOURCE);
+    let start = match which {
+      // A store that a list fills needs no desk made by hand.
+      4 if random.one_in(2) => start(source, random),
+      _ => Start::Made(make(Aim { source, chunks, pieces, bytes }, random)),
+    };
+    let (insertions, uses_up_bytes) = (Some(insertions), which & 4 != 0);
+    Self { start, edits, insertions, exact: true, uses_up_bytes, one_more }
+  }
+}
+
+/// A desk over a source of so many bytes: fresh, in use, or made by hand.
+fn start(source: usize, random: &mut Random) -> Start {
+  let kind = random.below(4);
+  if kind == 0 {
+    return Start::Made(make(Aim { source, ..Aim::small(random) }, random));
+  }
+  let source = made::text(source, random).into_bytes();
+  let fresh = Start::Opened { source: source.clone(), calls: Vec::new() };
+  if kind == 1 {
+    return fresh;
+  }
+  let mut caller = Caller::new(fresh.desk(), random.number());
+  let calls = (0..random.between(1, 8)).map(|_| caller.call_on_desk().call).collect::<Vec<_>>();
+  Start::Opened { source, calls: calls.into_iter().filter(Call::is_edit).collect() }
+}
+
+/// Random edits, of which those stay that fail no check beside the ones before
+/// them, or none but the one left out.
+fn list(
+  plan: &Plan,
+  desk: &DeskData,
+  premises: &Premises,
+  left_out: Option<Check>,
+  random: &mut Random,
+) -> Vec<Call> {
+  let boundary = |at: &usize| desk.source.is_char_boundary(*at);
+  let places: Vec<u32> = (0..=desk.source.len()).filter(boundary).map(|at| at as u32).collect();
+  let longest = if plan.edits > ALL_UP_TO { 2 } else { places.len() };
+  let mut edits = Edits { random, desk, places, longest };
+  let mut list: Vec<Call> = Vec::new();
+  for _ in 0..40 * plan.edits {
+    if list.len() == plan.edits {
+      break;
+    }
+    let call = edits.any();
+    let insertions = list.iter().filter(|call| inserts(call)).count();
+    let wanted = plan.insertions.is_none_or(|count| inserts(&call) == (insertions < count));
+    if wanted && premises.failed_by(&call, &list).iter().all(|&failed| Some(failed) == left_out) {
+      list.push(call);
+    }
+  }
+  list
+}
+
+/// Chooses edits on a desk, some of which fail a check by themselves.
+struct Edits<'a> {
+  random: &'a mut Random,
+  desk: &'a DeskData,
+  /// Between the characters of the source.
+  places: Vec<u32>,
+  /// How many characters a range has at most.
+  longest: usize,
+}
+
+impl Edits<'_> {
+  fn any(&mut self) -> Call {
+    let (start, end) = self.range();
+    let (at, text) = (self.place(), self.text());
+    match self.random.below(40) {
+      0 => Call::Trim { pattern: self.random.below(2) as u32 },
+      1 => Call::TrimLines,
+      2 => Call::IndentWith { indentor: Some(text), exclude: Vec::new() },
+      3..=7 => Call::Remove { start, end },
+      8..=14 => {
+        let overwrite = [0, 0, 0, 1, 1, u32::MAX][self.random.below(6)];
+        Call::UpdateWith { start, end, overwrite, text }
+      }
+      15..=18 => Call::Reset { start, end },
+      19..=22 => Call::AppendLeft { at, text },
+      23..=25 => Call::AppendRight { at, text },
+      26..=28 => Call::PrependLeft { at, text },
+      29..=32 => Call::PrependRight { at, text },
+      33 => Call::Append { text },
+      34 => Call::Prepend { text },
+      _ => self.relocate(),
+    }
+  }
+
+  /// A move to a place before or behind its range.
+  fn relocate(&mut self) -> Call {
+    let mut places = [self.place(), self.place(), self.place()];
+    places.sort();
+    let [low, middle, high] = places;
+    if self.random.one_in(2) {
+      Call::Relocate { start: low, end: middle, to: high }
+    } else {
+      Call::Relocate { start: middle, end: high, to: low }
+    }
+  }
+
+  /// An edge of a chunk, a place between characters, or rarely one past the end.
+  fn place(&mut self) -> u32 {
+    match self.random.below(30) {
+      0 => (self.desk.source.len() + self.random.between(1, 3)) as u32,
+      1..=10 => {
+        let chunk = &self.desk.chunks[self.random.below(self.desk.chunks.len())];
+        if self.random.one_in(2) { chunk.start } else { chunk.end }
+      }
+      _ => self.places[self.random.below(self.places.len())],
+    }
+  }
+
+  /// From a place on so many characters as a range has at most; rarely of no
+  /// width.
+  fn range(&mut self) -> (u32, u32) {
+    let start = self.place();
+    let from = self.places.partition_point(|&place| place < start);
+    let count = if self.random.one_in(20) { 0 } else { self.random.between(1, self.longest) };
+    (start, self.places.get(from + count).copied().unwrap_or(self.desk.source.len() as u32))
+  }
+
+  fn text(&mut self) -> Vec<u8> {
+    let len = match self.random.below(8) {
+      0 => 0,
+      1 => self.random.between(6, 40),
+      _ => self.random.between(1, 4),
+    };
+    made::text(len, self.random).into_bytes()
+  }
+}
+
+/// Makes the texts of the list longer by so many bytes: one of them, or two.
+fn add_bytes(list: &mut [Call], bytes: usize, random: &mut Random) -> Option<()> {
+  let mut texts: Vec<&mut Vec<u8>> = list.iter_mut().filter_map(Call::text_mut).collect();
+  let count = texts.len();
+  let first = if random.one_in(2) { bytes } else { random.between(0, bytes) };
+  for part in [first, bytes - first] {
+    let text = texts.get_mut(random.below(count.max(1)))?;
+    text.extend(made::text(part, random).into_bytes());
+  }
+  Some(())
+}
+
+/// Calls on what the list leaves, by the oracle.
+fn later(desk: &DeskData, list: &[Call], random: &mut Random) -> Vec<Later> {
+  let mut desk = Desk::build(Limits::FULL, desk);
+  list.iter().for_each(|call| {
+    apply(&mut desk, call);
+  });
+  let mut caller = Caller::new(desk.data(), random.number());
+  let mut later = |_| {
+    let made: Made = caller.call_on_desk();
+    let later = Later::new(made.clone(), &desk);
+    apply(&mut desk, &made.call);
+    later
+  };
+  (0..random.between(1, 8)).map(&mut later).collect()
+}

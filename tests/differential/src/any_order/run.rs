@@ -1,0 +1,118 @@
+//! One sitting: its list run in each order, and all that must be the same.
+
+use oracle::{Call, Desk, DeskData, Limits, apply, dump, random::Random};
+
+use super::{
+  Sitting, Tally,
+  later::{Later, Seen},
+  sitting::Start,
+};
+use crate::{Answer, Core, Image, Unseen, holds_desk, image};
+
+/// The order in which something is seen that the others do not have, and what.
+#[derive(Debug, Clone)]
+pub struct Difference {
+  pub order: Vec<usize>,
+  pub what: String,
+}
+
+/// What an order of the list leaves: the desk, its text, what later calls show,
+/// and the desk behind them.
+struct Outcome {
+  desk: DeskData,
+  text: Seen,
+  later: Vec<Seen>,
+  end: DeskData,
+}
+
+/// Runs each order and compares what it leaves with what the oracle's desk is and
+/// shows behind the list's own order: so all orders leave the same.
+pub fn run(core: &mut impl Core, sitting: &Sitting, tally: &mut Tally) -> Result<(), Difference> {
+  let calls = sitting.list.iter().chain(sitting.later.iter().map(|later| &later.call));
+  if !calls.cloned().all(|call| core.has(&call)) {
+    tally.passed_over += 1;
+    return Ok(());
+  }
+  let expected = expected(sitting);
+  for (number, order) in sitting.orders.iter().enumerate() {
+    let run = run_order(core, sitting, order, number, &expected);
+    run.map_err(|what| Difference { order: order.clone(), what })?;
+  }
+  tally.add(sitting, expected.later.iter().map(|seen| seen.answer.number));
+  Ok(())
+}
+
+/// By the oracle, in the list's own order.
+fn expected(sitting: &Sitting) -> Outcome {
+  let mut desk = Desk::build(Limits::FULL, &sitting.start.desk());
+  sitting.list.iter().for_each(|call| {
+    apply(&mut desk, call);
+  });
+  let left = desk.data();
+  let text = Later::text(sitting.seed).expected(&mut desk);
+  let later = sitting.later.iter().map(|later| later.expected(&mut desk)).collect();
+  Outcome { desk: left, text, later, end: desk.data() }
+}
+
+fn run_order(
+  core: &mut impl Core,
+  sitting: &Sitting,
+  order: &[usize],
+  number: usize,
+  expected: &Outcome,
+) -> Result<(), String> {
+  let mut image = memory(core, sitting, number)?;
+  for &place in order {
+    let call = &sitting.list[place];
+    let answer = make(core, &mut image, call);
+    if answer != Answer::ACCEPTED {
+      return Err(format!("{call} gives {answer:?}"));
+    }
+  }
+  same_desk(&image, &expected.desk)?;
+  let text = Later::text(sitting.seed).make(core, &mut image);
+  text.same_as(&expected.text).map_err(|what| format!("the text: {what}"))?;
+  for (later, expected) in sitting.later.iter().zip(&expected.later) {
+    let seen = later.make(core, &mut image);
+    seen.same_as(expected).map_err(|what| format!("later, {}: {what}", later.call))?;
+  }
+  same_desk(&image, &expected.end).map_err(|what| format!("behind the later calls, {what}"))
+}
+
+/// Memory of the desk that the list is run from, other memory for each order.
+fn memory(core: &mut impl Core, sitting: &Sitting, number: usize) -> Result<Image, String> {
+  let random = &mut Random::new(sitting.seed.wrapping_add(number as u64));
+  let image = match &sitting.start {
+    Start::Made(desk) => image::encode(desk, random),
+    Start::Opened { source, calls } => {
+      let mut image = Image::junk(source.clone(), random);
+      make(core, &mut image, &Call::Open { source: source.clone() });
+      calls.iter().for_each(|call| {
+        make(core, &mut image, call);
+      });
+      image
+    }
+  };
+  same_desk(&image, &sitting.start.desk()).map_err(|what| format!("at the start, {what}"))?;
+  Ok(image)
+}
+
+/// Makes an edit, which fills no buffer.
+fn make(core: &mut impl Core, image: &mut Image, call: &Call) -> Answer {
+  core.call(&mut image.lend(), call, &Unseen::PLAIN, &mut [])
+}
+
+/// The memory holds that desk: source, head and tail pieces, and chunks in list
+/// order with span, intro, outro and replacement.
+fn same_desk(image: &Image, expected: &DeskData) -> Result<(), String> {
+  let Image { source, chunks, pieces, store } = image;
+  if !holds_desk(source, chunks, pieces, store) {
+    return Err("the desk is not well formed".to_string());
+  }
+  let desk = image::decode(source, chunks, pieces, store);
+  if desk != *expected {
+    let (desk, expected) = (dump::print(&desk), dump::print(expected));
+    return Err(format!("the desk is {desk}\n  and not {expected}"));
+  }
+  Ok(())
+}

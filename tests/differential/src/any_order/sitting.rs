@@ -1,0 +1,60 @@
+//! A sitting: a desk, a list of edits on it, orders of the list, and later calls.
+
+use std::fmt;
+
+use oracle::{Call, Desk, DeskData, Limits, apply, dump};
+
+use super::Later;
+
+#[derive(Debug, Clone)]
+pub struct Sitting {
+  pub start: Start,
+  pub list: Vec<Call>,
+  /// Each order has the places of the list, each once.
+  pub orders: Vec<Vec<usize>>,
+  pub later: Vec<Later>,
+  /// Chooses what the memory of a desk leaves open, and the buffers' bytes.
+  pub seed: u64,
+}
+
+/// Where the desk comes from.
+#[derive(Debug, Clone)]
+pub enum Start {
+  /// Opened and brought into use by calls, which the core makes itself.
+  Opened { source: Vec<u8>, calls: Vec<Call> },
+  /// Made by hand: each order has memory of its own for it.
+  Made(DeskData),
+}
+
+impl Start {
+  /// The desk, by the oracle.
+  pub fn desk(&self) -> DeskData {
+    match self {
+      Start::Made(desk) => desk.clone(),
+      Start::Opened { source, calls } => {
+        let mut desk = Desk::open(Limits::FULL, source).expect("a source that is opened");
+        calls.iter().for_each(|call| {
+          apply(&mut desk, call);
+        });
+        desk.data()
+      }
+    }
+  }
+}
+
+impl fmt::Display for Sitting {
+  fn fmt(&self, out: &mut fmt::Formatter) -> fmt::Result {
+    writeln!(out, "# the desk, seed {}", self.seed)?;
+    match &self.start {
+      Start::Made(desk) => writeln!(out, "# {}", dump::print(desk))?,
+      Start::Opened { source, calls } => {
+        writeln!(out, "{}", Call::Open { source: source.clone() })?;
+        calls.iter().try_for_each(|call| writeln!(out, "{call}"))?;
+      }
+    }
+    writeln!(out, "# the list")?;
+    self.list.iter().try_for_each(|call| writeln!(out, "{call}"))?;
+    writeln!(out, "# later calls")?;
+    self.later.iter().try_for_each(|later| writeln!(out, "{}", later.call))
+  }
+}
