@@ -20,6 +20,7 @@ enum Fault {
   WritesTooShortBuffer,
   TouchesSpareWord,
   LeavesNoOpElsewhere,
+  LeavesRefusedInsertionElsewhere,
   LooksAtSpareWord,
   TrustsPrev,
   ChecksArgumentsFirst,
@@ -92,6 +93,9 @@ impl Core for Wrong {
       (Fault::WritesTooShortBuffer, 14) => out.iter_mut().for_each(|byte| *byte ^= 1),
       (Fault::TouchesSpareWord, 0) if !call.is_edit() => lent.chunks[10] ^= 1,
       (Fault::LeavesNoOpElsewhere, 0) if call.is_edit() => self.lay_out(lent, |_| ()),
+      (Fault::LeavesRefusedInsertionElsewhere, 6) if is_insertion(call) => {
+        self.lay_out(lent, |_| ());
+      }
       _ => {}
     }
     answer
@@ -111,9 +115,12 @@ impl Core for Wrong {
   }
 }
 
+fn is_insertion(call: &Call) -> bool {
+  !matches!(call, Call::UpdateWith { .. } | Call::IndentWith { .. }) && call.text().is_some()
+}
+
 fn is_empty_insertion(call: &Call) -> bool {
-  !matches!(call, Call::UpdateWith { .. } | Call::IndentWith { .. })
-    && call.text().is_some_and(<[u8]>::is_empty)
+  is_insertion(call) && call.text().is_some_and(<[u8]>::is_empty)
 }
 
 /// Sets each `prev` to what `next` says.
@@ -161,6 +168,7 @@ fn ones_that_write_where_they_must_not() {
   assert!(caught(Fault::WritesTooShortBuffer) <= 2);
   assert!(caught(Fault::TouchesSpareWord) <= 2);
   assert!(caught(Fault::LeavesNoOpElsewhere) <= 2);
+  assert!(caught(Fault::LeavesRefusedInsertionElsewhere) <= 2);
 }
 
 #[test]

@@ -1,7 +1,7 @@
 //! What holds of every desk and of every call, whatever the Rust does: checked
 //! at each step of a script.
 
-use crate::{Answer, Call, Desk, DeskData, Script, number::*};
+use crate::{Answer, Call, Desk, DeskData, Script, keeps, number::*};
 
 /// Makes the call as the script does, and checks the step and the desk after it.
 pub fn call(script: &mut Script, call: &Call) -> Result<Option<Answer>, String> {
@@ -80,14 +80,8 @@ pub fn step(
 ) -> Result<(), String> {
   let number = answer.number;
   ensure(number == ACCEPTED || numbers(call).contains(&number), "a number not of this call")?;
-  let replaces = matches!(call, Call::UpdateWith { .. });
-  let may_change = match number {
-    ACCEPTED => call.is_edit(),
-    CUT_IN_REPLACEMENT | ACROSS_MOVED_EDGE | NOT_TOGETHER => true,
-    PAST_SOURCE => replaces,
-    _ => false,
-  };
-  ensure(may_change || before == after, "a call that changes nothing changed the desk")?;
+  let kept = keeps::every_byte(call, number);
+  ensure(!kept || before == after, "a call that changes nothing changed the desk")?;
   let silent = answer.value == 0 && answer.bytes.is_empty();
   ensure(silent || (number == ACCEPTED && !call.is_edit()), "a refusal or an edit reports")?;
   ensure(before.source == after.source || matches!(call, Call::Open { .. }), "another source")

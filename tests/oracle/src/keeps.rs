@@ -1,15 +1,25 @@
-//! Which answers leave every byte of the lent tables.
+//! Which answers leave every byte of the lent tables, as include/magic_string.h
+//! says.
 
 use crate::{Call, number::*};
 
-/// Refusals other than 6, 7, 9 and an update's 10, reports, and accepted edits
-/// that do nothing.
+/// Reports, accepted edits that do nothing, and every refusal but those after
+/// which something stays.
 pub fn every_byte(call: &Call, number: u32) -> bool {
   match number {
     ACCEPTED => !call.is_edit() || does_nothing(call),
-    CUT_IN_REPLACEMENT | ACROSS_MOVED_EDGE | NOT_TOGETHER => false,
-    PAST_SOURCE => !matches!(call, Call::UpdateWith { .. }),
-    _ => true,
+    _ => !stays_after(call).contains(&number),
+  }
+}
+
+/// The refusals after which cuts stay, or emptied chunks: the header's "After". An
+/// insertion's 6 is none of them, as its one cut is the one that is refused.
+fn stays_after(call: &Call) -> &'static [u32] {
+  match call {
+    Call::Remove { .. } | Call::Reset { .. } => &[CUT_IN_REPLACEMENT],
+    Call::UpdateWith { .. } => &[CUT_IN_REPLACEMENT, PAST_SOURCE, ACROSS_MOVED_EDGE],
+    Call::Relocate { .. } => &[CUT_IN_REPLACEMENT, NOT_TOGETHER],
+    _ => &[],
   }
 }
 
