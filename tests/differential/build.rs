@@ -1,50 +1,51 @@
-//! Links archives from the folder that the variable MAGIC_STRING_LIB names: with
-//! the feature `archive` libmagic_string.a, with the feature `inner`
-//! libinner_calls.a. A function that the archive does not have is an error, unless
-//! MAGIC_STRING_PARTIAL is set: then its calls are passed over.
+//! Links archives. With the feature `archive` magic_string-sys links
+//! libmagic_string.a, and what it lacks is looked for here: a function that the
+//! archive does not have is an error, unless MAGIC_STRING_PARTIAL is set: then its
+//! calls are passed over. With the feature `inner` libinner_calls.a is linked from the
+//! folder that the variable MAGIC_STRING_LIB names.
 
 use std::{env, fs, path::Path};
 
-#[path = "src/exported.rs"]
-mod exported;
+use magic_string_sys::NAMES;
+
+/// What every archive has.
+const NEEDED: [&str; 2] = ["magic_string_open", "magic_string_well_formed"];
 
 fn main() {
+  println!("cargo::rerun-if-changed=build.rs");
   println!("cargo::rerun-if-env-changed=MAGIC_STRING_LIB");
   println!("cargo::rerun-if-env-changed=MAGIC_STRING_PARTIAL");
-  println!("cargo::rerun-if-changed=src/exported.rs");
-  for (feature, link) in [("ARCHIVE", exported as fn() -> _), ("INNER", inner)] {
+  for (feature, prepare) in [("ARCHIVE", exported as fn() -> _), ("INNER", inner)] {
     if env::var_os(format!("CARGO_FEATURE_{feature}")).is_some()
-      && let Err(message) = link()
+      && let Err(message) = prepare()
     {
       println!("cargo::error={message}");
     }
   }
 }
 
-/// The inner functions.
+/// Links the inner functions.
 fn inner() -> Result<(), String> {
-  archive("inner_calls").map(|_| ())
-}
-
-/// Has the archive of this name linked, and reads it.
-fn archive(name: &str) -> Result<Vec<u8>, String> {
   let folder = env::var("MAGIC_STRING_LIB")
-    .map_err(|_| format!("MAGIC_STRING_LIB must name the folder of lib{name}.a"))?;
-  let archive = Path::new(&folder).join(format!("lib{name}.a"));
+    .map_err(|_| "MAGIC_STRING_LIB must name the folder of libinner_calls.a")?;
+  // A relative folder is meant from where cargo is called, which is not here.
+  let called_from = env::var("PWD").unwrap_or_default();
+  let folder = Path::new(&called_from).join(folder);
+  let archive = folder.join("libinner_calls.a");
   println!("cargo::rerun-if-changed={}", archive.display());
-  println!("cargo::rustc-link-search=native={folder}");
-  println!("cargo::rustc-link-lib=static={name}");
-  fs::read(&archive).map_err(|error| format!("{}: {error}", archive.display()))
+  println!("cargo::rustc-link-search=native={}", folder.display());
+  println!("cargo::rustc-link-lib=static=inner_calls");
+  Ok(())
 }
 
-/// The exported functions.
+/// Looks for the exported functions, and stands in for those that may be missing.
 fn exported() -> Result<(), String> {
-  let bytes = archive("magic_string")?;
-  let lacks = |name: &&&str| !has_symbol(&bytes, name);
-  let needed: Vec<_> = exported::NEEDED.iter().filter(lacks).collect();
-  let missing: Vec<_> = exported::EXPORTED.iter().filter(lacks).collect();
-  if !needed.is_empty() {
-    return Err(format!("the archive does not have {needed:?}"));
+  let archive = env::var("DEP_MAGIC_STRING_ARCHIVE").map_err(|error| error.to_string())?;
+  println!("cargo::rerun-if-changed={archive}");
+  let bytes = fs::read(&archive).map_err(|error| format!("{archive}: {error}"))?;
+  let missing: Vec<&str> = NAMES.iter().copied().filter(|name| !has_symbol(&bytes, name)).collect();
+  if missing.iter().any(|name| NEEDED.contains(name)) {
+    return Err(format!("the archive does not have all of {NEEDED:?}"));
   }
   if !missing.is_empty() && env::var_os("MAGIC_STRING_PARTIAL").is_none() {
     return Err(format!("the archive does not have {missing:?}; MAGIC_STRING_PARTIAL passes over"));
@@ -65,7 +66,7 @@ fn has_symbol(archive: &[u8], name: &str) -> bool {
 }
 
 /// Functions of the missing names, so that the program links. None is called.
-fn stand_ins(missing: &[&&str]) -> String {
+fn stand_ins(missing: &[&str]) -> String {
   let functions = missing.iter().map(|name| {
     format!("#[unsafe(no_mangle)]\nextern \"C\" fn {name}() {{\n  std::process::abort();\n}}\n")
   });

@@ -1,127 +1,130 @@
-//! A method of `Lent` for each exported function. The declarations are the
-//! wrapper's.
+//! A method of `Lent` for each exported function. The unsafe code is sound as that of
+//! the crate magic_string is: each address comes with the length of a slice that is
+//! borrowed for the call, and those that are written lie apart.
 
-#[path = "../../../bindings/rust/src/exported.rs"]
-mod exported;
+use magic_string_sys::{edit, report};
 
 use crate::{Answer, Lent};
-use exported::*;
 
 /// Edits.
 impl Lent<'_> {
   pub fn open(&mut self) -> Answer {
-    edit!(self, magic_string_open)
+    unsafe { edit!(self, magic_string_open) }
   }
 
   pub fn remove(&mut self, start: u32, end: u32) -> Answer {
-    edit!(self, magic_string_remove, start, end)
+    unsafe { edit!(self, magic_string_remove, start, end) }
   }
 
   pub fn update_with(&mut self, start: u32, end: u32, text: &[u8], overwrite: u32) -> Answer {
-    edit!(self, magic_string_update_with, start, end, text.as_ptr(), text.len(), overwrite)
+    unsafe {
+      edit!(self, magic_string_update_with, start, end, text.as_ptr(), text.len(), overwrite)
+    }
   }
 
   pub fn reset(&mut self, start: u32, end: u32) -> Answer {
-    edit!(self, magic_string_reset, start, end)
+    unsafe { edit!(self, magic_string_reset, start, end) }
   }
 
   pub fn append_left(&mut self, at: u32, text: &[u8]) -> Answer {
-    edit!(self, magic_string_append_left, at, text.as_ptr(), text.len())
+    unsafe { edit!(self, magic_string_append_left, at, text.as_ptr(), text.len()) }
   }
 
   pub fn append_right(&mut self, at: u32, text: &[u8]) -> Answer {
-    edit!(self, magic_string_append_right, at, text.as_ptr(), text.len())
+    unsafe { edit!(self, magic_string_append_right, at, text.as_ptr(), text.len()) }
   }
 
   pub fn prepend_left(&mut self, at: u32, text: &[u8]) -> Answer {
-    edit!(self, magic_string_prepend_left, at, text.as_ptr(), text.len())
+    unsafe { edit!(self, magic_string_prepend_left, at, text.as_ptr(), text.len()) }
   }
 
   pub fn prepend_right(&mut self, at: u32, text: &[u8]) -> Answer {
-    edit!(self, magic_string_prepend_right, at, text.as_ptr(), text.len())
+    unsafe { edit!(self, magic_string_prepend_right, at, text.as_ptr(), text.len()) }
   }
 
   pub fn append(&mut self, text: &[u8]) -> Answer {
-    edit!(self, magic_string_append, text.as_ptr(), text.len())
+    unsafe { edit!(self, magic_string_append, text.as_ptr(), text.len()) }
   }
 
   pub fn prepend(&mut self, text: &[u8]) -> Answer {
-    edit!(self, magic_string_prepend, text.as_ptr(), text.len())
+    unsafe { edit!(self, magic_string_prepend, text.as_ptr(), text.len()) }
   }
 
   pub fn relocate(&mut self, start: u32, end: u32, to: u32) -> Answer {
-    edit!(self, magic_string_relocate, start, end, to)
+    unsafe { edit!(self, magic_string_relocate, start, end, to) }
   }
 
   pub fn trim(&mut self, pattern: u32) -> Answer {
-    edit!(self, magic_string_trim, pattern)
+    unsafe { edit!(self, magic_string_trim, pattern) }
   }
 
   pub fn trim_start(&mut self, pattern: u32) -> Answer {
-    edit!(self, magic_string_trim_start, pattern)
+    unsafe { edit!(self, magic_string_trim_start, pattern) }
   }
 
   pub fn trim_end(&mut self, pattern: u32) -> Answer {
-    edit!(self, magic_string_trim_end, pattern)
+    unsafe { edit!(self, magic_string_trim_end, pattern) }
   }
 
   pub fn trim_lines(&mut self) -> Answer {
-    edit!(self, magic_string_trim_lines)
+    unsafe { edit!(self, magic_string_trim_lines) }
   }
 
   pub fn indent_with(&mut self, has_indentor: u32, indentor: &[u8], exclude: &[u32]) -> Answer {
     let (at, len) = (indentor.as_ptr(), indentor.len());
-    edit!(self, magic_string_indent_with, has_indentor, at, len, exclude.as_ptr(), exclude.len())
+    unsafe {
+      edit!(self, magic_string_indent_with, has_indentor, at, len, exclude.as_ptr(), exclude.len())
+    }
   }
 }
 
 /// Reports. Those that fill `out` answer how many bytes they wrote.
 impl Lent<'_> {
   pub fn slice(&self, start: u32, has_end: u32, end: u32, out: &mut [u8]) -> Answer {
-    report!(self, magic_string_slice, start, has_end, end, out.as_mut_ptr(), out.len())
+    unsafe { report!(self, magic_string_slice, start, has_end, end, out.as_mut_ptr(), out.len()) }
   }
 
   pub fn to_string(&self, out: &mut [u8]) -> Answer {
-    report!(self, magic_string_to_string, out.as_mut_ptr(), out.len())
+    unsafe { report!(self, magic_string_to_string, out.as_mut_ptr(), out.len()) }
   }
 
   pub fn last_line(&self, out: &mut [u8]) -> Answer {
-    report!(self, magic_string_last_line, out.as_mut_ptr(), out.len())
+    unsafe { report!(self, magic_string_last_line, out.as_mut_ptr(), out.len()) }
   }
 
   pub fn get_indent_string(&self, out: &mut [u8]) -> Answer {
-    report!(self, magic_string_get_indent_string, out.as_mut_ptr(), out.len())
+    unsafe { report!(self, magic_string_get_indent_string, out.as_mut_ptr(), out.len()) }
   }
 
   pub fn len(&self) -> Answer {
-    report!(self, magic_string_len)
+    unsafe { report!(self, magic_string_len) }
   }
 
   pub fn len_utf16(&self) -> Answer {
-    report!(self, magic_string_len_utf16)
+    unsafe { report!(self, magic_string_len_utf16) }
   }
 
   pub fn line_count(&self) -> Answer {
-    report!(self, magic_string_line_count)
+    unsafe { report!(self, magic_string_line_count) }
   }
 
   pub fn is_empty(&self) -> Answer {
-    report!(self, magic_string_is_empty)
+    unsafe { report!(self, magic_string_is_empty) }
   }
 
   pub fn has_changed(&self) -> Answer {
-    report!(self, magic_string_has_changed)
+    unsafe { report!(self, magic_string_has_changed) }
   }
 
   pub fn is_range_within_edited_chunk(&self, start: u32, end: u32) -> Answer {
-    report!(self, magic_string_is_range_within_edited_chunk, start, end)
+    unsafe { report!(self, magic_string_is_range_within_edited_chunk, start, end) }
   }
 
   pub fn last_char(&self) -> Answer {
-    report!(self, magic_string_last_char)
+    unsafe { report!(self, magic_string_last_char) }
   }
 
   pub fn well_formed(&self) -> Answer {
-    report!(self, magic_string_well_formed)
+    unsafe { report!(self, magic_string_well_formed) }
   }
 }

@@ -1,19 +1,12 @@
-//! The words of a desk's memory (docs/LAYOUT.md), as the wrapper has them, and the
-//! limits of document 01.
+//! The words of a desk's memory (docs/LAYOUT.md) and the limits of document 01, as
+//! magic_string-sys has them.
 
-#[path = "../../../bindings/rust/src/layout.rs"]
-mod wrapper;
-
-pub use wrapper::{
-  CHUNKS as MOST_CHUNKS, CHUNKS_LEN as CHUNK_WORDS, END, INTRO_AT, INTRO_N, NEXT, NONE, OUTRO_AT,
-  OUTRO_N, PIECE, PIECES as MOST_PIECES, PIECES_LEN as PIECE_WORDS, PREV, ROW,
+pub use magic_string_sys::layout::{
+  AT, CHUNKS as MOST_CHUNKS, CHUNKS_LEN as CHUNK_WORDS, END, INTRO_AT, INTRO_N, N, NEXT, NONE,
+  OUTRO_AT, OUTRO_N, PIECE, PIECES as MOST_PIECES, PIECES_LEN as PIECE_WORDS, PREV, ROW,
   SOURCE_BYTES as MOST_SOURCE, START, STORE_BYTES as MOST_BYTES, STORE_LEN as STORE_BYTES, TEXT_AT,
   TEXT_N,
 };
 
 /// Rows of `pieces`: twice as many as pieces may be held.
 pub const PIECE_ROWS: usize = PIECE_WORDS / PIECE;
-
-/// The words of a row of `pieces`.
-pub const AT: usize = 0;
-pub const N: usize = 1;

@@ -1,4 +1,4 @@
-//! What a caller lends to an exported function, and what the function returns.
+//! What a caller lends to an exported function.
 
 use crate::Sizes;
 
@@ -17,19 +17,4 @@ impl Lent<'_> {
   pub fn sizes(&self) -> Option<Sizes> {
     Sizes::of(self.chunks, self.pieces, self.store)
   }
-}
-
-/// The number, and what the call reports: bytes written, for a call that fills
-/// a buffer; 0 where nothing is reported.
-#[repr(C)]
-#[derive(Debug, Clone, Copy, PartialEq, Eq)]
-pub struct Answer {
-  pub number: u32,
-  pub value: u32,
-}
-
-impl Answer {
-  /// The answer for memory that is not a desk.
-  pub const NO_DESK: Answer = Answer { number: 2, value: 0 };
-  pub const ACCEPTED: Answer = Answer { number: 0, value: 0 };
 }

@@ -27,7 +27,8 @@ mod well_formed;
 
 pub use cores::{Core, Unseen};
 pub use image::Image;
-pub use lent::{Answer, Lent};
+pub use lent::Lent;
+pub use magic_string_sys::Answer;
 pub use oracle::keeps;
 pub use paper::{Made, Paper, Start};
 pub use sizes::Sizes;

@@ -1,5 +1,5 @@
-//! The Rust wrapper (bindings/rust) and string_wizard, unchanged, side by side on
-//! random calls: each answer, and the whole desk after it.
+//! The crate magic_string (bindings/rust) and string_wizard, unchanged, side by side
+//! on random calls: each answer, and the whole desk after it.
 
 use magic_string::{IndentOptions, MagicString, Refusal, UpdateOptions};
 use oracle::{Answer, Call, ChunkData, DeskData};

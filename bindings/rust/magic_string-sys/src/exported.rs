@@ -1,95 +1,135 @@
-//! The exported functions (include/magic_string.h), and a macro for each way to
-//! call them. A slice passes as its address and its length in elements. The module
-//! above has the `Answer` that they return.
+//! The declarations, and a macro for each way to lend a desk.
 
-use super::Answer;
+use crate::Answer;
 
-/// Declares functions that take the tables by `$pointer` behind the source, and
-/// their own arguments behind the tables.
+/// Declares functions that take the source and the tables first, and their own
+/// arguments behind them: edits write the tables, reports read them. A slice passes
+/// as its address and its length in elements.
 macro_rules! exported {
-  ($pointer:tt $($name:ident($($argument:ident: $type:ty),*);)*) => {
+  (
+    edits { $($(#[$of_edit:meta])* $edit:ident($($edits_argument:ident: $edits_type:ty),*);)* }
+    reports { $($(#[$of_report:meta])* $report:ident($($argument:ident: $type:ty),*);)* }
+  ) => {
     unsafe extern "C" {
-      $(pub(super) fn $name(
+      $($(#[$of_edit])* pub fn $edit(
         source: *const u8, source_len: usize,
-        chunks: *$pointer u32, chunks_len: usize,
-        pieces: *$pointer u32, pieces_len: usize,
-        store: *$pointer u8, store_len: usize,
+        chunks: *mut u32, chunks_len: usize,
+        pieces: *mut u32, pieces_len: usize,
+        store: *mut u8, store_len: usize,
+        $($edits_argument: $edits_type),*
+      ) -> Answer;)*
+
+      $($(#[$of_report])* pub fn $report(
+        source: *const u8, source_len: usize,
+        chunks: *const u32, chunks_len: usize,
+        pieces: *const u32, pieces_len: usize,
+        store: *const u8, store_len: usize,
         $($argument: $type),*
       ) -> Answer;)*
     }
+
+    /// The names of all exported functions.
+    pub const NAMES: &[&str] = &[$(stringify!($edit),)* $(stringify!($report)),*];
   };
 }
 
-exported! { mut
-  magic_string_open();
-  magic_string_remove(start: u32, end: u32);
-  magic_string_update_with(
-    start: u32, end: u32, text: *const u8, text_len: usize, overwrite: u32
-  );
-  magic_string_reset(start: u32, end: u32);
-  magic_string_append_left(at: u32, text: *const u8, text_len: usize);
-  magic_string_append_right(at: u32, text: *const u8, text_len: usize);
-  magic_string_prepend_left(at: u32, text: *const u8, text_len: usize);
-  magic_string_prepend_right(at: u32, text: *const u8, text_len: usize);
-  magic_string_append(text: *const u8, text_len: usize);
-  magic_string_prepend(text: *const u8, text_len: usize);
-  magic_string_relocate(start: u32, end: u32, to: u32);
-  magic_string_trim(pattern: u32);
-  magic_string_trim_start(pattern: u32);
-  magic_string_trim_end(pattern: u32);
-  magic_string_trim_lines();
-  magic_string_indent_with(
-    has_indentor: u32, indentor: *const u8, indentor_len: usize,
-    exclude: *const u32, exclude_len: usize
-  );
+exported! {
+  edits {
+    /// Makes a fresh desk over the source.
+    magic_string_open();
+    /// Removes the bytes from start up to end.
+    magic_string_remove(start: u32, end: u32);
+    /// Replaces the bytes from start up to end by the text.
+    magic_string_update_with(
+      start: u32, end: u32, text: *const u8, text_len: usize, overwrite: u32
+    );
+    /// Undoes the edits of the bytes from start up to end.
+    magic_string_reset(start: u32, end: u32);
+    /// Adds a piece behind the chunk that ends at the position, at the back.
+    magic_string_append_left(at: u32, text: *const u8, text_len: usize);
+    /// Adds a piece before the chunk that starts at the position, at the back.
+    magic_string_append_right(at: u32, text: *const u8, text_len: usize);
+    /// As `append_left`, at the front.
+    magic_string_prepend_left(at: u32, text: *const u8, text_len: usize);
+    /// As `append_right`, at the front.
+    magic_string_prepend_right(at: u32, text: *const u8, text_len: usize);
+    /// Adds a piece at the end of the output.
+    magic_string_append(text: *const u8, text_len: usize);
+    /// Adds a piece at the start of the output.
+    magic_string_prepend(text: *const u8, text_len: usize);
+    /// Moves the bytes from start up to end before those at `to`.
+    magic_string_relocate(start: u32, end: u32, to: u32);
+    /// Takes white space or line ends off both ends of the output.
+    magic_string_trim(pattern: u32);
+    /// The same off the start alone.
+    magic_string_trim_start(pattern: u32);
+    /// The same off the end alone.
+    magic_string_trim_end(pattern: u32);
+    /// Takes line ends off both ends of the output.
+    magic_string_trim_lines();
+    /// Puts the indentor in front of each line.
+    magic_string_indent_with(
+      has_indentor: u32, indentor: *const u8, indentor_len: usize,
+      exclude: *const u32, exclude_len: usize
+    );
+  }
+  reports {
+    /// Tells whether the memory holds a well-formed desk.
+    magic_string_well_formed();
+    /// Writes the output.
+    magic_string_to_string(out: *mut u8, out_len: usize);
+    /// Writes the output of the chunks from start on up to end.
+    magic_string_slice(start: u32, has_end: u32, end: u32, out: *mut u8, out_len: usize);
+    /// Writes the output behind its last line feed.
+    magic_string_last_line(out: *mut u8, out_len: usize);
+    /// Writes the indent that the source's lines suggest.
+    magic_string_get_indent_string(out: *mut u8, out_len: usize);
+    /// The bytes of the chunks' output.
+    magic_string_len();
+    /// The same in UTF-16 units.
+    magic_string_len_utf16();
+    /// One more than the line feeds of the output.
+    magic_string_line_count();
+    /// Whether the chunks' output is white space or empty.
+    magic_string_is_empty();
+    /// Whether the output differs from the source.
+    magic_string_has_changed();
+    /// Whether the span of one replaced chunk has the range.
+    magic_string_is_range_within_edited_chunk(start: u32, end: u32);
+    /// The code of the output's last character, or [`NO_CHAR`](crate::layout::NO_CHAR).
+    magic_string_last_char();
+  }
 }
 
-exported! { const
-  magic_string_well_formed();
-  magic_string_to_string(out: *mut u8, out_len: usize);
-  magic_string_slice(start: u32, has_end: u32, end: u32, out: *mut u8, out_len: usize);
-  magic_string_last_line(out: *mut u8, out_len: usize);
-  magic_string_get_indent_string(out: *mut u8, out_len: usize);
-  magic_string_len();
-  magic_string_len_utf16();
-  magic_string_line_count();
-  magic_string_is_empty();
-  magic_string_has_changed();
-  magic_string_is_range_within_edited_chunk(start: u32, end: u32);
-  magic_string_last_char();
-}
-
-/// Calls a function that may write the tables.
+/// Calls a function that may write the tables of `$memory`, which has the slices
+/// `source`, `chunks`, `pieces` and `store`; its own arguments follow. The call is
+/// unsafe: it is sound where these are slices that are borrowed for the call and
+/// those that are written lie apart, and where each address among the arguments
+/// comes with the length of the slice that it is of. The functions work on any
+/// content, stay within the lengths and keep nothing.
+#[macro_export]
 macro_rules! edit {
   ($memory:ident, $name:ident $(, $argument:expr)*) => {
-    // Sound: each address comes with the length of the slice that it is of, the
-    // slices are borrowed for the call, and those that are written are apart.
-    unsafe {
-      $name(
-        $memory.source.as_ptr(), $memory.source.len(),
-        $memory.chunks.as_mut_ptr(), $memory.chunks.len(),
-        $memory.pieces.as_mut_ptr(), $memory.pieces.len(),
-        $memory.store.as_mut_ptr(), $memory.store.len()
-        $(, $argument)*
-      )
-    }
+    $crate::$name(
+      $memory.source.as_ptr(), $memory.source.len(),
+      $memory.chunks.as_mut_ptr(), $memory.chunks.len(),
+      $memory.pieces.as_mut_ptr(), $memory.pieces.len(),
+      $memory.store.as_mut_ptr(), $memory.store.len()
+      $(, $argument)*
+    )
   };
 }
 
-/// Calls a function that reads the tables.
+/// Calls a function that reads the tables of `$memory`: as [`edit!`].
+#[macro_export]
 macro_rules! report {
   ($memory:ident, $name:ident $(, $argument:expr)*) => {
-    // Sound: as above.
-    unsafe {
-      $name(
-        $memory.source.as_ptr(), $memory.source.len(),
-        $memory.chunks.as_ptr(), $memory.chunks.len(),
-        $memory.pieces.as_ptr(), $memory.pieces.len(),
-        $memory.store.as_ptr(), $memory.store.len()
-        $(, $argument)*
-      )
-    }
+    $crate::$name(
+      $memory.source.as_ptr(), $memory.source.len(),
+      $memory.chunks.as_ptr(), $memory.chunks.len(),
+      $memory.pieces.as_ptr(), $memory.pieces.len(),
+      $memory.store.as_ptr(), $memory.store.len()
+      $(, $argument)*
+    )
   };
 }
-
-pub(super) use {edit, report};

@@ -1,6 +1,5 @@
 //! The limits of a desk and the words of its memory, as docs/LAYOUT.md and
-//! include/magic_string.h have them. For callers who make or keep desks as memory
-//! ([`MagicString::from_tables`](crate::MagicString::from_tables)).
+//! include/magic_string.h have them. For callers who make or keep desks as memory.
 
 /// Most bytes of a source.
 pub const SOURCE_BYTES: usize = 16_384;
@@ -20,8 +19,12 @@ pub const STORE_LEN: usize = 32_768;
 
 /// Words in a row of chunks.
 pub const ROW: usize = 12;
-/// Words in a row of pieces: where its text begins in the store, how many bytes.
+/// Words in a row of pieces.
 pub const PIECE: usize = 2;
+/// Word of a row of pieces: where its text begins in the store.
+pub const AT: usize = 0;
+/// How many bytes its text has.
+pub const N: usize = 1;
 
 /// Word of a row of chunks: first byte of the span. In row 0, how many chunks.
 pub const START: usize = 0;
@@ -46,3 +49,6 @@ pub const TEXT_N: usize = 9;
 
 /// In [`TEXT_AT`]: the chunk has no replacement.
 pub const NONE: u32 = 0xFFFF_FFFF;
+
+/// The value of `last_char` where the output has no last character.
+pub const NO_CHAR: u32 = 0xFFFF_FFFF;

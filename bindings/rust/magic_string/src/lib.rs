@@ -35,11 +35,14 @@
 
 mod chunk;
 mod ffi;
-pub mod layout;
 mod magic_string;
 mod memory;
 mod refusal;
 mod span;
+
+/// For callers who make or keep desks as memory ([`MagicString::from_tables`]).
+#[doc(inline)]
+pub use magic_string_sys::layout;
 
 pub use crate::{
   chunk::{Chunk, Chunks},
