@@ -1,7 +1,7 @@
 //! Short tests of the library itself. Built with debug assertions, so the
 //! Rust's own are on here.
 
-use oracle::{Desk, Limits, Script, apply, check, generate::generate, parse};
+use oracle::{Desk, Limits, Script, apply, check, generate::generate, keeps, number::*, parse};
 
 /// The numbers that the lines of a script get, on a desk with these limits.
 fn numbers(limits: Limits, script: &str) -> Vec<u32> {
@@ -76,4 +76,24 @@ fn limits_are_judged_on_what_is_left() {
   assert_eq!(numbers(few, "open 6162\nappend -\nappend -"), [0, 0, 13]);
   // `trim` fits where `trim_start` alone does not.
   assert_eq!(numbers(few, "open 206120202020\ntrim_start 0\ntrim 0"), [0, 13, 0]);
+}
+
+/// After which refusals the tables may hold another desk, or the same elsewhere: the
+/// header's sentences.
+#[test]
+fn what_stays_after_a_refusal() {
+  let after = |line: &str| -> Vec<u32> {
+    let call = parse(line).unwrap().unwrap();
+    (NOT_UTF8..=OPTION).filter(|&number| !keeps::every_byte(&call, number)).collect()
+  };
+  assert_eq!(after("remove 0 1"), [CUT_IN_REPLACEMENT]);
+  assert_eq!(after("reset 0 1"), [CUT_IN_REPLACEMENT]);
+  assert_eq!(after("update_with 0 1 0 -"), [CUT_IN_REPLACEMENT, ACROSS_MOVED_EDGE, PAST_SOURCE]);
+  assert_eq!(after("relocate 0 1 2"), [CUT_IN_REPLACEMENT, NOT_TOGETHER]);
+  for line in ["append_left 1 -", "prepend_right 1 -", "append -", "trim 0", "indent_with none"] {
+    assert_eq!(after(line), [0; 0], "{line}");
+  }
+  for line in ["slice 0 none", "to_string", "last_char"] {
+    assert_eq!(after(line), [0; 0], "{line}");
+  }
 }
