@@ -3,6 +3,7 @@
 //! edit by edit, leave the same desk and the same text, and show the same to every
 //! later call. Lists that fail one check show that the comparison can tell.
 
+mod edits;
 mod later;
 mod lists;
 mod orders;

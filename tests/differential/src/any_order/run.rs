@@ -28,8 +28,9 @@ struct Outcome {
 /// Runs each order and compares what it leaves with what the oracle's desk is and
 /// shows behind the list's own order: so all orders leave the same.
 pub fn run(core: &mut impl Core, sitting: &Sitting, tally: &mut Tally) -> Result<(), Difference> {
-  let calls = sitting.list.iter().chain(sitting.later.iter().map(|later| &later.call));
-  if !calls.cloned().all(|call| core.has(&call)) {
+  let later = sitting.later.iter().map(|later| &later.call);
+  let mut calls = sitting.start.calls().iter().chain(&sitting.list).chain(later);
+  if !calls.all(|call| core.has(call)) {
     tally.passed_over += 1;
     return Ok(());
   }

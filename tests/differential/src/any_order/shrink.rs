@@ -1,5 +1,5 @@
 //! A smaller sitting whose orders still differ: edits of the list, later calls and
-//! calls before the list are dropped one by one, then all orders but two.
+//! calls before the list are dropped one by one.
 
 use super::{
   Check, Premises, Sitting, Tally,
@@ -36,11 +36,7 @@ pub fn shrink<C: Core + Clone>(
 
 /// How many parts can be dropped.
 fn size(sitting: &Sitting) -> usize {
-  sitting.list.len() + sitting.later.len() + before_list(sitting)
-}
-
-fn before_list(sitting: &Sitting) -> usize {
-  if let Start::Opened { calls, .. } = &sitting.start { calls.len() } else { 0 }
+  sitting.list.len() + sitting.later.len() + sitting.start.calls().len()
 }
 
 /// The sitting without one of its calls.

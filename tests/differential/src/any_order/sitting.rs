@@ -27,6 +27,11 @@ pub enum Start {
 }
 
 impl Start {
+  /// The calls behind an opening.
+  pub fn calls(&self) -> &[Call] {
+    if let Start::Opened { calls, .. } = self { calls } else { &[] }
+  }
+
   /// The desk, by the oracle.
   pub fn desk(&self) -> DeskData {
     match self {
