@@ -1,5 +1,6 @@
 // What calls on scratch tables share: the lent tables are copied into them, the steps run there, and the desk that they leave is written back if it keeps the limits.
 ghost use mathlib.Core.Path.{_≡_};
+ghost use mathlib.Core.List.{[]};
 ghost use Prim.Native.Nat.{_+_, _≤_, min};
 ghost use lib.ListN.{length};
 ghost use Rattle.table.specs.Order.{entryOf};
