@@ -12,7 +12,7 @@ ghost use Rattle.texts.specs.Over.{Wrote};
 ghost use Rattle.line_start.specs.Line.{LineFrom};
 use fragments::Cursor;
 use line_start::Start;
-use texts::Answer;
+use memory::Answer;
 
 // Writes a text from its byte `at` on into `out`, into what is left of it from o on. Returns the place behind.
 fn put_from(out: &mut [u8], o: usize, text: &[u8], at: usize) -> usize

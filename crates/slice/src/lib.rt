@@ -15,7 +15,7 @@ ghost use Rattle.memory.specs.WellFormed.{WellFormed};
 ghost use Rattle.memory.specs.Calls.{Told};
 ghost use Rattle.fragments.specs.Sections.{rowNo};
 ghost use Prim.Native.Nat.{suc};
-use texts::Answer;
+use memory::Answer;
 
 // Where the slice begins: the chunk's number in the list, and its row.
 pub enum Found {

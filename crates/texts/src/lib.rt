@@ -13,13 +13,6 @@ ghost use Rattle.utf8.specs.Rfc3629.{utf8, between};
 ghost use Rattle.table.specs.Order.{entryOf};
 ghost use Rattle.model.specs.Text.{all};
 
-// What an exported call gives back: the number, and the value of a report (0 where nothing is reported).
-#[repr(C)]
-pub struct Answer {
-    pub number: u32,
-    pub value: u32,
-}
-
 // The mark in a chunk row's text_at that says: no replacement.
 pub const NONE: u32 = 0xFFFF_FFFF;
 
