@@ -7,7 +7,7 @@ ghost use Rattle.memory.specs.Layout.{magicStringOf};
 ghost use Rattle.memory.specs.WellFormed.{WellFormed};
 ghost use Rattle.memory.specs.Calls.{Told};
 ghost use Rattle.edited_range.specs.Within.{within};
-use texts::Answer;
+use memory::Answer;
 
 // Whether a chunk from a up to b, with the replacement word text_at, is edited and holds the range.
 fn holds_range(a: u32, b: u32, text_at: u32, start: u32, end: u32) -> bool

@@ -157,13 +157,3 @@ finish-fits e l d = record { lengths = l; fits = λ _. (refl, d); breaks = λ f.
 
 pub finish-breaks : {t p s t' p' s' : List ℕ} {r : ℕ} → within (limitsOf t' p' s') (magicStringOf [] t p s) ≡ false → Finished t p s t' p' s' t' p' s' r 13
 finish-breaks {t' = t'} {p'} {s'} e = record { lengths = same-lengths t' p' s'; fits = λ f. no-tf (sym f ∙ e); breaks = λ _. (refl, record { chunks = refl; pieces = refl; store = refl }) }
-
--- two tests, one after the other
-pub both-true : (a b : Bool) (r q : Bool) → r ≡ a → r ≡ true → q ≡ b → q ≡ (a && (b && true))
-both-true true true r q e f g = g
-both-true true false r q e f g = g
-both-true false b r q e f g = no-tf (sym f ∙ e)
-
-pub first-false : (a b : Bool) (r : Bool) → r ≡ a → r ≡ false → false ≡ (a && (b && true))
-first-false true b r e f = no-tf (sym e ∙ f)
-first-false false b r e f = refl

@@ -1,12 +1,12 @@
 -- What makes a call on a well-formed desk what `Ran` asks, for any edit: a refusal before the steps, a desk that stays, or steps on scratch tables and their end.
 use mathlib.Core.Path.{_≡_, refl, sym, ap, ap₂, _∙_, subst}
-use mathlib.Core.Bool.{true, false, cond}
+use mathlib.Core.Bool.{true, false, cond, and-false}
 use mathlib.Core.List.{List, [], _∷_, _++_}
 use Prim.Native.Nat.{ℕ, suc, _+_, _*_, _-_, _/_, _≤_, _<_}
 use native.Mathlib.Omega.{arith}
 use lib.Dec.{leb}
 use lib.ListN.{length, getD, drop, length-append, length-drop}
-use borrow.Author.Tests.{leb-true, le-leb, ne-eqb}
+use borrow.Author.Tests.{leb-true, le-leb, lt-leb, ne-eqb}
 use Rattle.table.specs.Order.{Linked, countOf}
 use Rattle.model.specs.MagicString.{MagicString, Result, err}
 use Rattle.model.specs.Limits.{Limits, full, within, piece-count, byte-count}
@@ -43,6 +43,11 @@ pub record Roomy (n : ℕ) (t : List ℕ) : Type 0 where
 pub small-source : (source t p s : List ℕ) → within full (magicStringOf source t p s) ≡ true → length source ≤ 16384
 unfolding within magicStringOf
 small-source source t p s e = leb-true (length source) 16384 (and-left (leb (length source) 16384) _ e)
+
+pub past-bytes : (m : MagicString) → 32768 < byte-count m → within full m ≡ false
+unfolding within
+past-bytes m h =
+    rw (lt-leb (byte-count m) 32768 h, and-false (leb (piece-count m) 1024), and-false (leb (length (m .chunks)) 512), and-false (leb (length (m .source)) 16384))
 
 pub few-chunks : (source t p s : List ℕ) → within full (magicStringOf source t p s) ≡ true → countOf t ≤ 512
 unfolding within magicStringOf

@@ -1,28 +1,15 @@
 // What calls on scratch tables share: the lent tables are copied into them, the steps run there, and the desk that they leave is written back if it keeps the limits.
 ghost use mathlib.Core.Path.{_≡_};
-ghost use mathlib.Core.Bool.{true};
-ghost use mathlib.Core.List.{[], _∷_};
+ghost use mathlib.Core.List.{[]};
 ghost use Prim.Native.Nat.{_+_, _≤_, min};
 ghost use lib.ListN.{length};
 ghost use Rattle.table.specs.Order.{entryOf};
-ghost use Rattle.utf8.specs.Rfc3629.{utf8, between};
-ghost use Rattle.model.specs.Text.{sum, all};
+ghost use Rattle.model.specs.Text.{sum};
 ghost use Rattle.model.specs.Limits.{within, chunk-pieces, chunk-bytes};
 ghost use Rattle.memory.specs.Layout.{runOf, chunkOf, magicStringOf};
 ghost use Rattle.memory.specs.WellFormed.{limitsBy, RunIn, EntryIn, Readable, Sized};
 ghost use Rattle.rebuild.specs.Rebuilt.{Finished};
 ghost use Rattle.frame.specs.Loaded.{Loaded};
-
-// Whether two positions stand between characters: those of an edit of a range.
-pub fn between_both(source: &[u8], a: u32, b: u32) -> bool
-    requires { ⌜ utf8 (now source) ≡ true ⌝ }
-    ensures { λ r. ⌜ r ≡ all (between (now (source .entry))) (a ∷ b ∷ []) ⌝ }
-{
-    if utf8::boundary(source, a as usize) {
-        return utf8::boundary(source, b as usize);
-    }
-    false
-}
 
 // The lent tables, at the front of the scratch tables.
 pub fn load(
@@ -109,7 +96,7 @@ pub fn keeps(t: &[u32], p: &[u32], s: &[u8], cmax: u32, pmax: usize, bmax: usize
     let c = count_row(
         p,
         s,
-        rebuild::own_row(z),
+        texts::own_row(z),
         Counts {
             pieces: 0,
             bytes: 0,

@@ -9,7 +9,7 @@ ghost use Rattle.memory.specs.WellFormed.{WellFormed};
 ghost use Rattle.memory.specs.Calls.{Told};
 ghost use Rattle.has_changed.specs.Changed.{prefix};
 use fragments::Cursor;
-use texts::Answer;
+use memory::Answer;
 
 // Whether the source from o on begins with t.
 fn begins(source: &[u8], o: usize, t: &[u8]) -> bool

@@ -10,7 +10,7 @@ ghost use Rattle.memory.specs.WellFormed.{WellFormed};
 ghost use Rattle.memory.specs.Calls.{Told};
 ghost use Rattle.indent_string.specs.Lines.{NoFeeds, Seeking, NextLine, Counts};
 ghost use Rattle.indent_string.specs.Guess.{indentor-text, Guessed};
-use texts::Answer;
+use memory::Answer;
 
 // The guessed indent: one tab, or some spaces.
 pub struct Indentor {

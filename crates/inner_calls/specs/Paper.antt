@@ -4,7 +4,7 @@ use mathlib.Core.Path.{_≡_}
 use mathlib.Core.List.{List}
 use Rattle.memory.specs.WellFormed.{WellFormed}
 use Rattle.memory.specs.Calls.{Same}
-use Rattle.texts.specs.declared.Answer.{Answer}
+use Rattle.memory.specs.declared.Answer.{Answer}
 
 -- On any memory: 2 and nothing written where it holds no well-formed desk; else one is left, and some calls are made.
 pub record PaperMade (source t p s numbers t′ p′ s′ numbers′ : List ℕ) (r : Answer) : Type 0 where

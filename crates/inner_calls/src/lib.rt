@@ -8,7 +8,7 @@ ghost use Rattle.memory_used.specs.Above.{Desk};
 ghost use Rattle.inner_calls.specs.Paper.{PaperMade};
 use memory_used::Outcome;
 use memory_used::Used;
-use texts::Answer;
+use memory::Answer;
 use well_formed::Seen;
 
 // A call of a paper: its kind, up to three numbers, and where its text lies among the texts.

@@ -1,6 +1,6 @@
 -- The insertions past their tests: the cut, the search and the piece, and the call that they make.
 use mathlib.Core.Path.{_≡_, refl, sym, ap, _∙_}
-use mathlib.Core.Bool.{Bool, true, false, _||_, cond, and-false}
+use mathlib.Core.Bool.{Bool, true, false, _||_, cond}
 use mathlib.Core.List.{List, [], _∷_}
 use mathlib.Core.Option.{Option, none, some}
 use mathlib.Core.Logic.{_⊎_, inl, inr}
@@ -8,11 +8,10 @@ use Prim.Native.Nat.{ℕ, _+_, _≤_, _<_}
 use native.Mathlib.Omega.{arith}
 use lib.Dec.{leb, eqb}
 use lib.ListN.{length}
-use borrow.Author.Tests.{lt-leb}
 use Rattle.model.specs.Text.{Text, sum, is-some}
 use Rattle.model.specs.Chunk.{Chunk, Texts, with-texts, start-of, end-of}
 use Rattle.model.specs.MagicString.{MagicString, Result, ok, err, and-then, with-chunks, with-intro, with-outro, by-start, by-end, at-start, at-end, holder, refuses-split, split-holder, split-at}
-use Rattle.model.specs.Limits.{full, within, chunk-bytes, byte-count, piece-count}
+use Rattle.model.specs.Limits.{full, within, chunk-bytes, byte-count}
 use Rattle.model.specs.Call.{Edit, steps, refused-before}
 use Rattle.model.specs.Lists.{sum-append}
 use Rattle.memory.specs.Layout.{magicStringOf}
@@ -22,7 +21,7 @@ use Rattle.memory.specs.Calls.{idle, Ran}
 use Rattle.texts.specs.Carry.{withText}
 use Rattle.rebuild.specs.Rebuilt.{Finished}
 use Rattle.frame.specs.Loaded.{Loaded}
-use Rattle.frame.specs.Frame.{Did, loaded-desk, ran-finished, ran-same, ran-past-limits, may-write-0}
+use Rattle.frame.specs.Frame.{past-bytes, Did, loaded-desk, ran-finished, ran-same, ran-past-limits, may-write-0}
 use Rattle.split.specs.Lift.{DeskSmall, desk-small}
 use Rattle.split.specs.Cuts.{Spans, CutsDone, loaded-spans}
 use Rattle.insert_row.specs.Piece.{LongScratch}
@@ -43,11 +42,6 @@ pub record InsertSteps (left front : Bool) (q : ℕ) (text p s t t' p' s' : List
 pub with-sum : (front : Bool) (t : Text) (ts : List Text) → sum length (withText front t ts) ≡ length t + sum length ts
 with-sum true t ts = refl
 with-sum false t ts = sum-append length ts (t ∷ []) ∙ omega arith
-
-pub past-bytes : (m : MagicString) → 32768 < byte-count m → within full m ≡ false
-unfolding within
-past-bytes m h =
-    rw (lt-leb (byte-count m) 32768 h, and-false (leb (piece-count m) 1024), and-false (leb (length (m .chunks)) 512), and-false (leb (length (m .source)) 16384))
 
 module _ (q n : ℕ) (f : Texts → Texts) (big : (c : Chunk) → n ≤ chunk-bytes (with-texts f c)) where
   end-big : (cs : List Chunk) (d : Chunk) → by-end q cs ≡ some d → n ≤ sum chunk-bytes (at-end q f cs)

@@ -11,6 +11,7 @@ use Rattle.table.specs.declared.Row.{Row}
 use Rattle.table.specs.declared.Piece.{Piece}
 use Rattle.table.specs.Table.{rowAt, Put}
 use Rattle.table.specs.Order.{Entry, entryOf, entryAt}
+pub use Rattle.table.specs.Sides.{side, with-side}
 use Rattle.model.specs.Text.{Text}
 use Rattle.memory.specs.Layout.{Place, runOf}
 use Rattle.memory.specs.WellFormed.{RunIn, WellFormed, RunsIn}
@@ -21,30 +22,9 @@ use Rattle.frame.specs.Loaded.{Loaded}
 use Rattle.frame.specs.Frame.{Scratch}
 use Rattle.split.specs.Lift.{RunSmall}
 
--- which of a row's two runs: the outro or the intro
-abbrev pub side : Bool → Entry → Place
-side outro e = cond outro (e .outro) (e .intro)
-
 pub side-in : (outro : Bool) {p s : List ℕ} (e : Entry) → RunsIn p s e → RunIn p s (side outro e)
 side-in true e h = h .outro
 side-in false e h = h .intro
-
-abbrev pub with-side : Bool → Place → Row → Row
-with-side outro x r =
-    record {
-      start = r .start;
-      end = r .end;
-      next = r .next;
-      prev = r .prev;
-      «intro_at» = cond outro (r .«intro_at») (x .0);
-      «intro_n» = cond outro (r .«intro_n») (x .1);
-      «outro_at» = cond outro (x .0) (r .«outro_at»);
-      «outro_n» = cond outro (x .1) (r .«outro_n»);
-      «text_at» = r .«text_at»;
-      «text_n» = r .«text_n»;
-      spare0 = r .spare0;
-      spare1 = r .spare1;
-    }
 
 -- a list written over what stands behind d, not before its end
 over-cons : (x : ℕ) (d xs : List ℕ) (n : ℕ) → over (x ∷ d) (suc n) xs ≡ x ∷ over d n xs

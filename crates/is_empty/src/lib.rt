@@ -6,7 +6,7 @@ ghost use Rattle.memory.specs.Layout.{magicStringOf};
 ghost use Rattle.memory.specs.WellFormed.{WellFormed};
 ghost use Rattle.memory.specs.Calls.{Told};
 use fragments::Cursor;
-use texts::Answer;
+use memory::Answer;
 
 // `is_empty`: whether no fragment of a chunk has more than white space. Stops at the first that has.
 pub fn is_empty<'a>(source: &'a [u8], chunks: &[u32], pieces: &[u32], store: &'a [u8]) -> Answer

@@ -16,7 +16,7 @@ ghost use Rattle.texts.specs.Texts.{SpanIn};
 ghost use Rattle.fragments.specs.Sections.{fragmentsOf};
 ghost use Rattle.last_char.specs.Last.{Gives, lastOf};
 use table::Row;
-use texts::Answer;
+use memory::Answer;
 use utf8::Decoded;
 
 // No code point.

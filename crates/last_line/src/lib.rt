@@ -11,8 +11,8 @@ ghost use Rattle.memory.specs.Calls.{Told};
 ghost use Rattle.texts.specs.Over.{Wrote};
 ghost use Rattle.line_start.specs.Line.{LineFrom};
 use fragments::Cursor;
-use line_start::Start;
-use texts::Answer;
+use line_start::LineStart;
+use memory::Answer;
 
 // Writes a text from its byte `at` on into `out`, into what is left of it from o on. Returns the place behind.
 fn put_from(out: &mut [u8], o: usize, text: &[u8], at: usize) -> usize
@@ -31,7 +31,7 @@ fn write_line<'a>(
     chunks: &[u32],
     pieces: &[u32],
     store: &'a [u8],
-    line: Start,
+    line: LineStart,
     out: &mut [u8],
 )
     requires { ⌜ WellFormed (now source) (now chunks) (now pieces) (now store) ⌝ }

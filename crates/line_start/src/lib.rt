@@ -4,7 +4,7 @@ ghost use Rattle.memory.specs.WellFormed.{WellFormed};
 ghost use Rattle.line_start.specs.Line.{LineFrom};
 
 // A byte of the output: section, its row, fragment, byte of the fragment; and how many bytes stand from there on.
-pub struct Start {
+pub struct LineStart {
     pub section: u32,
     pub row: u32,
     pub item: u32,
@@ -13,7 +13,7 @@ pub struct Start {
 }
 
 // Where the last line begins: backwards over sections, fragments and bytes, left at the first line feed.
-pub fn line_start<'a>(source: &'a [u8], chunks: &[u32], pieces: &[u32], store: &'a [u8]) -> Start
+pub fn line_start<'a>(source: &'a [u8], chunks: &[u32], pieces: &[u32], store: &'a [u8]) -> LineStart
     requires { ⌜ WellFormed (now source) (now chunks) (now pieces) (now store) ⌝ }
     ensures { λ r. ⌜ LineFrom (now (source .entry)) (now (chunks .entry)) (now (pieces .entry)) (now (store .entry)) (r .section) (r .row) (r .item) (r .at) (r .n) ⌝ }
 {
@@ -43,7 +43,7 @@ pub fn line_start<'a>(source: &'a [u8], chunks: &[u32], pieces: &[u32], store: &
         }
         before = r.prev;
     }
-    Start {
+    LineStart {
         section,
         row,
         item,

@@ -2,7 +2,7 @@
 ghost use mathlib.Core.Path.{_≡_};
 ghost use Rattle.memory.specs.Calls.{Opened};
 ghost use Rattle.magic_string.specs.Exported.{Checked};
-use texts::Answer;
+use memory::Answer;
 
 #[no_mangle]
 pub extern "C" fn magic_string_open(

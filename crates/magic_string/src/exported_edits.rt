@@ -4,7 +4,7 @@ ghost use Rattle.model.specs.Call.{remove, update-with, reset, append-left, app
 ghost use Rattle.memory.specs.Calls.{Edited};
 ghost use Rattle.indent.specs.Call.{indentor-of};
 ghost use Rattle.magic_string.specs.Exported.{flag};
-use texts::Answer;
+use memory::Answer;
 use well_formed::Seen;
 
 // The answer for memory that holds no well-formed desk.

@@ -5,7 +5,7 @@ ghost use Rattle.model.specs.Call.{to-string as ToString, slice as Slice, last-
 ghost use Rattle.memory.specs.Calls.{Reported};
 ghost use Rattle.slice.specs.Walk.{endOf};
 ghost use Rattle.magic_string.specs.Exported.{flag};
-use texts::Answer;
+use memory::Answer;
 
 #[no_mangle]
 pub extern "C" fn magic_string_to_string<'a>(

@@ -100,7 +100,7 @@ pub fn live(t: &[u32], p: &[u32], s: &[u8]) -> Used
     let c = live_row(
         p,
         s,
-        rebuild::own_row(z),
+        texts::own_row(z),
         Used {
             pieces: 0,
             row: 0,

@@ -12,6 +12,7 @@ use Rattle.model.specs.Chunk.{Chunk}
 use Rattle.model.specs.Limits.{chunk-pieces, chunk-bytes, replacement-bytes}
 use Rattle.memory.specs.Layout.{NONE, Place, bytesAt, pieceAt, replacementOf, chunkOf}
 use Rattle.memory.specs.WellFormed.{ReplacementIn, EntryIn, Readable, pieceUses, byteUses, replacementUses}
+pub use Rattle.texts.specs.Own.{ownOf}
 pub use Rattle.memory_used.specs.Below.{EntryBelow}
 
 -- what lies below a row and a byte reads as before
@@ -54,10 +55,7 @@ pub record Laying (p s : List ℕ) (us vs : List Entry) (P S : List ℕ) (byte r
   pub rows : (j : ℕ) → sum (pieceUses j) vs ≡ min 1 (row - j)
   pub bytes : (b : ℕ) → sum (byteUses P b) vs ≡ min 1 (byte - b)
 
--- the desk's own row as an entry: head and tail, no span, no replacement
-abbrev pub ownOf : Row → Entry
-ownOf r = record { start = 0; end = 0; intro = (r .«intro_at», r .«intro_n»); outro = (r .«outro_at», r .«outro_n»); text = (NONE, 0) }
-
+-- the desk's own row of a table as an entry
 abbrev pub own : List ℕ → Entry
 own t = record { start = 0; end = 0; intro = entryAt t 0 .intro; outro = entryAt t 0 .outro; text = (NONE, 0) }
 

@@ -70,18 +70,6 @@ fn lay_row(
     }
 }
 
-// The desk's own row as a chunk's, with no span and no replacement.
-pub fn own_row(z: table::Row) -> table::Row
-    ensures { λ r. ⌜ entryOf r ≡ ownOf z ⌝ }
-{
-    let mut r = z;
-    r.start = 0;
-    r.end = 0;
-    r.text_at = texts::NONE;
-    r.text_n = 0;
-    r
-}
-
 // The desk's own row, linked to n chunks.
 fn top_row(r: table::Row, n: u32) -> table::Row
     ensures { λ x. ⌜ TopRow r x n ⌝ }
@@ -168,7 +156,7 @@ pub fn rebuild(
         s,
         pieces,
         store,
-        own_row(z),
+        texts::own_row(z),
         carry::Places { byte: 0, row: 0 },
     );
     table::put_row(chunks, 0, top_row(l.row, n));

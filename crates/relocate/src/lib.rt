@@ -40,7 +40,7 @@ fn between_three(source: &[u8], a: u32, b: u32, to: u32) -> bool
     ensures { λ r. ⌜ r ≡ all (between (now (source .entry))) (a ∷ b ∷ to ∷ []) ⌝ }
 {
     if utf8::boundary(source, a as usize) {
-        return frame::between_both(source, b, to);
+        return texts::between_both(source, b, to);
     }
     false
 }

@@ -33,7 +33,7 @@ use Rattle.split.specs.Cuts.{Spans, CutsDone, cuts-spans, stop}
 use Rattle.segment.specs.declared.Range.{Range}
 use Rattle.segment.specs.declared.Range.the-variants.{Whole, Broken, Nothing}
 use Rattle.segment.specs.Range.{Walked, WholeRange, BrokenRange, RangeIn, last-in}
-use Rattle.segment.specs.Chunks.{chunksAt, chunks-append, chunks-are, rows-once, rows-proper, Filled, filled-rows, starts-once, starts-inside}
+use Rattle.segment.specs.Chunks.{chunksAt, chunks-append, chunks-are, rows-once, rows-proper, NoneEmpty, filled-rows, starts-once, starts-inside}
 use Rattle.relocate_rows.specs.Relocated.{PlaceIn, Spanned, Movable, move-step, RangeMoved, RelocateDone}
 use Rattle.relocate_rows.proofs.Segment.{None, segment-none, segment-whole, segment-broken}
 use Rattle.relocate_rows.proofs.Place.{Goes, goes, stands, not-stands}
@@ -117,7 +117,7 @@ module _ (a b to : ℕ) (t : List ℕ) where
     unfolding us xs ys
     away =
         let F : ℕ → Type 0 = λ x. entryAt t x .start < entryAt t x .end in
-        let o : Filled t (us ++ ((f ∷ xs) ++ ys)) = subst (Filled t) place (filled-rows t (y .pieces) (y .store) (order t) (rows-proper (y .source) t (y .pieces) (y .store) (y .spans) (y .filled))) in
+        let o : NoneEmpty t (us ++ ((f ∷ xs) ++ ys)) = subst (NoneEmpty t) place (filled-rows t (y .pieces) (y .store) (order t) (rows-proper (y .source) t (y .pieces) (y .store) (y .spans) (y .filled))) in
         let i = starts-inside t b f xs (each-left F (f ∷ xs) ys (each-right F us ((f ∷ xs) ++ ys) o)) (w .walked .follows) in
         each-map (λ x. (entryAt t f .start ≤ entryAt t x .start) × (entryAt t x .start < entryAt t (lastOf f xs) .end)) (λ x. entryAt t x .start ≡ to → ⊥)
         (λ x h e. inside-not (omega (arith, h .0, w .walked .here)) (omega (arith, h .1, ends))) (f ∷ xs) i

@@ -4,7 +4,7 @@ ghost use mathlib.Core.Bool.{true, false};
 ghost use Rattle.replay_judge.specs.Agreed.{Agreed};
 use replay_record::Call;
 use replay_record::Expected;
-use texts::Answer;
+use memory::Answer;
 
 pub struct Outcome {
     pub agrees: bool,

@@ -2,7 +2,7 @@
 use magic_string::exported_desk;
 use magic_string::exported_edits;
 use replay_record::Call;
-use texts::Answer;
+use memory::Answer;
 
 // No call has this number.
 fn no_call() -> Answer {

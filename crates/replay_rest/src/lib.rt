@@ -3,7 +3,7 @@ use magic_string::exported_desk;
 use magic_string::exported_edits;
 use magic_string::exported_reports;
 use replay_record::Call;
-use texts::Answer;
+use memory::Answer;
 
 // No call has this number.
 fn no_call() -> Answer {

@@ -9,7 +9,7 @@ ghost use Rattle.memory.specs.Layout.{magicStringOf};
 ghost use Rattle.memory.specs.WellFormed.{WellFormed};
 ghost use Rattle.memory.specs.Calls.{Told};
 use measures::Measure;
-use texts::Answer;
+use memory::Answer;
 
 // Writes the output to the front of `out`, section by section.
 pub fn write_output<'a>(

@@ -46,10 +46,10 @@ module _ (source t p s : List ℕ) (v : Cover source (magicStringOf source t p s
   rows-proper = subst (All Proper) (chunks-are source t p s) (cover-proper v n)
 
 -- each row has a byte or more
-abbrev pub Filled : List ℕ → List ℕ → Type 0
-Filled t xs = Each (λ x. entryAt t x .start < entryAt t x .end) xs
+abbrev pub NoneEmpty : List ℕ → List ℕ → Type 0
+NoneEmpty t xs = Each (λ x. entryAt t x .start < entryAt t x .end) xs
 
-pub filled-rows : (t p s xs : List ℕ) → All Proper (chunksAt t p s xs) → Filled t xs
+pub filled-rows : (t p s xs : List ℕ) → All Proper (chunksAt t p s xs) → NoneEmpty t xs
 filled-rows t p s xs h = all-each t p s {P = Proper} xs h
 
 -- no other row behind n starts where n does
@@ -63,7 +63,7 @@ starts-once t p s vs n bs o h =
     (one-start c (chunksAt t p s bs) o' (all-back Proper (chunksAt t p s vs) (c ∷ chunksAt t p s bs) (subst (All Proper) e h)))
 
 -- ── the rows of a range start inside it ──
-pub starts-inside : (t : List ℕ) (b f : ℕ) (xs : List ℕ) → Filled t (f ∷ xs) → Follows t b f xs
+pub starts-inside : (t : List ℕ) (b f : ℕ) (xs : List ℕ) → NoneEmpty t (f ∷ xs) → Follows t b f xs
     → Each (λ x. (entryAt t f .start ≤ entryAt t x .start) × (entryAt t x .start < entryAt t (lastOf f xs) .end)) (f ∷ xs)
 starts-inside t b f [] p h = ((omega arith, p .0), tt)
 starts-inside t b f (x ∷ xs) p h =

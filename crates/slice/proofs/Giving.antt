@@ -24,7 +24,7 @@ use Rattle.memory.specs.Calls.{Told}
 use Rattle.memory.specs.Laws.{edited-is}
 use Rattle.texts.specs.Over.{over, over-front}
 use Rattle.fragments.specs.Sections.{section, rowNo, section-chunk, row-in, entries-drop}
-use Rattle.slice.specs.declared.Found.the-variants.{At, Nothing}
+use Rattle.slice.specs.declared.SliceStart.the-variants.{At, Nothing}
 use Rattle.chunk_slice.specs.Emit.{overIf}
 use Rattle.chunk_slice.specs.Given.{holdsEnd}
 use Rattle.slice.specs.Walk.{misses, startsInside, chunksOf, sliceWalk, walk-rest, Fits, Out, Gives, endOf, Starts, FoundStart}

@@ -14,7 +14,7 @@ use Rattle.model.specs.Chunk.{Chunk, start-of, end-of}
 use Rattle.model.specs.Slice.{contains-end, find-start, from, nothing, Start}
 use Rattle.memory.specs.Layout.{chunkOf}
 use Rattle.fragments.specs.Sections.{section, sectionAt, rowNo, row-edge, row-first, row-in, section-chunk, entries-drop, entries-end}
-use Rattle.slice.specs.declared.Found.the-variants.{At, Nothing}
+use Rattle.slice.specs.declared.SliceStart.the-variants.{At, Nothing}
 use Rattle.chunk_slice.specs.Given.{holdsEnd}
 use Rattle.slice.specs.Walk.{misses, chunksOf, Starts, FoundStart, Seeking}
 

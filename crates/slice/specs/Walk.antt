@@ -14,8 +14,8 @@ use mathlib.Core.Option.{Option, none, some}
 use Rattle.chunk_slice.specs.Emit.{overIf}
 use Rattle.memory.specs.Layout.{chunkOf, NONE}
 use Rattle.fragments.specs.Sections.{section, rowNo}
-use Rattle.slice.specs.declared.Found.{Found}
-use Rattle.slice.specs.declared.Found.the-variants.{At, Nothing}
+use Rattle.slice.specs.declared.SliceStart.{SliceStart}
+use Rattle.slice.specs.declared.SliceStart.the-variants.{At, Nothing}
 use Rattle.chunk_slice.specs.Given.{holdsEnd}
 
 -- ---- the first loop
@@ -32,7 +32,7 @@ pub record Starts (t : List ℕ) (start end k row : ℕ) : Type 0 where
   pub holds : misses start (section t (suc k) .start) (section t (suc k) .end) ≡ false
   pub find : (p s : List ℕ) → find-start start end (chunksOf p s (entries t)) ≡ from (chunkOf p s (section t (suc k))) (chunksOf p s (drop (suc k) (entries t)))
 
-unfoldable pub FoundStart : List ℕ → ℕ → ℕ → Found → Type 0
+unfoldable pub FoundStart : List ℕ → ℕ → ℕ → SliceStart → Type 0
 FoundStart t start end (At k row) = Starts t start end k row
 FoundStart t start end Nothing = (p s : List ℕ) → find-start start end (chunksOf p s (entries t)) ≡ nothing
 

@@ -15,10 +15,10 @@ ghost use Rattle.memory.specs.WellFormed.{WellFormed};
 ghost use Rattle.memory.specs.Calls.{Told};
 ghost use Rattle.fragments.specs.Sections.{rowNo};
 ghost use Prim.Native.Nat.{suc};
-use texts::Answer;
+use memory::Answer;
 
 // Where the slice begins: the chunk's number in the list, and its row.
-pub enum Found {
+pub enum SliceStart {
     At { chunk: u32, row: u32 },
     Nothing,
 }
@@ -31,7 +31,7 @@ fn misses_start(at: u32, start: u32, stop: u32) -> bool
 }
 
 // The chunk that holds the start; nothing where one that holds the end is met first, or none holds the start.
-fn find_start(chunks: &[u32], start: u32, end: u32) -> Found
+fn find_start(chunks: &[u32], start: u32, end: u32) -> SliceStart
     requires { ⌜ Linked (now chunks) ⌝ }
     ensures { λ r. ⌜ FoundStart (now (chunks .entry)) start end r ⌝ }
 {
@@ -42,15 +42,15 @@ fn find_start(chunks: &[u32], start: u32, end: u32) -> Found
     while k < n {
         let r = table::get_row(chunks, row);
         if !misses_start(start, r.start, r.end) {
-            return Found::At { chunk: k, row };
+            return SliceStart::At { chunk: k, row };
         }
         if chunk_slice::contains_end(r.start, r.end, end) {
-            return Found::Nothing;
+            return SliceStart::Nothing;
         }
         row = r.next;
         k += 1;
     }
-    Found::Nothing
+    SliceStart::Nothing
 }
 
 // Whether the end lies inside a replaced chunk.
@@ -201,7 +201,7 @@ fn slice_to<'a>(
     ensures { λ r. ⌜ Gives (sliced-into (length (now (out .entry))) (sliceOf start end (magicStringOf (now (source .entry)) (now (chunks .entry)) (now (pieces .entry)) (now (store .entry)))))
         (now (out .entry)) (now (out .exit)) (r .number) (r .value) ⌝ }
 {
-    let Found::At { chunk, row } = find_start(chunks, start, end) else {
+    let SliceStart::At { chunk, row } = find_start(chunks, start, end) else {
         return Answer {
             number: 0,
             value: 0,

@@ -3,3 +3,4 @@ pub mod Table
 pub mod Ring
 pub mod Order
 pub mod Pieces
+pub mod Sides

@@ -5,6 +5,8 @@ ghost use lib.ListN.{length};
 ghost use lib.Seq.{sets};
 ghost use Rattle.table.specs.Table.{rowAt, Put};
 ghost use Rattle.table.specs.Pieces.{pieceAt, PutPiece};
+ghost use Rattle.table.specs.Order.{entryOf};
+ghost use Rattle.table.specs.Sides.{side as sideOf, with-side};
 
 pub struct Row {
     pub start: u32,
@@ -98,4 +100,35 @@ pub fn put_piece(t: &mut [u32], i: u32, r: Piece)
 {
     let w = [r.at, r.n];
     put_words(t, i as usize * 2, &w);
+}
+
+// A row's outro, or its intro.
+pub fn side(r: Row, outro: bool) -> Piece
+    ensures { λ x. ⌜ (x .at, x .n) ≡ sideOf outro (entryOf r) ⌝ }
+{
+    if outro {
+        return Piece {
+            at: r.outro_at,
+            n: r.outro_n,
+        };
+    }
+    Piece {
+        at: r.intro_at,
+        n: r.intro_n,
+    }
+}
+
+// The row with another outro, or intro.
+pub fn with_side(r: Row, outro: bool, at: u32, n: u32) -> Row
+    ensures { λ x. ⌜ x ≡ with-side outro (at, n) r ⌝ }
+{
+    let mut x = r;
+    if outro {
+        x.outro_at = at;
+        x.outro_n = n;
+        return x;
+    }
+    x.intro_at = at;
+    x.intro_n = n;
+    x
 }

@@ -6,13 +6,12 @@ ghost use lib.ListN.{length, drop};
 ghost use Rattle.memory.specs.Layout.{bytesAt, pieceAt};
 ghost use Rattle.memory.specs.WellFormed.{PieceIn};
 ghost use Rattle.texts.specs.Texts.{ContentIn, contentAt};
-
-// What an exported call gives back: the number, and the value of a report (0 where nothing is reported).
-#[repr(C)]
-pub struct Answer {
-    pub number: u32,
-    pub value: u32,
-}
+ghost use Rattle.texts.specs.Own.{ownOf};
+ghost use mathlib.Core.Bool.{true};
+ghost use mathlib.Core.List.{[], _∷_};
+ghost use Rattle.utf8.specs.Rfc3629.{utf8, between};
+ghost use Rattle.table.specs.Order.{entryOf};
+ghost use Rattle.model.specs.Text.{all};
 
 // The mark in a chunk row's text_at that says: no replacement.
 pub const NONE: u32 = 0xFFFF_FFFF;
@@ -74,4 +73,27 @@ pub fn content<'a>(
     }
     let from = at as usize;
     &store[from..from + n as usize]
+}
+
+// The desk's own row as a chunk's, with no span and no replacement.
+pub fn own_row(z: table::Row) -> table::Row
+    ensures { λ r. ⌜ entryOf r ≡ ownOf z ⌝ }
+{
+    let mut r = z;
+    r.start = 0;
+    r.end = 0;
+    r.text_at = NONE;
+    r.text_n = 0;
+    r
+}
+
+// Whether two positions stand between characters: those of an edit of a range.
+pub fn between_both(source: &[u8], a: u32, b: u32) -> bool
+    requires { ⌜ utf8 (now source) ≡ true ⌝ }
+    ensures { λ r. ⌜ r ≡ all (between (now (source .entry))) (a ∷ b ∷ []) ⌝ }
+{
+    if utf8::boundary(source, a as usize) {
+        return utf8::boundary(source, b as usize);
+    }
+    false
 }

@@ -88,9 +88,9 @@ here-short source t p s g item w h k =
     omega (arith, rest-bound Bytes source t p s g item w, ap (sum length) (rest-cons source t p s g item h k))
 
 -- ---- the sums
-pub whole-is : (m : Measure) (source t p s : List ℕ) (stop n : ℕ) → WellFormed source t p s → stop ≡ countOf t + 2
-    → n + sum (measureOf m) (rest source t p s stop 0) ≡ sum (measureOf m) (rest source t p s 0 0) → Whole m (magicStringOf source t p s) n
-whole-is m source t p s stop n w x e =
+pub whole-is : (m : Measure) (source t p s : List ℕ) (stop n : ℕ) → WellFormed source t p s
+    → n + sum (measureOf m) (rest source t p s stop 0) ≡ sum (measureOf m) (rest source t p s 0 0) → stop ≡ countOf t + 2 → Whole m (magicStringOf source t p s) n
+whole-is m source t p s stop n w e x =
     let z : sum (measureOf m) (rest source t p s stop 0) ≡ 0 = ap (sum (measureOf m)) (rest-end source t p s stop 0 (omega arith)) in
     let a : sum (measureOf m) (rest source t p s 0 0) ≡ sum (measureOf m) (fragments (magicStringOf source t p s)) = ap (sum (measureOf m)) (rest-first source t p s) ∙ sum-sections (measureOf m) (measure-nil m) source t p s (w .readable .linked) in
     record { total = omega arith; short = omega (arith, rest-bound m source t p s 0 0 w) }
@@ -108,6 +108,6 @@ chunks-sum f source t p s stop n l x e =
     let r : sum f (F (drop stop (sections t))) ≡ sum f (F (tailOf t ∷ [])) = ap (λ (x : List Entry). sum f (F x)) b in
     omega arith
 
-pub chunks-is : (m : Measure) (source t p s : List ℕ) (stop n : ℕ) → WellFormed source t p s → stop ≡ countOf t + 1
-    → n + sum (measureOf m) (rest source t p s stop 0) ≡ sum (measureOf m) (rest source t p s 1 0) → OfChunks m (magicStringOf source t p s) n
-chunks-is m source t p s stop n w x e = record { total = chunks-sum (measureOf m) source t p s stop n (w .readable .linked) x e }
+pub chunks-is : (m : Measure) (source t p s : List ℕ) (stop n : ℕ) → WellFormed source t p s
+    → n + sum (measureOf m) (rest source t p s stop 0) ≡ sum (measureOf m) (rest source t p s 1 0) → stop ≡ countOf t + 1 → OfChunks m (magicStringOf source t p s) n
+chunks-is m source t p s stop n w e x = record { total = chunks-sum (measureOf m) source t p s stop n (w .readable .linked) x e }

@@ -4,6 +4,9 @@ ghost use Rattle.memory_used.specs.Above.{Desk, Leaves};
 use memory_used::Outcome;
 use memory_used::Used;
 
+// The patterns are 0, white space, and 1, line ends.
+const LAST_PATTERN: u32 = 1;
+
 // `trim_start`: 15 for a pattern above 1; the head, then the chunks from the first on.
 pub fn trim_start(
     source: &[u8],
@@ -17,7 +20,7 @@ pub fn trim_start(
     ensures { λ o. ⌜ Leaves (trim-start pattern) (now (source .entry)) (now (chunks .entry)) (now (pieces .entry)) (now (store .entry))
         (now (chunks .exit)) (now (pieces .exit)) (now (store .exit)) o ⌝ }
 {
-    if pattern > 1 {
+    if pattern > LAST_PATTERN {
         return Outcome { number: 15, used };
     }
     trim_call::trim_with(source, chunks, pieces, store, false, true, pattern, used)
@@ -36,7 +39,7 @@ pub fn trim_end(
     ensures { λ o. ⌜ Leaves (trim-end pattern) (now (source .entry)) (now (chunks .entry)) (now (pieces .entry)) (now (store .entry))
         (now (chunks .exit)) (now (pieces .exit)) (now (store .exit)) o ⌝ }
 {
-    if pattern > 1 {
+    if pattern > LAST_PATTERN {
         return Outcome { number: 15, used };
     }
     trim_call::trim_with(source, chunks, pieces, store, false, false, pattern, used)
@@ -55,7 +58,7 @@ pub fn trim(
     ensures { λ o. ⌜ Leaves (trim pattern) (now (source .entry)) (now (chunks .entry)) (now (pieces .entry)) (now (store .entry))
         (now (chunks .exit)) (now (pieces .exit)) (now (store .exit)) o ⌝ }
 {
-    if pattern > 1 {
+    if pattern > LAST_PATTERN {
         return Outcome { number: 15, used };
     }
     trim_call::trim_with(source, chunks, pieces, store, true, true, pattern, used)

@@ -5,7 +5,7 @@ use native.Mathlib.Omega.{arith}
 use Rattle.table.specs.Order.{Entry}
 use Rattle.memory.specs.Layout.{Place}
 use Rattle.texts.specs.Carry.{Below}
-use Rattle.trim_run.specs.Low.{RunsLow}
+use Rattle.texts.specs.Low.{RunsLow}
 use Rattle.trim_row.specs.RunEnds.{RunTo, RunsTo}
 
 module _ (p : List ℕ) (byte row : ℕ) where

@@ -14,7 +14,7 @@ use Rattle.model.specs.Text.{Text, sum}
 use Rattle.model.specs.Chunk.{Chunk, start-of, end-of}
 use Rattle.model.specs.MagicString.{MagicString}
 use Rattle.memory.specs.Layout.{NONE, Place, bytesAt, replacementOf, chunkOf}
-use Rattle.trim_run.specs.Low.{TextLow}
+use Rattle.texts.specs.Low.{TextLow}
 
 -- the width of a span whose chunk has no replacement
 abbrev pub plain-or : Option Text → ℕ → ℕ

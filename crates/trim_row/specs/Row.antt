@@ -28,7 +28,7 @@ use Rattle.texts.specs.Texts.{SpanIn, contentAt, run-tabulate}
 use Rattle.texts.specs.Carry.{Below}
 use Rattle.trim_text.specs.Sides.{trim-text, blank, PlaceTrimmed}
 use Rattle.trim_run.specs.Deque.{trim-deque, all-nil-deque, deque-nil}
-use Rattle.trim_run.specs.Low.{RowsKept, BytesKept, rows-same, bytes-same, none-below, TextLow, RunsLow, EntryLow, run-same, run-still, run-in}
+use Rattle.texts.specs.Low.{RowsKept, BytesKept, rows-same, bytes-same, none-below, TextLow, RunsLow, EntryLow, run-same, run-still, run-in}
 use Rattle.trim_run.specs.Run.{RunReady, RowRoom, RunTrimmed}
 use Rattle.memory.specs.Laws.{no-run, none-text, some-text, among-none}
 use Rattle.trim_row.specs.Uses.{NoMore, no-more-none, no-more-same, no-more-trimmed, rows-above, among-most, text-before, text-within, text-empty, Fewer, RowApart, row-apart}

@@ -15,7 +15,7 @@ use Rattle.counts.specs.Counts.{sum-to}
 use Rattle.counts.specs.Sums.{sum-zero, sum-same, sum-le, sum-mono}
 use Rattle.counts.specs.Lists.{sum-tabulate}
 use Rattle.memory.specs.Laws.{among-in, among-out, among-none}
-use Rattle.trim_run.specs.Low.{RowsKept, TextLow, RunsLow, EntryLow}
+use Rattle.texts.specs.Low.{RowsKept, TextLow, RunsLow, EntryLow}
 use Rattle.trim_run.specs.Run.{Within, RunTrimmed}
 
 -- ---- places

@@ -6,7 +6,7 @@ ghost use lib.ListN.{length};
 ghost use Rattle.texts.specs.Over.{over};
 ghost use Rattle.table.specs.Order.{entryOf};
 ghost use Rattle.trim_text.specs.Sides.{blank};
-ghost use Rattle.trim_run.specs.Low.{TextLow};
+ghost use Rattle.texts.specs.Low.{TextLow};
 ghost use Rattle.trim_row.specs.Plain.{Behind};
 ghost use Rattle.trim_row.specs.RunEnds.{RunTo, RunBehind, RunsTo, RunsBehind};
 ghost use Rattle.trim_row.specs.Row.{nearOf, farOf, withSides, clearedText, clearOf, blankRow, contentOf, placeOf, Rewritten, RowReady, RowFits, PartIs, ContentReady, ContentTrimmed, RowDone};
@@ -23,69 +23,32 @@ pub struct Ends {
 pub fn near(r: Row, front: bool) -> Piece
     ensures { λ q. ⌜ placeOf q ≡ nearOf front (entryOf r) ⌝ }
 {
-    if front {
-        return Piece {
-            at: r.intro_at,
-            n: r.intro_n,
-        };
-    }
-    Piece {
-        at: r.outro_at,
-        n: r.outro_n,
-    }
+    table::side(r, !front)
 }
 
 // The pieces that it takes last.
 fn far(r: Row, front: bool) -> Piece
     ensures { λ q. ⌜ placeOf q ≡ farOf front (entryOf r) ⌝ }
 {
-    if front {
-        return Piece {
-            at: r.outro_at,
-            n: r.outro_n,
-        };
-    }
-    Piece {
-        at: r.intro_at,
-        n: r.intro_n,
-    }
-}
-
-// The row with other runs and another replacement.
-fn with_sides(r: Row, front: bool, near: Piece, far: Piece, text: Piece) -> Row
-    ensures { λ q. ⌜ Rewritten r q (withSides front (entryOf r) (placeOf near) (placeOf far) (placeOf text)) ⌝ }
-{
-    let mut q = r;
-    q.text_at = text.at;
-    q.text_n = text.n;
-    if front {
-        q.intro_at = near.at;
-        q.intro_n = near.n;
-        q.outro_at = far.at;
-        q.outro_n = far.n;
-        return q;
-    }
-    q.intro_at = far.at;
-    q.intro_n = far.n;
-    q.outro_at = near.at;
-    q.outro_n = near.n;
-    q
+    table::side(r, front)
 }
 
 // The row with another run on the near side.
 pub fn with_near(r: Row, front: bool, run: Piece) -> Row
     ensures { λ q. ⌜ Rewritten r q (withSides front (entryOf r) (placeOf run) (farOf front (entryOf r)) (entryOf r .text)) ⌝ }
 {
-    with_sides(
-        r,
-        front,
-        run,
-        far(r, front),
-        Piece {
-            at: r.text_at,
-            n: r.text_n,
-        },
-    )
+    table::with_side(r, !front, run.at, run.n)
+}
+
+// The row with other runs and another replacement.
+fn with_sides(r: Row, front: bool, near: Piece, far: Piece, text: Piece) -> Row
+    ensures { λ q. ⌜ Rewritten r q (withSides front (entryOf r) (placeOf near) (placeOf far) (placeOf text)) ⌝ }
+{
+    let x = table::with_side(r, !front, near.at, near.n);
+    let mut q = table::with_side(x, front, far.at, far.n);
+    q.text_at = text.at;
+    q.text_n = text.n;
+    q
 }
 
 // The replacement of a chunk whose content is blank: empty, but what it was where the content was empty already.

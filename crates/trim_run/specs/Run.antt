@@ -23,7 +23,7 @@ use Rattle.texts.specs.Texts.{tabulate-ext, tabulate-cons, run-tabulate, run-pi
 use Rattle.texts.specs.Carry.{Below}
 use Rattle.trim_text.specs.Sides.{trim-text, blank, all-append, PlaceTrimmed}
 use Rattle.trim_run.specs.Deque.{trim-deque, deque-front, deque-back}
-use Rattle.trim_run.specs.Low.{RowsKept}
+use Rattle.texts.specs.Low.{RowsKept}
 
 -- the text of a row
 abbrev pub textAt : List ℕ → List ℕ → ℕ → Text

@@ -25,9 +25,8 @@ use Rattle.rows.specs.declared.Found.the-variants.{At, Nothing}
 use Rattle.rebuild.specs.Rebuilt.{Finished}
 use Rattle.frame.specs.Front.{desk-front}
 use Rattle.frame.specs.Loaded.{Loaded}
-use Rattle.frame.specs.Frame.{Scratch, Did, loaded-readable, loaded-desk, ran-finished, ran-past-limits, may-write-0, may-write-leaving}
+use Rattle.frame.specs.Frame.{past-bytes, Scratch, Did, loaded-readable, loaded-desk, ran-finished, ran-past-limits, may-write-0, may-write-leaving}
 use Rattle.split.specs.Cuts.{Spans, CutsDone, loaded-spans, stop}
-use Rattle.insert_row.specs.Calls.{past-bytes}
 use Rattle.rows.specs.Insert.{Placed}
 use Rattle.uses.specs.Kept.{kept-then}
 use Rattle.update_rows.specs.Walk.{Walked}

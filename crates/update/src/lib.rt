@@ -188,7 +188,7 @@ pub fn update_with(
         (now (chunks .exit)) (now (pieces .exit)) (now (store .exit)) o ⌝ }
 {
     if utf8::valid(text) {
-        if frame::between_both(source, start, end) {
+        if texts::between_both(source, start, end) {
             if start == end {
                 return Outcome { number: 5, used };
             }

@@ -13,7 +13,6 @@ use Rattle.frame.proofs.keeps.Tie as tie
 use Rattle.frame.proofs.keeps.Reads as reads
 use Rattle.frame.proofs.keeps.Lts as lts
 use Rattle.frame.proofs.count_row.Reads as count-row-reads
-use Rattle.rebuild.proofs.own_row.Reads as own-row-reads
 use Rattle.table.proofs.get_row.Reads as get-row-reads
 
 abbrev Inv-loop : tie.InvT-loop

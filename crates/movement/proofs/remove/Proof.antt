@@ -8,7 +8,6 @@ use Rattle.movement.proofs.remove.Statement.{statement}
 use Rattle.movement.proofs.remove.Tie as tie
 use Rattle.movement.proofs.remove.Reads as reads
 use Rattle.movement.proofs.remove.Lts as lts
-use Rattle.frame.proofs.between_both.Reads as between-both-reads
 use Rattle.movement.proofs.range_with.Reads as range-with-reads
 
 between-both-requires : tie.Need-between-both-requires

@@ -15,7 +15,6 @@ use Rattle.on_top.proofs.live.Tie as tie
 use Rattle.on_top.proofs.live.Reads as reads
 use Rattle.on_top.proofs.live.Lts as lts
 use Rattle.on_top.proofs.live_row.Reads as live-row-reads
-use Rattle.rebuild.proofs.own_row.Reads as own-row-reads
 use Rattle.table.proofs.get_row.Reads as get-row-reads
 
 abbrev Inv-loop : tie.InvT-loop

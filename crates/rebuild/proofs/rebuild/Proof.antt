@@ -10,7 +10,6 @@ use Rattle.rebuild.proofs.rebuild.Reads as reads
 use Rattle.rebuild.proofs.rebuild.Lts as lts
 use Rattle.rebuild.proofs.lay_rest.Reads as lay-rest-reads
 use Rattle.rebuild.proofs.lay_row.Reads as lay-row-reads
-use Rattle.rebuild.proofs.own_row.Reads as own-row-reads
 use Rattle.rebuild.proofs.top_row.Reads as top-row-reads
 use Rattle.table.proofs.get_row.Reads as get-row-reads
 use Rattle.table.proofs.put_row.Reads as put-row-reads

@@ -4,7 +4,6 @@ use Rattle.relocate.proofs.between_three.Statement.{statement}
 use Rattle.relocate.proofs.between_three.Tie as tie
 use Rattle.relocate.proofs.between_three.Reads as reads
 use Rattle.relocate.proofs.between_three.Lts as lts
-use Rattle.frame.proofs.between_both.Reads as between-both-reads
 
 boundary-requires : tie.Need-boundary-requires
 boundary-requires c κs = search needs

@@ -8,7 +8,6 @@ use Rattle.reset.proofs.reset.Statement.{statement}
 use Rattle.reset.proofs.reset.Tie as tie
 use Rattle.reset.proofs.reset.Reads as reads
 use Rattle.reset.proofs.reset.Lts as lts
-use Rattle.frame.proofs.between_both.Reads as between-both-reads
 use Rattle.movement.proofs.range_with.Reads as range-with-reads
 
 between-both-requires : tie.Need-between-both-requires

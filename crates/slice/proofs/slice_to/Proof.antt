@@ -2,7 +2,7 @@
 use mathlib.Core.Path.{sym, _∙_, subst}
 use native.Mathlib.Omega.{arith}
 use Rattle.slice.specs.Walk.{FoundStart}
-use Rattle.slice.specs.declared.Found.the-variants.{At}
+use Rattle.slice.specs.declared.SliceStart.the-variants.{At}
 use Rattle.slice.proofs.Giving.{given-nothing, found-in, found-row, found-fits, found-start, given-11, given-walk}
 use borrow.Author.Needs.{needs}
 use Rattle.slice.proofs.slice_to.Statement.{statement}

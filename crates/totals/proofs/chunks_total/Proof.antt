@@ -24,7 +24,9 @@ total-requires c κs =
 returns : tie.Need-returns
 returns c =
     let s = c .before .before .before .before .before .before .before in
-    chunks-is _ _ _ _ _ _ _ (s .pre) (ap (λ (r : Row). r .start + 1) (c .before .before .get-row .ensures)) (c .total .ensures)
+    let a = s .args in
+    let e = ap (λ (r : Row). r .start) (c .before .before .get-row .ensures) in
+    chunks-is (a .m) (a .source .now) (a .chunks .now) (a .pieces .now) (a .store .now) _ _ (s .pre) (c .total .ensures) (omega (arith, e))
 
 pub chunks-total-spec : {M : Type 1} → statement M
 chunks-total-spec = tie.close (tie.spec get-row-requires add-total total-requires returns)

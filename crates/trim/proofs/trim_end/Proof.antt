@@ -7,7 +7,7 @@ use Rattle.trim.proofs.trim_end.Tie as tie
 returns : tie.Need-returns
 returns c =
     let start = c .before .before .before .before .before in
-    end-refused (start .pre) (start .args .pattern) (c .if1 .taken)
+    end-refused (start .pre) (start .args .pattern) (omega (arith, c .if1 .taken))
 
 trim-with-requires : tie.Need-trim-with-requires
 trim-with-requires c κs = search needs

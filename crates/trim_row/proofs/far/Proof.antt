@@ -1,13 +1,15 @@
-use mathlib.Core.Path.{refl}
+use mathlib.Core.Path.{_∙_}
+use Rattle.table.specs.Order.{entryOf}
+use Rattle.trim_row.proofs.Runs.{far-side}
 use borrow.Author.Needs.{needs}
 use Rattle.trim_row.proofs.far.Statement.{statement}
 use Rattle.trim_row.proofs.far.Tie as tie
 
-returns : tie.Need-returns
-returns c = rw (c .if1 .taken)
+side-requires : tie.Need-side-requires
+side-requires c κs = search needs
 
-returns-2 : tie.Need-returns-2
-returns-2 c = rw (c .if1 .left)
+returns : tie.Need-returns
+returns c = let a = c .before .args in c .side .ensures ∙ far-side (a .front) (entryOf (a .r))
 
 pub far-spec : {M : Type 1} → statement M
-far-spec = tie.close (tie.spec returns returns-2)
+far-spec = tie.close (tie.spec side-requires returns)

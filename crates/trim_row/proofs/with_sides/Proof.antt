@@ -1,13 +1,19 @@
-use mathlib.Core.Path.{refl}
+use Rattle.trim_row.proofs.Runs.{sides-written}
 use borrow.Author.Needs.{needs}
 use Rattle.trim_row.proofs.with_sides.Statement.{statement}
 use Rattle.trim_row.proofs.with_sides.Tie as tie
 
-returns : tie.Need-returns
-returns c = record { entry-is = rw (c .if1 .taken); next = refl; prev = refl }
+with-side-requires : tie.Need-with-side-requires
+with-side-requires c κs = search needs
 
-returns-2 : tie.Need-returns-2
-returns-2 c = record { entry-is = rw (c .if1 .left); next = refl; prev = refl }
+with-side-requires-2 : tie.Need-with-side-requires-2
+with-side-requires-2 c κs = search needs
+
+returns : tie.Need-returns
+returns c =
+    let a = c .before .before .args in
+    sides-written (a .front) (a .r) (c .before .with-side .result) (c .with-side2 .result) (a .near .at, a .near .n) (a .far .at, a .far .n) (a .text .at, a .text .n)
+    (c .before .with-side .ensures) (c .with-side2 .ensures)
 
 pub with-sides-spec : {M : Type 1} → statement M
-with-sides-spec = tie.close (tie.spec returns returns-2)
+with-sides-spec = tie.close (tie.spec with-side-requires with-side-requires-2 returns)

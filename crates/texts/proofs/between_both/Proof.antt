@@ -1,10 +1,20 @@
 use Rattle.utf8.specs.Rfc3629.{between}
-use Rattle.frame.proofs.Counting.{both-true, first-false}
+use mathlib.Core.Path.{_≡_, refl, sym, _∙_}
+use mathlib.Core.Bool.{Bool, true, false, _&&_}
+use Rattle.model.specs.Lists.{no-tf}
 use borrow.Author.Needs.{needs}
-use Rattle.frame.proofs.between_both.Statement.{statement}
-use Rattle.frame.proofs.between_both.Tie as tie
-use Rattle.frame.proofs.between_both.Reads as reads
-use Rattle.frame.proofs.between_both.Lts as lts
+use Rattle.texts.proofs.between_both.Statement.{statement}
+use Rattle.texts.proofs.between_both.Tie as tie
+
+-- two tests, one after the other
+both-true : (a b : Bool) (r q : Bool) → r ≡ a → r ≡ true → q ≡ b → q ≡ (a && (b && true))
+both-true true true r q e f g = g
+both-true true false r q e f g = g
+both-true false b r q e f g = no-tf (sym f ∙ e)
+
+first-false : (a b : Bool) (r : Bool) → r ≡ a → r ≡ false → false ≡ (a && (b && true))
+first-false true b r e f = no-tf (sym e ∙ f)
+first-false false b r e f = refl
 
 boundary-requires : tie.Need-boundary-requires
 boundary-requires c κs = search needs
