@@ -118,3 +118,11 @@ module _ {f : MagicString → Result} {source t p s t1 p1 s1 t2 p2 s2 : List ℕ
 
     pub tried : (o : Outcome) → o .number ≡ r' → Above t' p' s' (o .used) → Tried f source t p s t' p' s' o
     tried o e a = tried-by r refl o e a
+
+-- what 13 leaves is what was there, for another way
+module _ {f : MagicString → Result} {source t p s t1 p1 s1 : List ℕ} {o : Outcome} (x : Tried f source t p s t1 p1 s1 o) (n : o .number ≡ 13) where
+  pub tried-formed : WellFormed source t p s → WellFormed source t1 p1 s1
+  tried-formed w = let a = x .same n in rw (a .chunks, a .pieces, a .store) w
+
+  pub other-way : {t' p' s' : List ℕ} {r : ℕ} → StepsRan f source t1 p1 s1 t' p' s' r → StepsRan f source t p s t' p' s' r
+  other-way g = let a = x .same n in rw (sym (a .chunks), sym (a .pieces), sym (a .store)) g
