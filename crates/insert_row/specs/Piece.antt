@@ -1,44 +1,26 @@
--- A piece more in a run of a scratch row: the run is copied behind the lent pieces with the new text, and the row names the copy.
-use mathlib.Core.Path.{_≡_, refl, sym, ap, _∙_, subst}
+-- A piece more in a run of a row: the run's rows stand behind the others with that of the new text, and the row names them.
+use mathlib.Core.Path.{_≡_, refl, ap, _∙_}
 use mathlib.Core.Bool.{Bool, true, false, cond}
-use mathlib.Core.List.{List, [], _∷_, _++_, append-nil}
-use Prim.Native.Nat.{ℕ, zero, suc, _+_, _*_, _-_, _≤_, _<_}
+use mathlib.Core.List.{List, [], _∷_, _++_}
+use Prim.Native.Nat.{ℕ, suc, _≤_, _<_}
 use native.Mathlib.Omega.{arith}
 use lib.ListN.{length, drop, length-append, length-drop}
-use Rattle.utf8.specs.Chars.{concat}
-use Rattle.utf8.specs.CharLaws.{concat-append}
 use Rattle.table.specs.declared.Row.{Row}
-use Rattle.table.specs.declared.Piece.{Piece}
 use Rattle.table.specs.Table.{rowAt, Put}
-use Rattle.table.specs.Order.{Entry, entryOf, entryAt}
+use Rattle.table.specs.Order.{Entry, entryAt}
 pub use Rattle.table.specs.Sides.{side, with-side}
 use Rattle.model.specs.Text.{Text}
 use Rattle.memory.specs.Layout.{Place, runOf}
 use Rattle.memory.specs.WellFormed.{RunIn, WellFormed, RunsIn}
-use Rattle.texts.specs.Over.{over}
-use Rattle.texts.specs.Texts.{concat-one, run-length}
-use Rattle.texts.specs.Carry.{Carried, RoomOf, withText, carried-run, carried-in, rowsFor}
+use Rattle.texts.specs.Carry.{withText}
 use Rattle.frame.specs.Loaded.{Loaded}
 use Rattle.frame.specs.Frame.{Scratch}
-use Rattle.split.specs.Lift.{RunSmall}
 
 pub side-in : (outro : Bool) {p s : List ℕ} (e : Entry) → RunsIn p s e → RunIn p s (side outro e)
 side-in true e h = h .outro
 side-in false e h = h .intro
 
--- a list written over what stands behind d, not before its end
-over-cons : (x : ℕ) (d xs : List ℕ) (n : ℕ) → over (x ∷ d) (suc n) xs ≡ x ∷ over d n xs
-unfolding over
-over-cons x d xs n = let e : suc n + length xs ≡ suc (n + length xs) = omega arith in rw e
-
-over-past : (d y xs : List ℕ) (n : ℕ) → length d ≤ n → over (d ++ y) n xs ≡ d ++ over y (n - length d) xs
-over-past [] y xs n h = let e : n - 0 ≡ n = omega arith in rw e
-over-past (x ∷ d) y xs zero h = absurd (omega arith)
-over-past (x ∷ d) y xs (suc n) h =
-    let e : suc n - suc (length d) ≡ n - length d = omega arith in
-    over-cons x (d ++ y) xs n ∙ ap (λ (l : List ℕ). x ∷ l) (over-past d y xs n (omega arith)) ∙ rw e
-
--- the lent pieces and store stand at the front of the scratch ones, with room behind for any run and a text more
+-- the lent pieces and store stand at the front of the scratch ones, with room behind for the rows of any run and one more, and for a text
 pub record Spare (p s p1 s1 : List ℕ) : Type 0 where
   pub behind : List ℕ
   pub after : List ℕ
@@ -47,7 +29,7 @@ pub record Spare (p s p1 s1 : List ℕ) : Type 0 where
   pub lent-pieces : length p ≤ 4096
   pub lent-store : length s ≤ 32768
   pub rows-room : 6146 ≤ length p1
-  pub bytes-room : 98304 ≤ length s1
+  pub bytes-room : 65536 ≤ length s1
   pub rows-narrow : length p1 < 4294967296
   pub narrow : length s1 < 4294967296
 
@@ -65,62 +47,20 @@ pub record PieceAdded (outro front : Bool) (text p s t t' p' s' : List ℕ) (i :
   pub longer : Longer p s front text (side outro (entryAt t i)) p' s' run
   pub put : Put t t' i (with-side outro run (rowAt t i))
 
--- ── the copy ──
 pub with-length : (front : Bool) (text : Text) (ts : List Text) → length (withText front text ts) ≡ suc (length ts)
 with-length true text ts = refl
 with-length false text ts = length-append ts (text ∷ []) ∙ omega arith
-
-with-bytes : (front : Bool) (text : Text) (ts : List Text) → length (concat (withText front text ts)) ≡ length text + length (concat ts)
-with-bytes true text ts = ap length (concat-append (text ∷ []) ts) ∙ length-append (concat (text ∷ [])) (concat ts) ∙ ap (λ (l : List ℕ). length l + length (concat ts)) (concat-one text)
-with-bytes false text ts =
-    ap length (concat-append ts (text ∷ [])) ∙ length-append (concat ts) (concat (text ∷ [])) ∙ ap (λ (l : List ℕ). length (concat ts) + length l) (concat-one text) ∙ omega arith
-
-pub spare-room : {p s p1 s1 : List ℕ} (front : Bool) (text : List ℕ) (x : Place) → Spare p s p1 s1 → RunSmall p s x → length text ≤ 32768
-    → RoomOf (withText front text (runOf p s x)) p1 s1 32768 2048
-spare-room {p} {s} {p1} {s1} front text x h k l =
-    let a = with-length front text (runOf p s x) in
-    let b = with-bytes front text (runOf p s x) in
-    record {
-      rows-in = omega (arith, h .rows-room, k .pieces);
-      bytes-in = omega (arith, h .bytes-room, k .bytes);
-      rows-narrow = h .rows-narrow;
-      narrow = h .narrow;
-    }
-
-module _ {p s p1 s1 : List ℕ} (front : Bool) (text : List ℕ) (x : Place) {p' s' : List ℕ} {byte' row' : ℕ} (h : Spare p s p1 s1)
-    (c : Carried (withText front text (runOf p s x)) p1 s1 32768 2048 p' s' byte' row') (room : RoomOf (withText front text (runOf p s x)) p1 s1 32768 2048) where
-  abbrev ts : List Text
-  ts = withText front text (runOf p s x)
-
-  alone : ts ≡ ts ++ []
-  alone = sym (append-nil ts)
-
-  size : length ts ≡ x .1 + 1
-  size = with-length front text (runOf p s x) ∙ omega (arith, run-length p s (x .0) (x .1))
-
-  pub longer : Longer p s front text x p' s' (2048, x .1 + 1)
-  longer =
-      let c' = subst (λ (l : List Text). Carried l p1 s1 32768 2048 p' s' byte' row') alone c in
-      let r' = subst (λ (l : List Text). RoomOf l p1 s1 32768 2048) alone room in
-      record {
-        behind = over (h .behind) (2048 * 2 - length p) (rowsFor 32768 ts);
-        after = over (h .after) (32768 - length s) (concat ts);
-        pieces = c .pieces-is ∙ ap (λ (l : List ℕ). over l (2048 * 2) (rowsFor 32768 ts)) (h .pieces) ∙ over-past p (h .behind) (rowsFor 32768 ts) (2048 * 2) (h .lent-pieces);
-        store = c .store-is ∙ ap (λ (l : List ℕ). over l 32768 (concat ts)) (h .store) ∙ over-past s (h .after) (concat ts) 32768 (h .lent-store);
-        texts = ap (λ (n : ℕ). runOf p' s' (2048, n)) (sym size) ∙ carried-run [] ts [] c' r';
-        run-in = subst (λ (n : ℕ). RunIn p' s' (2048, n)) size (carried-in [] ts [] c' r');
-      }
 
 -- the scratch tables of an insertion
 pub record LongScratch (t p s : List ℕ) : Type 0 where
   pub scratch : Scratch t p s
   pub pieces : length p ≡ 6146
-  pub store : length s ≡ 98304
+  pub store : length s ≡ 65536
 
 pub loaded-spare : {source t p s t₀ p₀ s₀ t1 p1 s1 : List ℕ} → WellFormed source t p s → LongScratch t₀ p₀ s₀ → Loaded t p s t₀ p₀ s₀ t1 p1 s1 → Spare p s p1 s1
 loaded-spare {p = p} {s = s} {p₀ = p₀} {s₀ = s₀} {p1 = p1} {s1 = s1} w f d =
     let lp : length p1 ≡ 6146 = ap length (d .pieces) ∙ simp (length-append, length-drop) (omega (arith, w .sized .pieces, f .pieces)) in
-    let ls : length s1 ≡ 98304 = ap length (d .store) ∙ simp (length-append, length-drop) (omega (arith, w .sized .store, f .store)) in
+    let ls : length s1 ≡ 65536 = ap length (d .store) ∙ simp (length-append, length-drop) (omega (arith, w .sized .store, f .store)) in
     record {
       behind = drop (length p) p₀;
       after = drop (length s) s₀;
@@ -132,18 +72,4 @@ loaded-spare {p = p} {s = s} {p₀ = p₀} {s₀ = s₀} {p1 = p1} {s1 = s1} w f
       bytes-room = omega arith;
       rows-narrow = omega arith;
       narrow = omega arith;
-    }
-
--- the row read, its run copied, and the row written
-pub piece-added : (outro front : Bool) (text : List ℕ) {p s p1 s1 p' s' t t' : List ℕ} {byte' row' : ℕ} (i : ℕ) (r : Row) (run : Piece) {x : Row}
-    → r ≡ rowAt t i → (run .at, run .n) ≡ side outro (entryOf r) → RunSmall p s (side outro (entryAt t i)) → Spare p s p1 s1 → length text ≤ 32768
-    → Carried (withText front text (runOf p s (run .at, run .n))) p1 s1 32768 2048 p' s' byte' row'
-    → x ≡ with-side outro (2048, run .n + 1) r → Put t t' i x → PieceAdded outro front text p s t t' p' s' i
-piece-added outro front text {p} {s} {p1} {s1} {p'} {s'} {t} {t'} i r run er eu small h l c ex pt =
-    let e : _≡_ {A = Place} (run .at, run .n) (side outro (entryAt t i)) = eu ∙ ap (λ (y : Row). side outro (entryOf y)) er in
-    let room = spare-room front text (run .at, run .n) h (subst (RunSmall p s) (sym e) small) l in
-    record {
-      run = (2048, run .n + 1);
-      longer = subst (λ (y : Place). Longer p s front text y p' s' (2048, run .n + 1)) e (longer front text (run .at, run .n) h c room);
-      put = subst (Put t t' i) (ex ∙ ap (with-side outro (2048, run .n + 1)) er) pt;
     }

@@ -11,7 +11,8 @@ ghost use Rattle.insert_row.specs.Calls.{Inserted, InsertSteps, InsertRan, Whol
 use memory_used::Outcome;
 use rows::Found;
 
-// A text more in front of row i's outro or intro, or behind it: the run is copied from the lent tables to the spare room of the scratch tables.
+// A text more in front of row i's outro or intro, or behind it: the rows of the run go to the spare room of the scratch tables, which begin with the lent ones, and the text
+// behind the lent store.
 fn add_piece(
     pieces: &[u32],
     store: &[u8],
@@ -32,21 +33,12 @@ fn add_piece(
 {
     let r = table::get_row(t, i);
     let run = insert_row::run_of(r, outro);
-    carry_with::carry_with(
-        pieces,
-        store,
-        text,
-        front,
-        p,
-        s,
-        run.at,
-        run.n,
-        carry::Places {
-            byte: 32768,
-            row: 2048,
-        },
+    let first = on_top::lengthen(p, s, text, front, run.at, run.n, 2048, 32768);
+    table::put_row(
+        t,
+        i,
+        insert_row::with_run(r, outro, first as u32, run.n + 1),
     );
-    table::put_row(t, i, insert_row::with_run(r, outro, 2048, run.n + 1));
 }
 
 // Behind the cut: the piece goes to the outro of the chunk that ends at q, or else to the head; to the right of q to the intro of the chunk that starts there, or
@@ -150,10 +142,10 @@ pub fn insert_scratch(
 {
     let rows = 6192usize;
     let words = 6146usize;
-    let size = 98304usize;
+    let size = 65536usize;
     let mut t = [0u32; 6192];
     let mut p = [0u32; 6146];
-    let mut s = [0u8; 98304];
+    let mut s = [0u8; 65536];
     insert_by(
         source,
         chunks,
@@ -214,10 +206,10 @@ pub fn whole_scratch(
     }
     let rows = 6192usize;
     let words = 6146usize;
-    let size = 98304usize;
+    let size = 65536usize;
     let mut t = [0u32; 6192];
     let mut p = [0u32; 6146];
-    let mut s = [0u8; 98304];
+    let mut s = [0u8; 65536];
     whole_by(
         source,
         chunks,

@@ -42,8 +42,8 @@ same-length-3 c = search needs
 returns : tie.Need-returns
 returns c = c .before .before .before .before .before .before .insert-on-top .ensures
 
-insert-scratch-requires : tie.Need-insert-scratch-requires
-insert-scratch-requires c κs = c .before .before .before .before .before .before .before .before .before .before .before .before .before .pre .well-formed
+insert-anew-requires : tie.Need-insert-anew-requires
+insert-anew-requires c κs = c .before .before .before .before .before .before .before .before .before .before .before .before .before .pre
 
 same-length-4 : tie.Need-same-length-4
 same-length-4 c = search needs
@@ -55,7 +55,7 @@ same-length-6 : tie.Need-same-length-6
 same-length-6 c = search needs
 
 returns-2 : tie.Need-returns-2
-returns-2 c = c .before .before .before .before .before .before .insert-scratch .ensures
+returns-2 c = c .before .before .before .before .before .before .insert-anew .ensures
 
 pub insert-with-spec : {M : Type 1} → statement M
 insert-with-spec =
@@ -69,7 +69,7 @@ insert-with-spec =
     same-length-2
     same-length-3
     returns
-    insert-scratch-requires
+    insert-anew-requires
     same-length-4
     same-length-5
     same-length-6

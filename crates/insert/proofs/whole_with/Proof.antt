@@ -26,8 +26,8 @@ same-length-3 c = search needs
 returns : tie.Need-returns
 returns c = c .before .before .before .before .before .before .whole-on-top .ensures
 
-whole-scratch-requires : tie.Need-whole-scratch-requires
-whole-scratch-requires c κs = c .before .before .before .before .before .before .before .before .before .before .pre .well-formed
+whole-anew-requires : tie.Need-whole-anew-requires
+whole-anew-requires c κs = c .before .before .before .before .before .before .before .before .before .before .pre
 
 same-length-4 : tie.Need-same-length-4
 same-length-4 c = search needs
@@ -39,7 +39,7 @@ same-length-6 : tie.Need-same-length-6
 same-length-6 c = search needs
 
 returns-2 : tie.Need-returns-2
-returns-2 c = c .before .before .before .before .before .before .whole-scratch .ensures
+returns-2 c = c .before .before .before .before .before .before .whole-anew .ensures
 
 pub whole-with-spec : {M : Type 1} → statement M
 whole-with-spec =
@@ -51,7 +51,7 @@ whole-with-spec =
     same-length-2
     same-length-3
     returns
-    whole-scratch-requires
+    whole-anew-requires
     same-length-4
     same-length-5
     same-length-6

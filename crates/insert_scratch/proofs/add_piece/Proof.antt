@@ -1,12 +1,14 @@
+-- `insert_scratch::add_piece` meets its contract: the run that is read is one of the lent tables, so there is room behind them.
 use mathlib.Core.Path.{_≡_, sym, ap, _∙_, subst}
 use native.Mathlib.Omega.{arith}
 use Rattle.table.specs.declared.Row.{Row}
 use Rattle.table.specs.Order.{entryOf, entryAt}
 use Rattle.memory.specs.Layout.{Place}
-use Rattle.memory.specs.WellFormed.{RunIn}
 use Rattle.texts.specs.Texts.{run-length}
 use Rattle.split.specs.Lift.{RunSmall}
-use Rattle.insert_row.specs.Piece.{side, spare-room, piece-added}
+use Rattle.on_top.specs.Run.{TopRoom}
+use Rattle.insert_row.specs.Piece.{side}
+use Rattle.insert_scratch.proofs.Behind.{behind-room, piece-added}
 use borrow.Author.Needs.{needs}
 use Rattle.insert_scratch.proofs.add_piece.Statement.{statement}
 use Rattle.insert_scratch.proofs.add_piece.Tie as tie
@@ -17,14 +19,19 @@ get-row-requires c κs = search needs
 run-of-requires : tie.Need-run-of-requires
 run-of-requires c κs = search needs
 
-carry-with-requires : tie.Need-carry-with-requires
-carry-with-requires c κs =
+lengthen-requires : tie.Need-lengthen-requires
+lengthen-requires c κs =
     let start = c .before .before .before .before .before .before .before .before .before .before .before in
     let run-of = c .before .before .run-of in
     let get-row = c .before .before .before .get-row in
     let a = start .args in
-    let e : _≡_ {A = Place} (run-of .result .at, run-of .result .n) (side (a .outro) (entryAt (a .t .now) (a .i))) = run-of .ensures ∙ ap (λ (r : Row). side (a .outro) (entryOf r)) (get-row .ensures) in
-    (subst (RunIn (a .pieces .now) (a .store .now)) (sym e) (start .pre .1 .0), spare-room (a .front) (a .text .now) (run-of .result .at, run-of .result .n) (start .pre .1 .1 .1 .0) (subst (RunSmall (a .pieces .now) (a .store .now)) (sym e) (start .pre .1 .1 .0)) (start .pre .1 .1 .1 .1))
+    let e : _≡_ {A = Place} (run-of .result .at, run-of .result .n) (side (a .outro) (entryAt (a .t .now) (a .i))) =
+    run-of .ensures ∙ ap (λ (r : Row). side (a .outro) (entryOf r)) (get-row .ensures) in
+    let room = behind-room (start .pre .1 .1 .1 .0) (side (a .outro) (entryAt (a .t .now) (a .i))) (start .pre .1 .0) (a .text .now) (start .pre .1 .1 .0) (start .pre .1 .1 .1 .1) in
+    subst (λ (x : Place). TopRoom x (a .text .now) (a .p .now) (a .s .now) 2048 32768) (sym e) room
+
+cast-with-run : tie.Need-cast-with-run
+cast-with-run c = search needs
 
 add-with-run : tie.Need-add-with-run
 add-with-run c =
@@ -32,7 +39,8 @@ add-with-run c =
     let run-of = c .before .before .before .before .before .before .before .before .before .run-of in
     let get-row = c .before .before .before .before .before .before .before .before .before .before .get-row in
     let a = start .args in
-    let e : _≡_ {A = Place} (run-of .result .at, run-of .result .n) (side (a .outro) (entryAt (a .t .now) (a .i))) = run-of .ensures ∙ ap (λ (r : Row). side (a .outro) (entryOf r)) (get-row .ensures) in
+    let e : _≡_ {A = Place} (run-of .result .at, run-of .result .n) (side (a .outro) (entryAt (a .t .now) (a .i))) =
+    run-of .ensures ∙ ap (λ (r : Row). side (a .outro) (entryOf r)) (get-row .ensures) in
     let k = subst (RunSmall (a .pieces .now) (a .store .now)) (sym e) (start .pre .1 .1 .0) in
     omega (arith, k .pieces, run-length (a .pieces .now) (a .store .now) (run-of .result .at) (run-of .result .n))
 
@@ -58,12 +66,11 @@ returns c =
     let start = c .before .before .before .before .before .before .before .before .before .before .before .before .before .before .before .before .before .before .before .before .before .before in
     let get-row = c .before .before .before .before .before .before .before .before .before .before .before .before .before .before .get-row in
     let run-of = c .before .before .before .before .before .before .before .before .before .before .before .before .before .run-of in
-    let carry-with = c .before .before .before .before .before .before .before .before .before .before .carry-with in
-    let with-run = c .before .before .before .with-run in
-    let put-row = c .before .before .put-row in
+    let lengthen = c .before .before .before .before .before .before .before .before .before .before .lengthen in
     let a = start .args in
-    piece-added (a .outro) (a .front) (a .text .now) (a .i) (get-row .result) (run-of .result) (get-row .ensures) (run-of .ensures) (start .pre .1 .1 .0) (start .pre .1 .1 .1 .0) (start .pre .1 .1 .1 .1) (carry-with .ensures)
-    (with-run .ensures) (put-row .ensures)
+    let pre = start .pre .1 in
+    piece-added (a .outro) (a .front) (a .text .now) (a .i) (get-row .result) (run-of .result) (lengthen .result) (get-row .ensures) (run-of .ensures)
+    (pre .0) (pre .1 .0) (pre .1 .1 .0) (pre .1 .1 .1) (lengthen .ensures) (c .before .before .before .with-run .ensures) (c .before .before .put-row .ensures)
 
 pub add-piece-spec : {M : Type 1} → statement M
 add-piece-spec =
@@ -71,7 +78,8 @@ add-piece-spec =
     (tie.spec
     get-row-requires
     run-of-requires
-    carry-with-requires
+    lengthen-requires
+    cast-with-run
     add-with-run
     with-run-requires
     put-row-requires

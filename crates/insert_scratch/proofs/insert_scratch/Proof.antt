@@ -22,7 +22,7 @@ array-borrow-prefix-s : tie.Need-array-borrow-prefix-s
 array-borrow-prefix-s c = search needs
 
 slice-aggregate-insert-by-3 : tie.Need-slice-aggregate-insert-by-3
-slice-aggregate-insert-by-3 c = sym (zeros-length 98304 98304 (omega arith))
+slice-aggregate-insert-by-3 c = sym (zeros-length 65536 65536 (omega arith))
 
 insert-by-requires : tie.Need-insert-by-requires
 insert-by-requires c κs = (
@@ -33,10 +33,10 @@ insert-by-requires c κs = (
           chunks = zeros-length 6192 6192 (omega arith);
           clear = zeros-at 6192 6192;
           pieces = rw (zeros-length 6146 6146 (omega arith)) (omega arith);
-          store = rw (zeros-length 98304 98304 (omega arith)) (omega arith);
+          store = rw (zeros-length 65536 65536 (omega arith)) (omega arith);
         };
     pieces = zeros-length 6146 6146 (omega arith);
-    store = zeros-length 98304 98304 (omega arith);
+    store = zeros-length 65536 65536 (omega arith);
   },
 )
 

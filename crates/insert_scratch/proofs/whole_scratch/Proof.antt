@@ -42,7 +42,7 @@ array-borrow-prefix-s : tie.Need-array-borrow-prefix-s
 array-borrow-prefix-s c = search needs
 
 slice-aggregate-whole-by-3 : tie.Need-slice-aggregate-whole-by-3
-slice-aggregate-whole-by-3 c = sym (zeros-length 98304 98304 (omega arith))
+slice-aggregate-whole-by-3 c = sym (zeros-length 65536 65536 (omega arith))
 
 whole-by-requires : tie.Need-whole-by-requires
 whole-by-requires c κs = (
@@ -54,10 +54,10 @@ whole-by-requires c κs = (
             chunks = zeros-length 6192 6192 (omega arith);
             clear = zeros-at 6192 6192;
             pieces = rw (zeros-length 6146 6146 (omega arith)) (omega arith);
-            store = rw (zeros-length 98304 98304 (omega arith)) (omega arith);
+            store = rw (zeros-length 65536 65536 (omega arith)) (omega arith);
           };
       pieces = zeros-length 6146 6146 (omega arith);
-      store = zeros-length 98304 98304 (omega arith);
+      store = zeros-length 65536 65536 (omega arith);
     },
     c .before .before .before .before .before .before .if1 .left,
   ),
