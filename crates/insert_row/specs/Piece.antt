@@ -5,6 +5,7 @@ use mathlib.Core.List.{List, [], _∷_, _++_, append-nil}
 use Prim.Native.Nat.{ℕ, zero, suc, _+_, _*_, _-_, _≤_, _<_}
 use native.Mathlib.Omega.{arith}
 use lib.ListN.{length, drop, length-append, length-drop}
+use Rattle.layout.specs.Layout.{PIECE-ROWS, PIECES-LEN, STORE-LEN, INSERT-PIECES-LEN, INSERT-STORE-LEN}
 use Rattle.utf8.specs.Chars.{concat}
 use Rattle.utf8.specs.CharLaws.{concat-append}
 use Rattle.table.specs.declared.Row.{Row}
@@ -64,10 +65,10 @@ pub record Spare (p s p1 s1 : List ℕ) : Type 0 where
   pub after : List ℕ
   pub pieces : p1 ≡ p ++ behind
   pub store : s1 ≡ s ++ after
-  pub lent-pieces : length p ≤ 4096
-  pub lent-store : length s ≤ 32768
-  pub rows-room : 6146 ≤ length p1
-  pub bytes-room : 98304 ≤ length s1
+  pub lent-pieces : length p ≤ PIECES-LEN
+  pub lent-store : length s ≤ STORE-LEN
+  pub rows-room : INSERT-PIECES-LEN ≤ length p1
+  pub bytes-room : INSERT-STORE-LEN ≤ length s1
   pub rows-narrow : length p1 < 4294967296
   pub narrow : length s1 < 4294967296
 
@@ -95,8 +96,8 @@ with-bytes true text ts = ap length (concat-append (text ∷ []) ts) ∙ length-
 with-bytes false text ts =
     ap length (concat-append ts (text ∷ [])) ∙ length-append (concat ts) (concat (text ∷ [])) ∙ ap (λ (l : List ℕ). length (concat ts) + length l) (concat-one text) ∙ omega arith
 
-pub spare-room : {p s p1 s1 : List ℕ} (front : Bool) (text : List ℕ) (x : Place) → Spare p s p1 s1 → RunSmall p s x → length text ≤ 32768
-    → RoomOf (withText front text (runOf p s x)) p1 s1 32768 2048
+pub spare-room : {p s p1 s1 : List ℕ} (front : Bool) (text : List ℕ) (x : Place) → Spare p s p1 s1 → RunSmall p s x → length text ≤ STORE-LEN
+    → RoomOf (withText front text (runOf p s x)) p1 s1 STORE-LEN PIECE-ROWS
 spare-room {p} {s} {p1} {s1} front text x h k l =
     let a = with-length front text (runOf p s x) in
     let b = with-bytes front text (runOf p s x) in
@@ -108,7 +109,7 @@ spare-room {p} {s} {p1} {s1} front text x h k l =
     }
 
 module _ {p s p1 s1 : List ℕ} (front : Bool) (text : List ℕ) (x : Place) {p' s' : List ℕ} {byte' row' : ℕ} (h : Spare p s p1 s1)
-    (c : Carried (withText front text (runOf p s x)) p1 s1 32768 2048 p' s' byte' row') (room : RoomOf (withText front text (runOf p s x)) p1 s1 32768 2048) where
+    (c : Carried (withText front text (runOf p s x)) p1 s1 STORE-LEN PIECE-ROWS p' s' byte' row') (room : RoomOf (withText front text (runOf p s x)) p1 s1 STORE-LEN PIECE-ROWS) where
   abbrev ts : List Text
   ts = withText front text (runOf p s x)
 
@@ -118,29 +119,29 @@ module _ {p s p1 s1 : List ℕ} (front : Bool) (text : List ℕ) (x : Place) {p'
   size : length ts ≡ x .1 + 1
   size = with-length front text (runOf p s x) ∙ omega (arith, run-length p s (x .0) (x .1))
 
-  pub longer : Longer p s front text x p' s' (2048, x .1 + 1)
+  pub longer : Longer p s front text x p' s' (PIECE-ROWS, x .1 + 1)
   longer =
-      let c' = subst (λ (l : List Text). Carried l p1 s1 32768 2048 p' s' byte' row') alone c in
-      let r' = subst (λ (l : List Text). RoomOf l p1 s1 32768 2048) alone room in
+      let c' = subst (λ (l : List Text). Carried l p1 s1 STORE-LEN PIECE-ROWS p' s' byte' row') alone c in
+      let r' = subst (λ (l : List Text). RoomOf l p1 s1 STORE-LEN PIECE-ROWS) alone room in
       record {
-        behind = over (h .behind) (2048 * 2 - length p) (rowsFor 32768 ts);
-        after = over (h .after) (32768 - length s) (concat ts);
-        pieces = c .pieces-is ∙ ap (λ (l : List ℕ). over l (2048 * 2) (rowsFor 32768 ts)) (h .pieces) ∙ over-past p (h .behind) (rowsFor 32768 ts) (2048 * 2) (h .lent-pieces);
-        store = c .store-is ∙ ap (λ (l : List ℕ). over l 32768 (concat ts)) (h .store) ∙ over-past s (h .after) (concat ts) 32768 (h .lent-store);
-        texts = ap (λ (n : ℕ). runOf p' s' (2048, n)) (sym size) ∙ carried-run [] ts [] c' r';
-        run-in = subst (λ (n : ℕ). RunIn p' s' (2048, n)) size (carried-in [] ts [] c' r');
+        behind = over (h .behind) (PIECE-ROWS * 2 - length p) (rowsFor STORE-LEN ts);
+        after = over (h .after) (STORE-LEN - length s) (concat ts);
+        pieces = c .pieces-is ∙ ap (λ (l : List ℕ). over l (PIECES-LEN) (rowsFor STORE-LEN ts)) (h .pieces) ∙ over-past p (h .behind) (rowsFor STORE-LEN ts) (PIECES-LEN) (h .lent-pieces);
+        store = c .store-is ∙ ap (λ (l : List ℕ). over l STORE-LEN (concat ts)) (h .store) ∙ over-past s (h .after) (concat ts) STORE-LEN (h .lent-store);
+        texts = ap (λ (n : ℕ). runOf p' s' (PIECE-ROWS, n)) (sym size) ∙ carried-run [] ts [] c' r';
+        run-in = subst (λ (n : ℕ). RunIn p' s' (PIECE-ROWS, n)) size (carried-in [] ts [] c' r');
       }
 
 -- the scratch tables of an insertion
 pub record LongScratch (t p s : List ℕ) : Type 0 where
   pub scratch : Scratch t p s
-  pub pieces : length p ≡ 6146
-  pub store : length s ≡ 98304
+  pub pieces : length p ≡ INSERT-PIECES-LEN
+  pub store : length s ≡ INSERT-STORE-LEN
 
 pub loaded-spare : {source t p s t₀ p₀ s₀ t1 p1 s1 : List ℕ} → WellFormed source t p s → LongScratch t₀ p₀ s₀ → Loaded t p s t₀ p₀ s₀ t1 p1 s1 → Spare p s p1 s1
 loaded-spare {p = p} {s = s} {p₀ = p₀} {s₀ = s₀} {p1 = p1} {s1 = s1} w f d =
-    let lp : length p1 ≡ 6146 = ap length (d .pieces) ∙ simp (length-append, length-drop) (omega (arith, w .sized .pieces, f .pieces)) in
-    let ls : length s1 ≡ 98304 = ap length (d .store) ∙ simp (length-append, length-drop) (omega (arith, w .sized .store, f .store)) in
+    let lp : length p1 ≡ INSERT-PIECES-LEN = ap length (d .pieces) ∙ simp (length-append, length-drop) (omega (arith, w .sized .pieces, f .pieces)) in
+    let ls : length s1 ≡ INSERT-STORE-LEN = ap length (d .store) ∙ simp (length-append, length-drop) (omega (arith, w .sized .store, f .store)) in
     record {
       behind = drop (length p) p₀;
       after = drop (length s) s₀;
@@ -156,14 +157,14 @@ loaded-spare {p = p} {s = s} {p₀ = p₀} {s₀ = s₀} {p1 = p1} {s1 = s1} w f
 
 -- the row read, its run copied, and the row written
 pub piece-added : (outro front : Bool) (text : List ℕ) {p s p1 s1 p' s' t t' : List ℕ} {byte' row' : ℕ} (i : ℕ) (r : Row) (run : Piece) {x : Row}
-    → r ≡ rowAt t i → (run .at, run .n) ≡ side outro (entryOf r) → RunSmall p s (side outro (entryAt t i)) → Spare p s p1 s1 → length text ≤ 32768
-    → Carried (withText front text (runOf p s (run .at, run .n))) p1 s1 32768 2048 p' s' byte' row'
-    → x ≡ with-side outro (2048, run .n + 1) r → Put t t' i x → PieceAdded outro front text p s t t' p' s' i
+    → r ≡ rowAt t i → (run .at, run .n) ≡ side outro (entryOf r) → RunSmall p s (side outro (entryAt t i)) → Spare p s p1 s1 → length text ≤ STORE-LEN
+    → Carried (withText front text (runOf p s (run .at, run .n))) p1 s1 STORE-LEN PIECE-ROWS p' s' byte' row'
+    → x ≡ with-side outro (PIECE-ROWS, run .n + 1) r → Put t t' i x → PieceAdded outro front text p s t t' p' s' i
 piece-added outro front text {p} {s} {p1} {s1} {p'} {s'} {t} {t'} i r run er eu small h l c ex pt =
     let e : _≡_ {A = Place} (run .at, run .n) (side outro (entryAt t i)) = eu ∙ ap (λ (y : Row). side outro (entryOf y)) er in
     let room = spare-room front text (run .at, run .n) h (subst (RunSmall p s) (sym e) small) l in
     record {
-      run = (2048, run .n + 1);
-      longer = subst (λ (y : Place). Longer p s front text y p' s' (2048, run .n + 1)) e (longer front text (run .at, run .n) h c room);
-      put = subst (Put t t' i) (ex ∙ ap (with-side outro (2048, run .n + 1)) er) pt;
+      run = (PIECE-ROWS, run .n + 1);
+      longer = subst (λ (y : Place). Longer p s front text y p' s' (PIECE-ROWS, run .n + 1)) e (longer front text (run .at, run .n) h c room);
+      put = subst (Put t t' i) (ex ∙ ap (with-side outro (PIECE-ROWS, run .n + 1)) er) pt;
     }
