@@ -64,10 +64,15 @@ extern "C" {
 #define MAGIC_STRING_PIECES 1024
 #define MAGIC_STRING_STORE_BYTES 32768
 
-/* Lengths of the lent tables, in elements. */
-#define MAGIC_STRING_CHUNKS_LEN (513 * 12)
-#define MAGIC_STRING_PIECES_LEN (2048 * 2)
-#define MAGIC_STRING_STORE_LEN 32768
+/* Words in a row of chunks, and in a row of pieces. */
+#define MAGIC_STRING_ROW 12
+#define MAGIC_STRING_PIECE 2
+
+/* Lengths of the lent tables, in elements: the desk's own row and one for each
+ * chunk; two rows for each piece; the store. */
+#define MAGIC_STRING_CHUNKS_LEN ((1 + MAGIC_STRING_CHUNKS) * MAGIC_STRING_ROW)
+#define MAGIC_STRING_PIECES_LEN (2 * MAGIC_STRING_PIECES * MAGIC_STRING_PIECE)
+#define MAGIC_STRING_STORE_LEN MAGIC_STRING_STORE_BYTES
 
 /* The words of a row of chunks (docs/LAYOUT.md). Row 0 is the desk's own. */
 enum {
@@ -80,9 +85,16 @@ enum {
   MAGIC_STRING_OUTRO_AT,
   MAGIC_STRING_OUTRO_N,
   MAGIC_STRING_TEXT_AT,
-  MAGIC_STRING_TEXT_N,
-  MAGIC_STRING_ROW = 12 /* words in a row */
+  MAGIC_STRING_TEXT_N
 };
+
+/* The words of a row of pieces: where its text begins in the store, and how
+ * many bytes it has. */
+enum { MAGIC_STRING_PIECE_AT, MAGIC_STRING_PIECE_N };
+
+/* In a chunk row's next or prev: the list ends. It is row 0, the desk's own,
+ * whose next and prev are the first chunk and the last. */
+#define MAGIC_STRING_LIST_END UINT32_C(0)
 
 /* In a chunk row's text_at: the chunk has no replacement. */
 #define MAGIC_STRING_NONE UINT32_C(0xFFFFFFFF)

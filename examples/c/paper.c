@@ -93,7 +93,7 @@ static void draw(void) {
   const uint32_t *row = chunks;
   printf("\nThe desk, chunk by chunk:\n");
   list("head", row[MAGIC_STRING_INTRO_AT], row[MAGIC_STRING_INTRO_N]);
-  while (row[MAGIC_STRING_NEXT] != 0) {
+  while (row[MAGIC_STRING_NEXT] != MAGIC_STRING_LIST_END) {
     row = chunks + row[MAGIC_STRING_NEXT] * MAGIC_STRING_ROW;
     uint32_t from = row[MAGIC_STRING_START], to = row[MAGIC_STRING_END];
     list("intro", row[MAGIC_STRING_INTRO_AT], row[MAGIC_STRING_INTRO_N]);

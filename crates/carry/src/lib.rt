@@ -23,8 +23,8 @@ pub fn push_piece(
 {
     let n = text.len();
     texts::put(&mut store[byte..], text);
-    pieces[row * 2] = byte as u32;
-    pieces[row * 2 + 1] = n as u32;
+    pieces[row * layout::PIECE] = byte as u32;
+    pieces[row * layout::PIECE + layout::PIECE_N] = n as u32;
     byte + n
 }
 

@@ -7,6 +7,7 @@ use native.Mathlib.Omega.{arith}
 use native.Mathlib.Numerals.{add-one}
 use lib.Dec.{leb}
 use lib.ListN.{length, drop}
+use Rattle.layout.specs.Layout.{ROW}
 use Rattle.table.specs.declared.Row.{Row}
 use Rattle.table.specs.Table.{rowAt}
 use Rattle.table.specs.Order.{Entry, entryOf, entryAt, entries, countOf, nextOf, Linked}
@@ -52,7 +53,7 @@ module _ {p s t : List ℕ} {start end n k row : ℕ} (c : Ranging p s t start e
       range-told source t p s start end false (c .any-is ∙ ap (λ (x : List Entry). any (holding start end) (map (chunkOf p s) x)) (entries-end t k l (omega (arith, c .count-is))))
 
   module _ (h : k < n) where
-    pub ranging-row : row * 12 + 12 ≤ length t
+    pub ranging-row : row * ROW + ROW ≤ length t
     ranging-row = rw (c .row-is h) (row-in t (suc k) l)
 
     module _ (r : Row) (e : r ≡ rowAt t row) where

@@ -19,7 +19,7 @@ fn holds_range(a: u32, b: u32, text_at: u32, start: u32, end: u32) -> bool
     if b < end {
         return false;
     }
-    text_at != texts::NONE
+    text_at != layout::NONE
 }
 
 // `is_range_within_edited_chunk`.

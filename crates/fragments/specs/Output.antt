@@ -11,7 +11,6 @@ use lib.ListN.{length, getD, take, drop, length-map, length-take, length-drop}
 use borrow.Author.Tests.{leb-true}
 use Rattle.utf8.specs.Chars.{All, nil, cons, concat}
 use Rattle.utf8.specs.CharLaws.{concat-append}
-use Rattle.utf8.specs.Sequences.{both}
 use Rattle.table.specs.Order.{Entry, entryAt, entries, countOf, Linked}
 use Rattle.model.specs.Text.{Text, sum, unwrap-or}
 use Rattle.model.specs.Chunk.{Chunk, Span, start-of, end-of, content}
@@ -24,7 +23,7 @@ use Rattle.model.specs.Lists.{all-map, map-kept, concat-sum}
 pub use Rattle.model.specs.Lists.{sum-append}
 use Rattle.memory.specs.Layout.{runOf, chunkOf, magicStringOf, replacementOf}
 use Rattle.memory.specs.WellFormed.{RunIn, ReplacementIn, EntryIn, RunsIn, Readable, WellFormed}
-use Rattle.memory.specs.Laws.{no-run, desk-full}
+use Rattle.memory.specs.Laws.{no-run, desk-full, within-keeps}
 use Rattle.texts.specs.Texts.{SpanIn, concat-cons, concat-nil, concat-one, run-length, run-piece}
 use Rattle.fragments.specs.Sections.{headOf, tailOf, section, sections, sections-are, fragmentsOf, fragmentsAll, size, Shown, Ready, Narrow, each-section}
 
@@ -99,17 +98,16 @@ chunks-le source (c ∷ cs) =
     suc-times : (a b : ℕ) → suc a * b ≡ b + a * b
     suc-times a b = native.Mathlib.Nat.suc-mul a b ∙ native.Mathlib.Nat.add-comm (a * b) b
 
-pub output-short : (m : MagicString) → within full m ≡ true → sum length (fragments m) ≤ 8421376
-unfolding within
+-- the longest output: every chunk with the whole source, and every byte of the store
+abbrev pub most-output : ℕ
+most-output = full .chunks * full .source + full .bytes
+
+pub output-short : (m : MagicString) → within full m ≡ true → sum length (fragments m) ≤ most-output
 output-short m w =
-    let a = both (leb (length (m .source)) 16384) (leb (length (m .chunks)) 512 && (leb (piece-count m) 1024 && leb (byte-count m) 32768)) w in
-    let b = both (leb (length (m .chunks)) 512) (leb (piece-count m) 1024 && leb (byte-count m) 32768) (a .1) in
-    let d = both (leb (piece-count m) 1024) (leb (byte-count m) 32768) (b .1) in
-    let x = leb-true (length (m .source)) 16384 (a .0) in
-    let y = leb-true (length (m .chunks)) 512 (b .0) in
-    let z = leb-true (byte-count m) 32768 (d .1) in
-    let k : length (m .chunks) * length (m .source) ≤ 8388608 = mul-le-mul y x in
-    omega (arith, sum-append length (m .intro) (chunk-fragments (m .source) (m .chunks) ++ m .outro), sum-append length (chunk-fragments (m .source) (m .chunks)) (m .outro), chunks-le (m .source) (m .chunks))
+    let k = within-keeps full m w in
+    let chunks : length (m .chunks) * length (m .source) ≤ full .chunks * full .source = mul-le-mul (k .chunks) (k .source) in
+    let middle = chunk-fragments (m .source) (m .chunks) in
+    omega (arith, k .bytes, chunks, sum-append length (m .intro) (middle ++ m .outro), sum-append length middle (m .outro), chunks-le (m .source) (m .chunks))
 
 -- ---- a well-formed desk is ready for every report
 module _ {A : Type 0} where
@@ -166,6 +164,6 @@ ready source t p s w =
     }
 
 -- the length of the output
-pub output-bound : (source t p s : List ℕ) → WellFormed source t p s → sum length (fragmentsAll source p s (sections t)) ≤ 8421376
+pub output-bound : (source t p s : List ℕ) → WellFormed source t p s → sum length (fragmentsAll source p s (sections t)) ≤ most-output
 output-bound source t p s w =
     rw (sum-sections length refl source t p s (w .readable .linked)) (output-short (magicStringOf source t p s) (desk-full w))

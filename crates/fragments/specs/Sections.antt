@@ -13,6 +13,7 @@ use lib.Dec.{eqb}
 use lib.ListN.{length, getD, take, drop, length-append, length-map, List·getD-append, List·getD-eq-default, drop-of-length-le}
 use lib.Seq.{drop-cons, getD-append-add, getD-append-seam, drop-append-seam, drop-nil}
 use borrow.Author.Tests.{eq-eqb, ne-eqb}
+use Rattle.layout.specs.Layout.{ROW}
 use Rattle.utf8.specs.Chars.{All, concat}
 use Rattle.table.specs.declared.Row.{Row}
 use Rattle.table.specs.Ring.{Links, Edge, Each, each-append, each-at, follow, each-map, Pos}
@@ -156,7 +157,7 @@ row-le t g l =
     let z : P 0 = omega arith in
     each-getD P (rows t) g 0 (z, each-append P (order t) (0 ∷ []) (each-map (λ x. (0 < x) × (x ≤ countOf t)) P (λ a h. h .1) (order t) (inside t l)) (z, tt)) z
 
-pub row-in : (t : List ℕ) (g : ℕ) → Linked t → rowNo t g * 12 + 12 ≤ length t
+pub row-in : (t : List ℕ) (g : ℕ) → Linked t → rowNo t g * ROW + ROW ≤ length t
 row-in t g l = omega (arith, row-le t g l, l .room)
 
 pub row-pos : (t : List ℕ) (k : ℕ) → Linked t → k < countOf t → 0 < rowNo t (suc k)

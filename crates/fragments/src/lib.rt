@@ -3,6 +3,7 @@ ghost use mathlib.Core.Path.{_≡_};
 ghost use mathlib.Core.List.{[]};
 ghost use Prim.Native.Nat.{_+_, _*_, _≤_, _<_, _^_};
 ghost use lib.ListN.{length, getD};
+ghost use Rattle.layout.specs.Layout.{ROW};
 ghost use Rattle.table.specs.Order.{entryOf, countOf, Linked};
 ghost use Rattle.memory.specs.WellFormed.{EntryIn};
 ghost use Rattle.texts.specs.Texts.{SpanIn};
@@ -18,7 +19,7 @@ pub struct Cursor {
 
 // A section's row. Head and tail have the links of row 0, an empty replacement, and one of row 0's two piece lists.
 pub fn section_row(chunks: &[u32], section: u32, row: u32) -> Row
-    requires { ⌜ row * 12 + 12 ≤ length (now chunks) ⌝ }
+    requires { ⌜ row * ROW + ROW ≤ length (now chunks) ⌝ }
     ensures { λ r. ⌜ SectionRow (now (chunks .entry)) section row r ⌝ }
 {
     let mut r = table::get_row(chunks, row);

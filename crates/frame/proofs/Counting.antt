@@ -11,6 +11,7 @@ use lib.Dec.{leb, eqb}
 use lib.ListN.{length, getD, take, drop, length-drop}
 use lib.Seq.{length-take-le}
 use borrow.Author.Tests.{leb-true, le-leb, lt-leb, ne-eqb, eq-eqb}
+use Rattle.layout.specs.Layout.{ROW, PIECES, STORE-LEN, PIECES-PAST, BYTES-PAST}
 use Rattle.utf8.specs.Chars.{All, nil}
 use Rattle.utf8.specs.CharLaws.{all-back}
 use Rattle.table.specs.declared.Row.{Row}
@@ -62,10 +63,10 @@ no-bytes s r e = rw (eq-eqb (r .0) NONE e)
 -- ── the walk ──
 pub record CountAt (t p s done : List ℕ) (m cur pieces bytes : ℕ) : Type 0 where
   pub place : order t ≡ done ++ follow (nextOf t) m cur
-  pub pieces-are : pieces ≡ min (sum chunk-pieces (map (chunkOf p s) (own t ∷ map (entryAt t) done))) 1025
-  pub bytes-are : bytes ≡ min (sum chunk-bytes (map (chunkOf p s) (own t ∷ map (entryAt t) done))) 32769
+  pub pieces-are : pieces ≡ min (sum chunk-pieces (map (chunkOf p s) (own t ∷ map (entryAt t) done))) PIECES-PAST
+  pub bytes-are : bytes ≡ min (sum chunk-bytes (map (chunkOf p s) (own t ∷ map (entryAt t) done))) BYTES-PAST
 
-pub count-start : (t p s : List ℕ) (e : Entry) (pieces bytes : ℕ) → e ≡ own t → pieces ≡ min (0 + chunk-pieces (chunkOf p s e)) 1025 → bytes ≡ min (0 + chunk-bytes (chunkOf p s e)) 32769
+pub count-start : (t p s : List ℕ) (e : Entry) (pieces bytes : ℕ) → e ≡ own t → pieces ≡ min (0 + chunk-pieces (chunkOf p s e)) PIECES-PAST → bytes ≡ min (0 + chunk-bytes (chunkOf p s e)) BYTES-PAST
     → CountAt t p s [] (countOf t) (nextOf t 0) pieces bytes
 unfolding order
 count-start t p s e pieces bytes q f g =
@@ -79,7 +80,7 @@ module _ {t p s done : List ℕ} {m cur pieces bytes : ℕ} (h : Readable t p s)
       first-of (all-back (EntryIn p s) (map (entryAt t) done) (map (entryAt t) (follow (nextOf t) (suc m) cur))
       (subst (All (EntryIn p s)) (ap (map (entryAt t)) (c .place) ∙ map-append (entryAt t) done (follow (nextOf t) (suc m) cur)) (h .chunks)))
 
-  pub count-row : cur * 12 + 12 ≤ length t
+  pub count-row : cur * ROW + ROW ≤ length t
   count-row = omega (arith, h .linked .room, inside-at t done cur (follow (nextOf t) m (nextOf t cur)) (h .linked) (c .place) .1)
 
   more : (w : Chunk → ℕ) → sum w (map (chunkOf p s) (own t ∷ map (entryAt t) (done ++ (cur ∷ [])))) ≡ sum w (map (chunkOf p s) (own t ∷ map (entryAt t) done)) + w (chunkOf p s (entryAt t cur))
@@ -88,13 +89,13 @@ module _ {t p s done : List ℕ} {m cur pieces bytes : ℕ} (h : Readable t p s)
       ap (map (chunkOf p s)) (map-append (entryAt t) done (cur ∷ [])) ∙ map-append (chunkOf p s) (map (entryAt t) done) (entryAt t cur ∷ []) in
       rw e (sum-snoc w (chunkOf p s (own t) ∷ map (chunkOf p s) (map (entryAt t) done)) (chunkOf p s (entryAt t cur)))
 
-  pub count-more : (pieces' bytes' : ℕ) → pieces' ≡ min (pieces + chunk-pieces (chunkOf p s (entryAt t cur))) 1025 → bytes' ≡ min (bytes + chunk-bytes (chunkOf p s (entryAt t cur))) 32769
+  pub count-more : (pieces' bytes' : ℕ) → pieces' ≡ min (pieces + chunk-pieces (chunkOf p s (entryAt t cur))) PIECES-PAST → bytes' ≡ min (bytes + chunk-bytes (chunkOf p s (entryAt t cur))) BYTES-PAST
       → CountAt t p s (done ++ (cur ∷ [])) m (nextOf t cur) pieces' bytes'
   count-more pieces' bytes' e f =
       record {
         place = c .place ∙ sym (append-assoc done (cur ∷ []) (follow (nextOf t) m (nextOf t cur)));
-        pieces-are = capped-more 1025 _ _ pieces pieces' (c .pieces-are) e ∙ ap (λ (x : ℕ). min x 1025) (sym (more chunk-pieces));
-        bytes-are = capped-more 32769 _ _ bytes bytes' (c .bytes-are) f ∙ ap (λ (x : ℕ). min x 32769) (sym (more chunk-bytes));
+        pieces-are = capped-more PIECES-PAST _ _ pieces pieces' (c .pieces-are) e ∙ ap (λ (x : ℕ). min x PIECES-PAST) (sym (more chunk-pieces));
+        bytes-are = capped-more BYTES-PAST _ _ bytes bytes' (c .bytes-are) f ∙ ap (λ (x : ℕ). min x BYTES-PAST) (sym (more chunk-bytes));
       }
 
 pub record Loop (t p s : List ℕ) (n k cur pieces bytes : ℕ) : Type 0 where
@@ -118,23 +119,23 @@ module _ {t p s done : List ℕ} {m cur pieces bytes : ℕ} (c : CountAt t p s d
   pub all-done : entries t ≡ map (entryAt t) done
   all-done = ap (map (entryAt t)) (c .place ∙ ap (λ (x : ℕ). done ++ follow (nextOf t) x cur) z ∙ append-nil done)
 
-  pub pieces-all : pieces ≡ min (piece-count (magicStringOf [] t p s)) 1025
+  pub pieces-all : pieces ≡ min (piece-count (magicStringOf [] t p s)) PIECES-PAST
   unfolding magicStringOf
   pieces-all = rw all-done (c .pieces-are)
 
-  pub bytes-all : bytes ≡ min (byte-count (magicStringOf [] t p s)) 32769
+  pub bytes-all : bytes ≡ min (byte-count (magicStringOf [] t p s)) BYTES-PAST
   unfolding magicStringOf replacementOf
-  bytes-all = rw all-done (c .bytes-are ∙ ap (λ (x : ℕ). min x 32769) (omega arith))
+  bytes-all = rw all-done (c .bytes-are ∙ ap (λ (x : ℕ). min x BYTES-PAST) (omega arith))
 
-module _ {t p s : List ℕ} {n k cur pieces bytes mc mp mb : ℕ} (l : Loop t p s n k cur pieces bytes) (g : n ≤ k) (few : countOf t ≤ mc) (hp : mp ≤ 1024) (hb : mb ≤ 32768) where
+module _ {t p s : List ℕ} {n k cur pieces bytes mc mp mb : ℕ} (l : Loop t p s n k cur pieces bytes) (g : n ≤ k) (few : countOf t ≤ mc) (hp : mp ≤ PIECES) (hb : mb ≤ STORE-LEN) where
   none-left : n - k ≡ 0
   none-left = omega arith
 
   within-is : within (limitsBy mc mp mb) (magicStringOf [] t p s) ≡ (leb pieces mp && leb bytes mb)
   unfolding within magicStringOf
   within-is =
-      let a : leb pieces mp ≡ leb (piece-count (magicStringOf [] t p s)) mp = ap (λ (x : ℕ). leb x mp) (pieces-all (l .at) none-left) ∙ leb-min (piece-count (magicStringOf [] t p s)) 1024 mp hp in
-      let b : leb bytes mb ≡ leb (byte-count (magicStringOf [] t p s)) mb = ap (λ (x : ℕ). leb x mb) (bytes-all (l .at) none-left) ∙ leb-min (byte-count (magicStringOf [] t p s)) 32768 mb hb in
+      let a : leb pieces mp ≡ leb (piece-count (magicStringOf [] t p s)) mp = ap (λ (x : ℕ). leb x mp) (pieces-all (l .at) none-left) ∙ leb-min (piece-count (magicStringOf [] t p s)) PIECES mp hp in
+      let b : leb bytes mb ≡ leb (byte-count (magicStringOf [] t p s)) mb = ap (λ (x : ℕ). leb x mb) (bytes-all (l .at) none-left) ∙ leb-min (byte-count (magicStringOf [] t p s)) STORE-LEN mb hb in
       rw (a, b, le-leb (length (map (chunkOf p s) (entries t))) mc (omega (arith, chunk-count [] t p s)))
 
   pub too-many-pieces : mp < pieces → false ≡ within (limitsBy mc mp mb) (magicStringOf [] t p s)

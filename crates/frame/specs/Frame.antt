@@ -5,8 +5,9 @@ use mathlib.Core.List.{List, [], _∷_, _++_}
 use Prim.Native.Nat.{ℕ, suc, _+_, _*_, _-_, _/_, _≤_, _<_}
 use native.Mathlib.Omega.{arith}
 use lib.Dec.{leb}
-use lib.ListN.{length, getD, drop, length-append, length-drop}
+use lib.ListN.{length, getD, take, drop, replicate, length-append, length-drop}
 use borrow.Author.Tests.{leb-true, le-leb, lt-leb, ne-eqb}
+use Rattle.layout.specs.Layout.{ROW, PIECES-LEN, STORE-LEN, SCRATCH-LEN}
 use Rattle.table.specs.Order.{Linked, countOf}
 use Rattle.model.specs.MagicString.{MagicString, Result, err}
 use Rattle.model.specs.Limits.{Limits, full, within, piece-count, byte-count}
@@ -20,7 +21,7 @@ use Rattle.memory.specs.Calls.{may-write, Ran}
 use Rattle.preservation.specs.Calls.{run-keeps}
 use Rattle.rebuild.specs.Rebuilt.{Rebuilt, Finished}
 pub use Rattle.memory.specs.Laws.{zeros-length, zeros-at}
-use Rattle.memory.specs.Laws.{all-same, chunk-count, short-source, desk-full, past-full, limits-as, sized-as, same-lengths}
+use Rattle.memory.specs.Laws.{within-keeps, all-same, chunk-count, short-source, desk-full, past-full, limits-as, sized-as, same-lengths}
 use Rattle.model.specs.Lists.{no-tf, and-left, and-right, bool-elim}
 use Rattle.frame.specs.Loaded.{Loaded}
 use Rattle.frame.specs.Front.{padded, same-desk, desk-front}
@@ -28,32 +29,38 @@ use Rattle.frame.specs.Front.{padded, same-desk, desk-front}
 -- ── scratch tables ──
 -- chunk rows for three chunks more, and clear; pieces and store as long as the lent ones, or longer
 pub record Scratch (t p s : List ℕ) : Type 0 where
-  pub chunks : length t ≡ 516 * 12
+  pub chunks : length t ≡ SCRATCH-LEN
   pub clear : (k : ℕ) → getD t k 0 ≡ 0
-  pub pieces : 4096 ≤ length p
-  pub store : 32768 ≤ length s
+  pub pieces : PIECES-LEN ≤ length p
+  pub store : STORE-LEN ≤ length s
+
+-- tables of zeros, as long as a call's own ones
+pub zeros-scratch : (k m n : ℕ) → k ≡ SCRATCH-LEN → PIECES-LEN ≤ m → STORE-LEN ≤ n
+    → Scratch (take k (replicate k 0)) (take m (replicate m 0)) (take n (replicate n 0))
+zeros-scratch k m n e hp hs =
+    record {
+      chunks = zeros-length k k (omega arith) ∙ e;
+      clear = zeros-at k k;
+      pieces = rw (zeros-length m m (omega arith)) hp;
+      store = rw (zeros-length n n (omega arith)) hs;
+    }
 
 -- rows with room for n chunks more
 pub record Roomy (n : ℕ) (t : List ℕ) : Type 0 where
   pub linked : Linked t
-  pub room : (countOf t + n) * 12 + 12 ≤ length t
+  pub room : (countOf t + n) * ROW + ROW ≤ length t
   pub narrow : length t ≤ 4294967296
 
 -- ── the limits of a desk ──
-pub small-source : (source t p s : List ℕ) → within full (magicStringOf source t p s) ≡ true → length source ≤ 16384
-unfolding within magicStringOf
-small-source source t p s e = leb-true (length source) 16384 (and-left (leb (length source) 16384) _ e)
+pub small-source : (source t p s : List ℕ) → within full (magicStringOf source t p s) ≡ true → length source ≤ full .source
+unfolding magicStringOf
+small-source source t p s e = within-keeps full (magicStringOf source t p s) e .source
 
-pub past-bytes : (m : MagicString) → 32768 < byte-count m → within full m ≡ false
-unfolding within
-past-bytes m h =
-    rw (lt-leb (byte-count m) 32768 h, and-false (leb (piece-count m) 1024), and-false (leb (length (m .chunks)) 512), and-false (leb (length (m .source)) 16384))
+pub past-bytes : (m : MagicString) → full .bytes < byte-count m → within full m ≡ false
+past-bytes m h = bool-elim (within full m) (λ e. absurd (omega (arith, within-keeps full m e .bytes))) (λ e. e)
 
-pub few-chunks : (source t p s : List ℕ) → within full (magicStringOf source t p s) ≡ true → countOf t ≤ 512
-unfolding within magicStringOf
-few-chunks source t p s e =
-    let k = and-left (leb (length (magicStringOf source t p s .chunks)) 512) _ (and-right (leb (length source) 16384) _ e) in
-    omega (arith, leb-true (length (magicStringOf source t p s .chunks)) 512 k, chunk-count source t p s)
+pub few-chunks : (source t p s : List ℕ) → within full (magicStringOf source t p s) ≡ true → countOf t ≤ full .chunks
+few-chunks source t p s e = omega (arith, within-keeps full (magicStringOf source t p s) e .chunks, chunk-count source t p s)
 
 -- the source's length is the only limit that the source decides
 pub within-any : (k : Limits) (source t p s : List ℕ) → length source ≤ k .source → within k (magicStringOf [] t p s) ≡ within k (magicStringOf source t p s)
@@ -65,7 +72,7 @@ module _ {source t p s t₀ p₀ s₀ t1 p1 s1 : List ℕ} (w : WellFormed sourc
   same-words : (k : ℕ) → getD t1 k 0 ≡ getD t k 0
   same-words k = ap (λ (l : List ℕ). getD l k 0) (d .chunks) ∙ padded t t₀ (f .clear) k
 
-  loaded-length : length t1 ≡ 6192
+  loaded-length : length t1 ≡ SCRATCH-LEN
   loaded-length = ap length (d .chunks) ∙ simp (length-append, length-drop) (omega (arith, w .sized .chunks, f .chunks))
 
   loaded : Readable t1 p s × ((source : List ℕ) → magicStringOf source t1 p s ≡ magicStringOf source t p s)

@@ -9,6 +9,7 @@ use lib.Dec.{eqb}
 use lib.ListN.{length, getD, take, drop, length-append, length-drop, List·getD-append}
 use lib.Seq.{getD-append-add, getD-drop, take-append-le, drop-append-le}
 use borrow.Author.Tests.{eqb-true, eqb-false}
+use Rattle.layout.specs.Layout.{ROW}
 use Rattle.utf8.specs.Chars.{All, nil, cons}
 pub use Rattle.model.specs.Lists.{bool-elim}
 pub use Rattle.memory.specs.Laws.{desk-same}
@@ -44,18 +45,18 @@ padded t t₀ z k =
 abbrev rowFn : (ℕ → ℕ) → ℕ → Row
 rowFn g i =
     record {
-      start = g (i * 12);
-      end = g (i * 12 + 1);
-      next = g (i * 12 + 2);
-      prev = g (i * 12 + 3);
-      «intro_at» = g (i * 12 + 4);
-      «intro_n» = g (i * 12 + 5);
-      «outro_at» = g (i * 12 + 6);
-      «outro_n» = g (i * 12 + 7);
-      «text_at» = g (i * 12 + 8);
-      «text_n» = g (i * 12 + 9);
-      spare0 = g (i * 12 + 10);
-      spare1 = g (i * 12 + 11);
+      start = g (i * ROW);
+      end = g (i * ROW + 1);
+      next = g (i * ROW + 2);
+      prev = g (i * ROW + 3);
+      «intro_at» = g (i * ROW + 4);
+      «intro_n» = g (i * ROW + 5);
+      «outro_at» = g (i * ROW + 6);
+      «outro_n» = g (i * ROW + 7);
+      «text_at» = g (i * ROW + 8);
+      «text_n» = g (i * ROW + 9);
+      spare0 = g (i * ROW + 10);
+      spare1 = g (i * ROW + 11);
     }
 
 module _ (t t' : List ℕ) (same : (k : ℕ) → getD t' k 0 ≡ getD t k 0) where

@@ -3,6 +3,7 @@ ghost use mathlib.Core.Path.{_≡_};
 ghost use mathlib.Core.List.{[]};
 ghost use Prim.Native.Nat.{_+_, _≤_, min};
 ghost use lib.ListN.{length};
+ghost use Rattle.layout.specs.Layout.{CHUNKS, PIECES, STORE-LEN, PIECES-PAST, BYTES-PAST};
 ghost use Rattle.table.specs.Order.{entryOf};
 ghost use Rattle.model.specs.Text.{sum};
 ghost use Rattle.model.specs.Limits.{within, chunk-pieces, chunk-bytes};
@@ -43,8 +44,8 @@ pub fn add_capped(total: usize, n: usize, cap: usize) -> usize
 // The bytes of a run's texts, added to a count that stops past the limit of the store.
 fn run_bytes(p: &[u32], s: &[u8], at: u32, n: u32, total: usize) -> usize
     requires { ⌜ RunIn (now p) (now s) (at, n) ⌝ }
-    requires { ⌜ total ≤ 32769 ⌝ }
-    ensures { λ r. ⌜ r ≡ min (total + sum length (runOf (now (p .entry)) (now (s .entry)) (at, n))) 32769 ⌝ }
+    requires { ⌜ total ≤ BYTES-PAST ⌝ }
+    ensures { λ r. ⌜ r ≡ min (total + sum length (runOf (now (p .entry)) (now (s .entry)) (at, n))) BYTES-PAST ⌝ }
 {
     let first = at as usize;
     let count = n as usize;
@@ -52,7 +53,7 @@ fn run_bytes(p: &[u32], s: &[u8], at: u32, n: u32, total: usize) -> usize
     let mut i = 0;
     while i < count {
         let text = texts::text_of(p, s, first + i);
-        sum = add_capped(sum, text.len(), 32769);
+        sum = add_capped(sum, text.len(), layout::BYTES_PAST);
         i += 1;
     }
     sum
@@ -67,30 +68,30 @@ pub struct Counts {
 // A row's pieces and bytes, added to the counts.
 fn count_row(p: &[u32], s: &[u8], r: table::Row, c: Counts) -> Counts
     requires { ⌜ EntryIn (now p) (now s) (entryOf r) ⌝ }
-    requires { ⌜ (c .pieces ≤ 1025) × (c .bytes ≤ 32769) ⌝ }
-    ensures { λ d. ⌜ (d .pieces ≡ min (c .pieces + chunk-pieces (chunkOf (now (p .entry)) (now (s .entry)) (entryOf r))) 1025)
-        × (d .bytes ≡ min (c .bytes + chunk-bytes (chunkOf (now (p .entry)) (now (s .entry)) (entryOf r))) 32769) ⌝ }
+    requires { ⌜ (c .pieces ≤ PIECES-PAST) × (c .bytes ≤ BYTES-PAST) ⌝ }
+    ensures { λ d. ⌜ (d .pieces ≡ min (c .pieces + chunk-pieces (chunkOf (now (p .entry)) (now (s .entry)) (entryOf r))) PIECES-PAST)
+        × (d .bytes ≡ min (c .bytes + chunk-bytes (chunkOf (now (p .entry)) (now (s .entry)) (entryOf r))) BYTES-PAST) ⌝ }
 {
-    let a = add_capped(c.pieces, r.intro_n as usize, 1025);
-    let pieces = add_capped(a, r.outro_n as usize, 1025);
+    let a = add_capped(c.pieces, r.intro_n as usize, layout::PIECES_PAST);
+    let pieces = add_capped(a, r.outro_n as usize, layout::PIECES_PAST);
     let b = run_bytes(p, s, r.intro_at, r.intro_n, c.bytes);
     let d = run_bytes(p, s, r.outro_at, r.outro_n, b);
-    if r.text_at == texts::NONE {
+    if r.text_at == layout::NONE {
         return Counts { pieces, bytes: d };
     }
-    let bytes = add_capped(d, r.text_n as usize, 32769);
+    let bytes = add_capped(d, r.text_n as usize, layout::BYTES_PAST);
     Counts { pieces, bytes }
 }
 
 // Whether the desk keeps limits that are not above document 01's.
-pub fn keeps(t: &[u32], p: &[u32], s: &[u8], cmax: u32, pmax: usize, bmax: usize) -> bool
+pub fn keeps(t: &[u32], p: &[u32], s: &[u8], most_chunks: u32, most_pieces: usize, most_bytes: usize) -> bool
     requires { ⌜ Readable (now t) (now p) (now s) ⌝ }
-    requires { ⌜ (cmax ≤ 512) × (pmax ≤ 1024) × (bmax ≤ 32768) ⌝ }
-    ensures { λ r. ⌜ r ≡ within (limitsBy cmax pmax bmax) (magicStringOf [] (now (t .entry)) (now (p .entry)) (now (s .entry))) ⌝ }
+    requires { ⌜ («most_chunks» ≤ CHUNKS) × («most_pieces» ≤ PIECES) × («most_bytes» ≤ STORE-LEN) ⌝ }
+    ensures { λ r. ⌜ r ≡ within (limitsBy «most_chunks» «most_pieces» «most_bytes») (magicStringOf [] (now (t .entry)) (now (p .entry)) (now (s .entry))) ⌝ }
 {
     let z = table::get_row(t, 0);
     let n = z.start;
-    if n > cmax {
+    if n > most_chunks {
         return false;
     }
     let c = count_row(
@@ -114,10 +115,10 @@ pub fn keeps(t: &[u32], p: &[u32], s: &[u8], cmax: u32, pmax: usize, bmax: usize
         cur = r.next;
         k += 1;
     }
-    if pieces > pmax {
+    if pieces > most_pieces {
         return false;
     }
-    bytes <= bmax
+    bytes <= most_bytes
 }
 
 // The end of such a call: the desk of the scratch tables written into the lent tables with the answer r; or 13, and nothing written.
@@ -135,8 +136,8 @@ pub fn finish(
     ensures { λ q. ⌜ Finished (now (t .entry)) (now (p .entry)) (now (s .entry)) (now (chunks .entry)) (now (pieces .entry)) (now (store .entry))
         (now (chunks .exit)) (now (pieces .exit)) (now (store .exit)) r q ⌝ }
 {
-    let most = (chunks.len() / 12 - 1) as u32;
-    if keeps(t, p, s, most, pieces.len() / 4, store.len()) {
+    let most = (chunks.len() / layout::ROW - 1) as u32;
+    if keeps(t, p, s, most, pieces.len() / layout::PIECE_ROOM, store.len()) {
         rebuild::rebuild(t, p, s, chunks, pieces, store);
         return r;
     }

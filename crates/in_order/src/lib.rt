@@ -3,6 +3,7 @@ ghost use mathlib.Core.Path.{_≡_};
 ghost use mathlib.Core.Bool.{true};
 ghost use Prim.Native.Nat.{_+_, _*_, _≤_, _<_};
 ghost use lib.ListN.{length};
+ghost use Rattle.layout.specs.Layout.{ROW};
 ghost use Rattle.utf8.specs.Rfc3629.{utf8 as isText};
 ghost use Rattle.spans.specs.Spans.{Listed};
 ghost use Rattle.in_order.specs.Joined.{Joined};
@@ -10,17 +11,17 @@ ghost use Rattle.in_order.specs.Joined.{Joined};
 // Whether the chunk behind row i in the list is linked back to it and starts at e, between characters. If there is none, e is the source's end.
 fn joined(source: &[u8], t: &[u32], n: u32, i: u32, e: usize) -> bool
     requires { ⌜ isText (now source) ≡ true ⌝ }
-    requires { ⌜ (n * 12 + 12 ≤ length (now t)) × (i ≤ n) ⌝ }
+    requires { ⌜ (n * ROW + ROW ≤ length (now t)) × (i ≤ n) ⌝ }
     ensures { λ r. ⌜ (r ≡ true → Joined (now (source .entry)) (now (t .entry)) n i e) ⌝ }
 {
-    let x = spans::word(t, i, spans::NEXT);
+    let x = spans::word(t, i, layout::NEXT);
     if x > n {
         return false;
     }
-    if spans::word(t, x, spans::PREV) != i {
+    if spans::word(t, x, layout::PREV) != i {
         return false;
     }
-    if x == 0 {
+    if x == layout::LIST_END {
         return e == source.len();
     }
     if spans::start(t, x) != e {
@@ -37,7 +38,7 @@ fn joined(source: &[u8], t: &[u32], n: u32, i: u32, e: usize) -> bool
 pub fn in_order(source: &[u8], t: &[u32], n: u32) -> bool
     requires { ⌜ isText (now source) ≡ true ⌝ }
     requires { ⌜ 0 < length (now source) ⌝ }
-    requires { ⌜ n * 12 + 12 ≤ length (now t) ⌝ }
+    requires { ⌜ n * ROW + ROW ≤ length (now t) ⌝ }
     ensures { λ r. ⌜ (r ≡ true → Listed (now (source .entry)) (now (t .entry)) n) ⌝ }
 {
     let mut i = 0;

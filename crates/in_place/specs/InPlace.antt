@@ -5,6 +5,7 @@ use mathlib.Core.List.{List, []}
 use Prim.Native.Nat.{ℕ, _+_, _*_, _≤_}
 use native.Mathlib.Omega.{arith}
 use lib.ListN.{length, take}
+use Rattle.layout.specs.Layout.{ROW}
 use Rattle.table.specs.Order.{countOf}
 use Rattle.model.specs.Limits.{within}
 use Rattle.model.specs.Call.{Edit, steps, refused-before}
@@ -19,7 +20,7 @@ use Rattle.memory_used.specs.declared.Used.{Used}
 use Rattle.memory_used.specs.Above.{Above}
 
 -- lent rows with room for n chunks more
-pub lent-roomy : {source t p s : List ℕ} (n : ℕ) → WellFormed source t p s → (countOf t + n) * 12 + 12 ≤ length t → Roomy n t
+pub lent-roomy : {source t p s : List ℕ} (n : ℕ) → WellFormed source t p s → (countOf t + n) * ROW + ROW ≤ length t → Roomy n t
 lent-roomy n w h = record { linked = w .readable .linked; room = h; narrow = omega (arith, w .sized .chunks) }
 
 -- the lent tables are what the steps left

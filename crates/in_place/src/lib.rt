@@ -3,13 +3,14 @@ ghost use mathlib.Core.Path.{_≡_};
 ghost use mathlib.Core.Bool.{true};
 ghost use Prim.Native.Nat.{_+_, _*_, _≤_};
 ghost use lib.ListN.{length};
+ghost use Rattle.layout.specs.Layout.{ROW, CHUNKS-LEAST};
 ghost use Rattle.table.specs.Order.{countOf};
 
 // Whether the lent rows have room for n chunks more.
 pub fn has_rows(chunks: &[u32], n: usize) -> bool
-    requires { ⌜ (24 ≤ length (now chunks)) × (n ≤ 3) ⌝ }
-    ensures { λ r. ⌜ (r ≡ true → (countOf (now (chunks .entry)) + n) * 12 + 12 ≤ length (now (chunks .entry))) ⌝ }
+    requires { ⌜ (CHUNKS-LEAST ≤ length (now chunks)) × (n ≤ 3) ⌝ }
+    ensures { λ r. ⌜ (r ≡ true → (countOf (now (chunks .entry)) + n) * ROW + ROW ≤ length (now (chunks .entry))) ⌝ }
 {
     let count = chunks[0] as usize;
-    (count + n) * 12 + 12 <= chunks.len()
+    (count + n) * layout::ROW + layout::ROW <= chunks.len()
 }

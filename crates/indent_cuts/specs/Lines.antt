@@ -10,6 +10,7 @@ use native.Mathlib.Decide.{decLt}
 use lib.Dec.{ltb, leb}
 use lib.ListN.{length, length-append}
 use borrow.Author.Tests.{lt-ltb, le-ltb, leb-true, le-leb}
+use Rattle.layout.specs.Layout.{ROW, CHUNKS, CHUNKS-LEN, PIECE-ROWS}
 use Rattle.utf8.specs.Chars.{All, nil}
 use Rattle.table.specs.Order.{Entry, entryAt, countOf, Linked}
 use Rattle.model.specs.Text.{Text}
@@ -67,14 +68,14 @@ module _ (p s : List ℕ) (q : ℕ) (e : Entry) where
   pub lift-first : chunkOf p s (first q e) ≡ first-half q (chunkOf p s e)
   lift-first = rw (no-run p s 0)
 
-  pub lift-begun : (indentor : Text) → runOf p s (2048, 1) ≡ indentor ∷ [] → chunkOf p s (begun (second q e)) ≡ with-texts (prepend-intro indentor) (second-half q (chunkOf p s e))
+  pub lift-begun : (indentor : Text) → runOf p s (PIECE-ROWS, 1) ≡ indentor ∷ [] → chunkOf p s (begun (second q e)) ≡ with-texts (prepend-intro indentor) (second-half q (chunkOf p s e))
   lift-begun indentor r = rw r
 
 module _ (p : List ℕ) (top byte q : ℕ) (e : Entry) (h : EntryLow p top byte e) where
   pub first-low : EntryLow p top byte (first q e)
   first-low = record { runs = record { intro = h .runs .intro; outro = none-below p byte top 0 }; text = h .text }
 
-  pub begun-low : Below p byte top (2048, 1) → EntryLow p top byte (begun (second q e))
+  pub begun-low : Below p byte top (PIECE-ROWS, 1) → EntryLow p top byte (begun (second q e))
   begun-low b = record { runs = record { intro = b; outro = h .runs .outro }; text = h .text }
 
 -- ---- cuts behind the row's start
@@ -84,20 +85,20 @@ pub record LinesReady (source t : List ℕ) (i from end : ℕ) : Type 0 where
   pub after : entryAt t i .start < from
   pub up-to : from ≤ end
   pub inside : end ≤ length source
-  pub rows : 6156 ≤ length t
+  pub rows : CHUNKS-LEN ≤ length t
   pub narrow : length t ≤ 4294967296
 
 pub record CutLines (t t' : List ℕ) (i : ℕ) (starts : List ℕ) : Type 0 where
   pub es : List Entry
   pub spliced : Spliced t t' i es
-  pub chunks : (p s indentor : List ℕ) → runOf p s (2048, 1) ≡ indentor ∷ [] → map (chunkOf p s) es ≡ split-lines indentor (chunkOf p s (entryAt t i)) starts
-  pub low : (p : List ℕ) (top byte : ℕ) → Below p byte top (2048, 1) → EntryLow p top byte (entryAt t i) → All (EntryLow p top byte) es
+  pub chunks : (p s indentor : List ℕ) → runOf p s (PIECE-ROWS, 1) ≡ indentor ∷ [] → map (chunkOf p s) es ≡ split-lines indentor (chunkOf p s (entryAt t i)) starts
+  pub low : (p : List ℕ) (top byte : ℕ) → Below p byte top (PIECE-ROWS, 1) → EntryLow p top byte (entryAt t i) → All (EntryLow p top byte) es
 
 pub record LinesDone (exclude source t t' : List ℕ) (i from end : ℕ) (mark : Bool) (number : ℕ) (mark' : Bool) : Type 0 where
   pub zero-or : (number ≡ 0) ⊎ (number ≡ 13)
   pub done : number ≡ 0 → CutLines t t' i (linesFrom exclude source mark from end .starts)
   pub mark-is : number ≡ 0 → mark' ≡ linesFrom exclude source mark from end .mark
-  pub past : number ≡ 13 → 513 < countOf t + parts (entryAt t i .start) (linesFrom exclude source mark from end .starts)
+  pub past : number ≡ 13 → CHUNKS + 1 < countOf t + parts (entryAt t i .start) (linesFrom exclude source mark from end .starts)
 
 -- the parts ds are done, row cur is the last one, and its line starts from `from` on are left
 pub record LinesAt (exclude source t₀ : List ℕ) (i from₀ end : ℕ) (mark₀ : Bool) (t : List ℕ) (cur from : ℕ) (mark : Bool) : Type 0 where
@@ -107,10 +108,10 @@ pub record LinesAt (exclude source t₀ : List ℕ) (i from₀ end : ℕ) (mark�
   pub up-to : from ≤ end
   pub mark-is : linesFrom exclude source mark₀ from₀ end .mark ≡ linesFrom exclude source mark from end .mark
   pub count : parts (entryAt t₀ i .start) (linesFrom exclude source mark₀ from₀ end .starts) ≡ length ds + parts (entryAt t cur .start) (linesFrom exclude source mark from end .starts)
-  pub chunks : (p s indentor : List ℕ) → runOf p s (2048, 1) ≡ indentor ∷ []
+  pub chunks : (p s indentor : List ℕ) → runOf p s (PIECE-ROWS, 1) ≡ indentor ∷ []
       → split-lines indentor (chunkOf p s (entryAt t₀ i)) (linesFrom exclude source mark₀ from₀ end .starts)
       ≡ map (chunkOf p s) ds ++ split-lines indentor (chunkOf p s (entryAt t cur)) (linesFrom exclude source mark from end .starts)
-  pub low : (p : List ℕ) (top byte : ℕ) → Below p byte top (2048, 1) → EntryLow p top byte (entryAt t₀ i) → All (EntryLow p top byte) ds × EntryLow p top byte (entryAt t cur)
+  pub low : (p : List ℕ) (top byte : ℕ) → Below p byte top (PIECE-ROWS, 1) → EntryLow p top byte (entryAt t₀ i) → All (EntryLow p top byte) ds × EntryLow p top byte (entryAt t cur)
 
 pub lines-start : (exclude source t : List ℕ) (i from end : ℕ) (mark : Bool) → LinesReady source t i from end → LinesAt exclude source t i from end mark t i from mark
 lines-start exclude source t i from end mark h =
@@ -142,9 +143,9 @@ module _ (exclude source t₀ : List ℕ) (i from₀ end : ℕ) (mark₀ : Bool)
   pub lines-placed : Placed t cur
   lines-placed = cutting-placed (a .cutting) (h .placed)
 
-  -- room for a row more, where there are fewer than 512 chunks
-  pub lines-room : leb 512 (countOf t) ≡ false → ((countOf t + 1) * 12 + 12 ≤ length t) × (length t ≤ 4294967296)
-  lines-room f = (omega (arith, leb-less 512 (countOf t) f, h .rows, a .cutting .len), omega (arith, h .narrow, a .cutting .len))
+  -- room for a row more, where there are fewer chunks than there may be
+  pub lines-room : leb CHUNKS (countOf t) ≡ false → ((countOf t + 1) * ROW + ROW ≤ length t) × (length t ≤ 4294967296)
+  lines-room f = (omega (arith, leb-less CHUNKS (countOf t) f, h .rows, a .cutting .len), omega (arith, h .narrow, a .cutting .len))
 
   -- where no line start is left
   none-left : (m : Bool) → W ≡ record { mark = m; starts = [] } → CutLines t₀ t i (W₀ .starts) × (m ≡ W₀ .mark)
@@ -189,7 +190,7 @@ module _ (exclude source t₀ : List ℕ) (i from₀ end : ℕ) (mark₀ : Bool)
     past-start = omega (arith, a .after, n .from-on)
 
     -- too many chunks
-    pub lines-full : leb 512 (countOf t) ≡ true → LinesDone exclude source t₀ t i from₀ end mark₀ 13 mark
+    pub lines-full : leb CHUNKS (countOf t) ≡ true → LinesDone exclude source t₀ t i from₀ end mark₀ 13 mark
     unfolding startsF
     lines-full f =
         let q : parts (entryAt t cur .start) (W .starts) ≡ suc (parts x (W' .starts)) = ap (λ (r : Starts). parts (entryAt t cur .start) (r .starts)) next ∙ parts-inside (entryAt t cur .start) x (W' .starts) past-start in
@@ -197,7 +198,7 @@ module _ (exclude source t₀ : List ℕ) (i from₀ end : ℕ) (mark₀ : Bool)
           zero-or = inr refl;
           done = λ z. absurd (omega arith);
           mark-is = λ z. absurd (omega arith);
-          past = λ z. omega (arith, a .count, a .cutting .count, q, parts-some x (W' .starts), leb-true 512 (countOf t) f);
+          past = λ z. omega (arith, a .count, a .cutting .count, q, parts-some x (W' .starts), leb-true CHUNKS (countOf t) f);
         }
 
     -- one more cut

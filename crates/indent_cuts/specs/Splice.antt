@@ -5,6 +5,7 @@ use mathlib.Core.List.{List, [], _∷_, _++_, map, append-assoc}
 use Prim.Native.Nat.{ℕ, _+_, _≤_, _<_}
 use native.Mathlib.Omega.{arith}
 use lib.ListN.{length, length-append}
+use Rattle.layout.specs.Layout.{PIECE-ROWS}
 use Rattle.table.specs.declared.Row.{Row}
 use Rattle.table.specs.Ring.{Each, each-map, each-both, Not}
 use Rattle.table.specs.Table.{rowAt, Put}
@@ -16,9 +17,9 @@ use Rattle.rows.specs.Split.{first, second, map-same, map-append, RowSet, row-s
 abbrev pub withIntro : Place → Entry → Entry
 withIntro r e = record { start = e .start; end = e .end; intro = r; outro = e .outro; text = e .text }
 
--- the indentor alone as the intro: row 2048 of the pieces
+-- the indentor alone as the intro: the first row behind the lent pieces
 abbrev pub begun : Entry → Entry
-begun e = withIntro (2048, 1) e
+begun e = withIntro (PIECE-ROWS, 1) e
 
 abbrev pub withText : Place → Entry → Entry
 withText r e = record { start = e .start; end = e .end; intro = e .intro; outro = e .outro; text = r }

@@ -4,6 +4,7 @@ ghost use mathlib.Core.Bool.{false};
 ghost use Prim.Native.Nat.{_+_, _*_, _≤_, _<_};
 ghost use lib.Dec.{leb};
 ghost use lib.ListN.{length};
+ghost use Rattle.layout.specs.Layout.{ROW, CHUNKS};
 ghost use Rattle.table.specs.Order.{Linked, entryOf, countOf};
 ghost use Rattle.rows.specs.Insert.{Placed};
 ghost use Rattle.indent_cuts.specs.Splice.{withIntro, Rewritten, CutPart};
@@ -24,24 +25,24 @@ pub fn with_intro(r: Row, at: u32, n: u32) -> Row
 pub fn cut_part(t: &mut [u32], i: u32, q: u32) -> u32
     requires { ⌜ Linked (now t) ⌝ }
     requires { ⌜ Placed (now t) i ⌝ }
-    requires { ⌜ ((countOf (now t) + 1) * 12 + 12 ≤ length (now t)) × (length (now t) ≤ 4294967296) ⌝ }
+    requires { ⌜ ((countOf (now t) + 1) * ROW + ROW ≤ length (now t)) × (length (now t) ≤ 4294967296) ⌝ }
     ensures { λ n. ⌜ CutPart (now (t .entry)) (now (t .exit)) i n q ⌝ }
 {
     let z = table::get_row(t, 0);
     let n = z.start + 1;
     rows::split_row(t, i, q);
     let r = table::get_row(t, n);
-    table::put_row(t, n, with_intro(r, 2048, 1));
+    table::put_row(t, n, with_intro(r, layout::NEW_ROW, 1));
     n
 }
 
 // Whether there are as many chunks as a desk may have.
 pub fn is_full(t: &[u32]) -> bool
-    requires { ⌜ 12 ≤ length (now t) ⌝ }
-    ensures { λ r. ⌜ r ≡ leb 512 (countOf (now (t .entry))) ⌝ }
+    requires { ⌜ ROW ≤ length (now t) ⌝ }
+    ensures { λ r. ⌜ r ≡ leb CHUNKS (countOf (now (t .entry))) ⌝ }
 {
     let z = table::get_row(t, 0);
-    512 <= z.start
+    layout::LAST_ROW <= z.start
 }
 
 // What cuts leave: 0, or 13 where there would be too many chunks; and the mark behind the chunk.

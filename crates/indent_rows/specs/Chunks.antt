@@ -7,6 +7,7 @@ use mathlib.Core.Logic.{_⊎_, inl, inr, ⊎-elim}
 use Prim.Native.Nat.{ℕ, suc, _+_, _*_, _≤_, _<_}
 use native.Mathlib.Omega.{arith}
 use lib.ListN.{length, length-append, length-map}
+use Rattle.layout.specs.Layout.{ROW, PIECE-ROWS, STORE-LEN}
 use Rattle.utf8.specs.Chars.{All, nil, cons}
 use Rattle.table.specs.declared.Row.{Row}
 use Rattle.table.specs.Ring.{Edge, Links, links-right}
@@ -65,7 +66,7 @@ pub record WalkAt (indentor exclude source store t₀ p₀ s₀ : List ℕ) (mar
   pub byte-in : byte ≤ length s
   pub low : All (EntryLow p top byte) (map (entryAt t) us)
   pub todo : All (RestRow source store p s top byte) (map (entryAt t) rest)
-  pub indentor-row : length indentor ≤ 32768 → IndentorRow indentor p s top byte
+  pub indentor-row : length indentor ≤ STORE-LEN → IndentorRow indentor p s top byte
   pub result : closedOf indentor exclude source t₀ p₀ s₀ mark₀ ≡ then-chunks (chunksAt t p s us) (indented-chunks indentor exclude source mark (chunksAt t p s rest))
   pub rows-used : top + (sum chunk-pieces (chunksAt t p s rest) + length rest) ≤ top₀ + (sum chunk-pieces (chunksOf t₀ p₀ s₀) + countOf t₀)
   pub bytes-used : byte ≤ byte₀ + sum chunk-bytes (chunksAt t p s us)
@@ -171,7 +172,7 @@ module _ {indentor exclude source store t₀ p₀ s₀ : List ℕ} {mark₀ : Bo
     result-here = w .result ∙ ap (λ (l : List ℕ). then-chunks (chunksAt t p s us) (indented-chunks indentor exclude source mark (chunksAt t p s l))) (next .rest-is)
 
     -- what the row is asked
-    pub walk-row : cur * 12 + 12 ≤ length t
+    pub walk-row : cur * ROW + ROW ≤ length t
     walk-row = omega (arith, w .linked .room, inside-at t us cur bs (w .linked) (next .place) .1)
 
     pub walk-ready : RowReady indentor source store t p s cur top byte
@@ -272,8 +273,8 @@ module _ {indentor exclude source store t₀ p₀ s₀ : List ℕ} {mark₀ : Bo
             indentor-row = λ l.
                 let x = w .indentor-row l in
                 record {
-                  text = run-same top byte p s p' s' (d .rows) (d .bytes) (2048, 1) (x .low) ∙ x .text;
-                  low = run-still top byte p p' (d .rows) top' byte' (d .top-up) (d .byte-up) (2048, 1) (x .low);
+                  text = run-same top byte p s p' s' (d .rows) (d .bytes) (PIECE-ROWS, 1) (x .low) ∙ x .text;
+                  low = run-still top byte p p' (d .rows) top' byte' (d .top-up) (d .byte-up) (PIECE-ROWS, 1) (x .low);
                 };
             result =
                 let D : IndentedChunks = indented-chunks indentor exclude source (C .mark) (chunksAt t p s bs) in

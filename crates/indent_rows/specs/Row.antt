@@ -11,6 +11,7 @@ use lib.Dec.{leb}
 use lib.ListN.{length, take, drop}
 use lib.Seq.{take-all}
 use borrow.Author.Tests.{leb-true}
+use Rattle.layout.specs.Layout.{CHUNKS, CHUNKS-LEN, STORE-LEN}
 use Rattle.utf8.specs.Chars.{All, nil, cons}
 use Rattle.table.specs.Order.{Entry, entryAt, countOf, Linked}
 use Rattle.model.specs.Text.{Text, sum, unwrap-or}
@@ -43,13 +44,13 @@ pub record RowReady (indentor source store t p s : List ℕ) (i top byte : ℕ) 
   pub text-low : TextLow (length store) (entryAt t i .text)
   pub store-front : take (length store) s ≡ store
   pub store-low : length store ≤ byte
-  pub indentor-row : length indentor ≤ 32768 → IndentorRow indentor p s top byte
-  pub chunk-rows : 6156 ≤ length t
+  pub indentor-row : length indentor ≤ STORE-LEN → IndentorRow indentor p s top byte
+  pub chunk-rows : CHUNKS-LEN ≤ length t
   pub narrow-chunks : length t ≤ 4294967296
   pub rows : (top + (entryAt t i .intro .1 + 1)) * 2 ≤ length p
   pub narrow-pieces : length p ≤ 4294967296
   pub byte-in : byte ≤ length s
-  pub bytes : length s ≤ byte + 32768
+  pub bytes : length s ≤ byte + STORE-LEN
   pub narrow : length s < 4294967295
 
 -- what the model leaves of it
@@ -73,7 +74,9 @@ pub record RowIndented (indentor exclude source t p s : List ℕ) (i : ℕ) (mar
 pub record RowDone (indentor exclude source t p s : List ℕ) (i : ℕ) (mark : Bool) (top byte : ℕ) (t' p' s' : List ℕ) (number : ℕ) (mark' : Bool) (top' byte' : ℕ) : Type 0 where
   pub zero-or : (number ≡ 0) ⊎ (number ≡ 13)
   pub done : number ≡ 0 → RowIndented indentor exclude source t p s i mark top byte t' p' s' mark' top' byte'
-  pub past : number ≡ 13 → (513 < countOf t + length (closedRow indentor exclude source t p s i mark .chunks)) ⊎ (length s < byte + sum chunk-bytes (closedRow indentor exclude source t p s i mark .chunks))
+  pub past : number ≡ 13
+      → (CHUNKS + 1 < countOf t + length (closedRow indentor exclude source t p s i mark .chunks))
+      ⊎ (length s < byte + sum chunk-bytes (closedRow indentor exclude source t p s i mark .chunks))
 
 -- ---- the row
 content-or-is : {o : Option Text} (p : Option Text) (x : Text) → o ≡ p → unwrap-or o x ≡ unwrap-or p x
@@ -90,14 +93,14 @@ module _ {indentor source store t p s : List ℕ} {i top byte : ℕ} (exclude : 
   pieces-are = ap₂ (λ (x y : ℕ). x + y) (run-length p s (e .intro .0) (e .intro .1)) (run-length p s (e .outro .0) (e .outro .1))
 
   -- its part of the source
-  pub source-ready : (usable : Bool) → usable ≡ leb (length indentor) 32768 → SourceReady source t p i top usable
+  pub source-ready : (usable : Bool) → usable ≡ leb (length indentor) STORE-LEN → SourceReady source t p i top usable
   source-ready usable u =
       record {
         linked = h .linked;
         placed = h .placed;
         span = h .span;
         below = λ z.
-            let r = h .indentor-row (leb-true (length indentor) 32768 (sym u ∙ z)) in
+            let r = h .indentor-row (leb-true (length indentor) STORE-LEN (sym u ∙ z)) in
             record {
               linked = h .linked;
               placed = h .placed;
@@ -120,7 +123,7 @@ module _ {indentor source store t p s : List ℕ} {i top byte : ℕ} (exclude : 
         indented-lines indentor exclude source mark c edited-none
         ∙ ap (λ (y : Starts). record { mark = y .mark; chunks = split-lines indentor c (y .starts) }) (line-starts-is exclude mark (e .start) (span-text (c .span) source) v)
 
-    pub row-lines : {t' p' : List ℕ} {number top' : ℕ} {usable mark' : Bool} → usable ≡ leb (length indentor) 32768 → SourceDone exclude source t p i top mark usable t' p' number mark' top'
+    pub row-lines : {t' p' : List ℕ} {number top' : ℕ} {usable mark' : Bool} → usable ≡ leb (length indentor) STORE-LEN → SourceDone exclude source t p i top mark usable t' p' number mark' top'
         → RowDone indentor exclude source t p s i mark top byte t' p' s number mark' top' byte
     row-lines {t'} {p'} {number} {top'} {usable} {mark'} u d =
         let W = rowLines exclude source t i mark in
@@ -146,15 +149,16 @@ module _ {indentor source store t p s : List ℕ} {i top byte : ℕ} (exclude : 
               };
           past = λ z.
               ⊎-elim (λ g. inl (omega (arith, g, ap length cs, lines-parts indentor c (W .starts))))
-              (λ g. inr (long (W .starts) refl (g .1) (leb-less (length indentor) 32768 (sym u ∙ g .0)) (ap (sum chunk-bytes) cs)))
+              (λ g. inr (long (W .starts) refl (g .1) (leb-less (length indentor) STORE-LEN (sym u ∙ g .0)) (ap (sum chunk-bytes) cs)))
               (d .past z);
         }
       where
-        row-of : (b : Bool) → b ≡ leb (length indentor) 32768 → (b ≡ false → rowLines exclude source t i mark .starts ≡ []) → 0 < length (rowLines exclude source t i mark .starts) → IndentorRow indentor p s top byte
-        row-of true u f g = h .indentor-row (leb-true (length indentor) 32768 (sym u))
+        row-of : (b : Bool) → b ≡ leb (length indentor) STORE-LEN
+            → (b ≡ false → rowLines exclude source t i mark .starts ≡ []) → 0 < length (rowLines exclude source t i mark .starts) → IndentorRow indentor p s top byte
+        row-of true u f g = h .indentor-row (leb-true (length indentor) STORE-LEN (sym u))
         row-of false u f g = absurd (omega (arith, ap length (f refl)))
 
-        long : (l : List ℕ) → rowLines exclude source t i mark .starts ≡ l → 0 < length (rowLines exclude source t i mark .starts) → 32768 < length indentor
+        long : (l : List ℕ) → rowLines exclude source t i mark .starts ≡ l → 0 < length (rowLines exclude source t i mark .starts) → STORE-LEN < length indentor
             → sum chunk-bytes (closedRow indentor exclude source t p s i mark .chunks) ≡ sum chunk-bytes (split-lines indentor c (rowLines exclude source t i mark .starts))
             → length s < byte + sum chunk-bytes (closedRow indentor exclude source t p s i mark .chunks)
         long [] q g k w = absurd (omega (arith, ap length q))

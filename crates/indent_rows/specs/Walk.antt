@@ -6,6 +6,7 @@ use mathlib.Core.List.{List, [], map}
 use mathlib.Core.Logic.{_⊎_}
 use Prim.Native.Nat.{ℕ, _+_, _*_, _≤_, _<_}
 use lib.ListN.{length, take}
+use Rattle.layout.specs.Layout.{CHUNKS, CHUNKS-LEN, STORE-LEN}
 use Rattle.utf8.specs.Chars.{All}
 use Rattle.table.specs.Table.{rowAt}
 use Rattle.table.specs.Order.{entries, countOf, Linked}
@@ -36,14 +37,14 @@ pub record WalkReady (indentor source store t p s : List ℕ) (top byte : ℕ) :
   pub texts-low : All (λ e. TextLow (length store) (e .text)) (entries t)
   pub store-front : take (length store) s ≡ store
   pub store-low : length store ≤ byte
-  pub indentor-row : length indentor ≤ 32768 → IndentorRow indentor p s top byte
-  pub few : countOf t ≤ 512
-  pub chunk-rows : 6156 ≤ length t
+  pub indentor-row : length indentor ≤ STORE-LEN → IndentorRow indentor p s top byte
+  pub few : countOf t ≤ CHUNKS
+  pub chunk-rows : CHUNKS-LEN ≤ length t
   pub narrow-chunks : length t ≤ 4294967296
   pub rows : (top + (sum chunk-pieces (chunksOf t p s) + countOf t)) * 2 ≤ length p
   pub narrow-pieces : length p ≤ 4294967296
   pub byte-in : byte ≤ length s
-  pub bytes : length s ≤ byte + 32768
+  pub bytes : length s ≤ byte + STORE-LEN
   pub narrow : length s < 4294967295
 
 -- what the model leaves of the chunks
@@ -67,7 +68,7 @@ pub record ChunksIndented (indentor exclude source t p s : List ℕ) (mark : Boo
 
 -- the model's chunks pass a limit: there are too many, or more new bytes than the scratch store has room for
 abbrev pub Past : List Chunk → ℕ → ℕ → Type 0
-Past cs byte size = (512 < length cs) ⊎ (size < byte + sum chunk-bytes cs)
+Past cs byte size = (CHUNKS < length cs) ⊎ (size < byte + sum chunk-bytes cs)
 
 pub record WalkDone (indentor exclude source t p s : List ℕ) (mark : Bool) (top byte : ℕ) (t' p' s' : List ℕ) (number : ℕ) (mark' : Bool) (top' byte' : ℕ) : Type 0 where
   pub zero-or : (number ≡ 0) ⊎ (number ≡ 13)

@@ -24,8 +24,8 @@ fn indent_row(
         (now (t .exit)) (now (p .exit)) (now (s .exit)) (r .number) (r .mark) (r .top) (r .byte) ⌝ }
 {
     let r = table::get_row(t, i);
-    if r.text_at == texts::NONE {
-        let usable = indentor.len() <= 32768;
+    if r.text_at == layout::NONE {
+        let usable = indentor.len() <= layout::STORE_LEN;
         let q = indent_source::indent_source(source, exclude, t, p, i, mark, top, usable);
         return Walked {
             number: q.number,

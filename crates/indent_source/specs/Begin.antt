@@ -5,6 +5,7 @@ use mathlib.Core.List.{List, [], _∷_}
 use Prim.Native.Nat.{ℕ, zero, suc, _+_, _*_, _-_, _≤_, _<_}
 use native.Mathlib.Omega.{arith}
 use lib.ListN.{length}
+use Rattle.layout.specs.Layout.{PIECE-ROWS}
 use Rattle.table.specs.declared.Piece.{Piece}
 use Rattle.table.specs.declared.Row.{Row}
 use Rattle.table.specs.Table.{rowAt, Put}
@@ -25,17 +26,18 @@ use Rattle.indent_cuts.specs.Splice.{withIntro, Rewritten, rewritten-set}
 -- room for n + 1 rows from row top on, behind the indentor's row and those that are copied
 pub record PrefixRoom (p : List ℕ) (at n top : ℕ) : Type 0 where
   pub below : at + n ≤ top
-  pub indentor : 2048 < top
+  pub indentor : PIECE-ROWS < top
   pub room : (top + (n + 1)) * 2 ≤ length p
   pub narrow : length p ≤ 4294967296
 
 -- row top is the indentor's, and the n rows behind it are the rows at .. at + n - 1
 pub record Prefixed (p p' : List ℕ) (at n top : ℕ) : Type 0 where
   pub kept : RowsKept top p p'
-  pub first : pieceAt p' top ≡ pieceAt p 2048
+  pub first : pieceAt p' top ≡ pieceAt p PIECE-ROWS
   pub others : (j : ℕ) → j < n → pieceAt p' (top + 1 + j) ≡ pieceAt p (at + j)
 
-pub prefixed : (p p1 p2 : List ℕ) (at n top : ℕ) (r : Piece) → PrefixRoom p at n top → r ≡ rows.pieceAt p 2048 → rows.PutPiece p p1 top r → length p1 ≡ length p → Copied p1 p2 at n (top + 1) → Prefixed p p2 at n top
+pub prefixed : (p p1 p2 : List ℕ) (at n top : ℕ) (r : Piece) → PrefixRoom p at n top
+    → r ≡ rows.pieceAt p PIECE-ROWS → rows.PutPiece p p1 top r → length p1 ≡ length p → Copied p1 p2 at n (top + 1) → Prefixed p p2 at n top
 prefixed p p1 p2 at n top r h e w m c =
     record {
       kept = record { len = c .kept .len ∙ m; rows = λ j k. c .kept .rows j (omega arith) ∙ pair (w .off j (λ z. omega arith)) };
@@ -57,11 +59,11 @@ first-of [] = []
 first-of (x ∷ l) = x
 
 module _ {p p' : List ℕ} {at n top : ℕ} (c : Prefixed p p' at n top) where
-  prefixed-text : (s indentor : List ℕ) → runOf p s (2048, 1) ≡ indentor ∷ [] → runOf p' s (top, n + 1) ≡ indentor ∷ runOf p s (at, n)
+  prefixed-text : (s indentor : List ℕ) → runOf p s (PIECE-ROWS, 1) ≡ indentor ∷ [] → runOf p' s (top, n + 1) ≡ indentor ∷ runOf p s (at, n)
   unfolding first-of
   prefixed-text s indentor e =
       let q : n + 1 ≡ suc n = omega arith in
-      let x : bytesAt s (pieceAt p 2048) ≡ indentor = ap first-of (sym (run-cons p s 2048 0) ∙ e) in
+      let x : bytesAt s (pieceAt p PIECE-ROWS) ≡ indentor = ap first-of (sym (run-cons p s PIECE-ROWS 0) ∙ e) in
       ap (λ (k : ℕ). runOf p' s (top, k)) q
       ∙ run-cons p' s top n
       ∙ ap₂ (λ (y : Text) (l : List Text). y ∷ l) (ap (bytesAt s) (c .first) ∙ x)
@@ -69,7 +71,7 @@ module _ {p p' : List ℕ} {at n top : ℕ} (c : Prefixed p p' at n top) where
       ∙ tabulate-ext (λ k. bytesAt s (pieceAt p' (top + 1 + k))) (λ k. bytesAt s (pieceAt p (at + k))) n (λ k h. ap (bytesAt s) (c .others k h))
       ∙ sym (run-tabulate p s at n))
 
-  prefixed-low : (byte : ℕ) → Below p byte top (2048, 1) → Below p byte top (at, n) → Below p' byte (top + n + 1) (top, n + 1)
+  prefixed-low : (byte : ℕ) → Below p byte top (PIECE-ROWS, 1) → Below p byte top (at, n) → Below p' byte (top + n + 1) (top, n + 1)
   prefixed-low byte i h zero g =
       let z : top + 0 ≡ top = omega arith in
       let e = ap (λ (x : Place). x .0 + x .1) (ap (pieceAt p') z ∙ c .first) in
@@ -84,7 +86,7 @@ pub record BeginReady (t p : List ℕ) (i top : ℕ) : Type 0 where
   pub linked : Linked t
   pub placed : Placed t i
   pub below : (k : ℕ) → k < entryAt t i .intro .1 → entryAt t i .intro .0 + k < top
-  pub indentor : 2048 < top
+  pub indentor : PIECE-ROWS < top
   pub room : (top + (entryAt t i .intro .1 + 1)) * 2 ≤ length p
   pub narrow : length p ≤ 4294967296
 
@@ -93,8 +95,8 @@ pub record Begun (t p : List ℕ) (i top : ℕ) (t' p' : List ℕ) (top' : ℕ) 
   pub set : RowSet t t' i (withIntro run (entryAt t i))
   pub len : length t' ≡ length t
   pub kept : RowsKept top p p'
-  pub text : (s indentor : List ℕ) → runOf p s (2048, 1) ≡ indentor ∷ [] → runOf p' s run ≡ indentor ∷ runOf p s (entryAt t i .intro)
-  pub low : (byte : ℕ) → Below p byte top (2048, 1) → Below p byte top (entryAt t i .intro) → Below p' byte top' run
+  pub text : (s indentor : List ℕ) → runOf p s (PIECE-ROWS, 1) ≡ indentor ∷ [] → runOf p' s run ≡ indentor ∷ runOf p s (entryAt t i .intro)
+  pub low : (byte : ℕ) → Below p byte top (PIECE-ROWS, 1) → Below p byte top (entryAt t i .intro) → Below p' byte top' run
   pub up : top ≤ top'
   pub used : top' ≤ top + (entryAt t i .intro .1 + 1)
 
@@ -124,12 +126,12 @@ module _ {t p : List ℕ} {i top : ℕ} (h : BeginReady t p i top) (r : Row) (er
     row-with run c = rewritten-set (h .linked) (h .placed) er (subst (λ (x : Entry). Rewritten r q (withIntro run x)) entry-is c) u m
 
     -- no piece: the indentor's own row
-    pub begun-alone : r .«intro_n» ≡ 0 → Rewritten r q (withIntro (2048, 1) (entryOf r)) → Begun t p i top t' p top
+    pub begun-alone : r .«intro_n» ≡ 0 → Rewritten r q (withIntro (PIECE-ROWS, 1) (entryOf r)) → Begun t p i top t' p top
     begun-alone z c =
         let n : entryAt t i .intro .1 ≡ 0 = sym (ap (λ (x : Entry). x .intro .1) entry-is) ∙ z in
         record {
-          run = (2048, 1);
-          set = row-with (2048, 1) c;
+          run = (PIECE-ROWS, 1);
+          set = row-with (PIECE-ROWS, 1) c;
           len = m;
           kept = rows-same top p;
           text = λ s indentor e. e ∙ ap (λ (l : List Text). indentor ∷ l) (sym (ap (λ (k : ℕ). runOf p s (entryAt t i .intro .0, k)) n ∙ no-run p s (entryAt t i .intro .0)));

@@ -8,6 +8,7 @@ use native.Mathlib.Omega.{arith}
 use lib.Dec.{leb}
 use lib.ListN.{length}
 use borrow.Author.Tests.{leb-true}
+use Rattle.layout.specs.Layout.{CHUNKS, CHUNKS-LEN, PIECE-ROWS}
 use Rattle.utf8.specs.Chars.{All, nil, cons}
 use Rattle.table.specs.Order.{Entry, entryAt, countOf, Linked}
 use Rattle.model.specs.Chunk.{Chunk, with-texts, prepend-intro}
@@ -22,10 +23,10 @@ use Rattle.indent_cuts.specs.Splice.{Spliced, spliced-same, set-then, CutPart, 
 use Rattle.indent_cuts.specs.Lines.{linesFrom, parts, parts-inside, parts-at-start, parts-some, lift-first, lift-begun, first-low, begun-low, LinesReady, CutLines, LinesDone}
 use Rattle.indent_source.specs.Begin.{Begun}
 
--- row 2048 is the indentor's piece, the first of those behind the lent ones
+-- row PIECE-ROWS is the indentor's piece, the first of those behind the lent ones
 pub record IndentorRow (indentor p s : List ℕ) (top byte : ℕ) : Type 0 where
-  pub text : runOf p s (2048, 1) ≡ indentor ∷ []
-  pub low : Below p byte top (2048, 1)
+  pub text : runOf p s (PIECE-ROWS, 1) ≡ indentor ∷ []
+  pub low : Below p byte top (PIECE-ROWS, 1)
 
 -- ---- a whole source chunk. Where it has no line start, the indentor is not asked for
 pub record Parts (t p : List ℕ) (i top : ℕ) (starts : List ℕ) (t' p' : List ℕ) (top' : ℕ) : Type 0 where
@@ -36,13 +37,13 @@ pub record Parts (t p : List ℕ) (i top : ℕ) (starts : List ℕ) (t' p' : Lis
   pub used : top' ≤ top + (entryAt t i .intro .1 + 1)
   pub chunks : (s indentor : List ℕ) (byte : ℕ) → (0 < length starts → IndentorRow indentor p s top byte) → EntryLow p top byte (entryAt t i)
       → map (chunkOf p' s) es ≡ split-lines indentor (chunkOf p s (entryAt t i)) starts
-  pub low : (byte : ℕ) → (0 < length starts → Below p byte top (2048, 1)) → EntryLow p top byte (entryAt t i) → All (EntryLow p' top' byte) es
+  pub low : (byte : ℕ) → (0 < length starts → Below p byte top (PIECE-ROWS, 1)) → EntryLow p top byte (entryAt t i) → All (EntryLow p' top' byte) es
 
 pub record PartsDone (t p : List ℕ) (i top : ℕ) (starts : Starts) (t' p' : List ℕ) (number : ℕ) (mark' : Bool) (top' : ℕ) : Type 0 where
   pub zero-or : (number ≡ 0) ⊎ (number ≡ 13)
   pub done : number ≡ 0 → Parts t p i top (starts .starts) t' p' top'
   pub mark-is : number ≡ 0 → mark' ≡ starts .mark
-  pub past : number ≡ 13 → 513 < countOf t + parts (entryAt t i .start) (starts .starts)
+  pub past : number ≡ 13 → CHUNKS + 1 < countOf t + parts (entryAt t i .start) (starts .starts)
 
 pub parts-none : (t p : List ℕ) (i top : ℕ) → Linked t → Parts t p i top [] t p top
 parts-none t p i top l =
@@ -73,12 +74,12 @@ module _ {t p t1 p' : List ℕ} {i top top' : ℕ} (b : Begun t p i top t1 p' to
         used = b .used;
         chunks = λ s indentor byte r₀ h.
             let r = r₀ (omega arith) in
-            d .chunks p' s indentor (run-same top byte p s p' s (b .kept) (bytes-same byte s) (2048, 1) (r .low) ∙ r .text)
+            d .chunks p' s indentor (run-same top byte p s p' s (b .kept) (bytes-same byte s) (PIECE-ROWS, 1) (r .low) ∙ r .text)
             ∙ ap (λ (c : Chunk). split-lines indentor c l) (begun-chunk s indentor byte r h)
             ∙ sym (split-lines-at-start indentor (chunkOf p s (entryAt t i)) x l (omega arith));
         low = λ byte r₀ h.
             let r = r₀ (omega arith) in
-            d .low p' top' byte (run-still top byte p p' (b .kept) top' byte (b .up) (omega arith) (2048, 1) r)
+            d .low p' top' byte (run-still top byte p p' (b .kept) top' byte (b .up) (omega arith) (PIECE-ROWS, 1) r)
             (subst (EntryLow p' top' byte) (sym (b .set .here))
             (record {
               runs = record { intro = b .low byte r (h .runs .intro); outro = run-still top byte p p' (b .kept) top' byte (b .up) (omega arith) (entryAt t i .outro) (h .runs .outro) };
@@ -99,7 +100,8 @@ module _ {t p t1 p' : List ℕ} {i top top' : ℕ} (b : Begun t p i top t1 p' to
       }
 
 -- what the cuts behind the own start ask
-pub own-lines-ready : {source t p t1 p' : List ℕ} {i top top' end : ℕ} → Begun t p i top t1 p' top' → Placed t i → entryAt t i .start < end → end ≤ length source → 6156 ≤ length t → length t ≤ 4294967296
+pub own-lines-ready : {source t p t1 p' : List ℕ} {i top top' end : ℕ} → Begun t p i top t1 p' top' → Placed t i
+    → entryAt t i .start < end → end ≤ length source → CHUNKS-LEN ≤ length t → length t ≤ 4294967296
     → LinesReady source t1 i (entryAt t i .start + 1) end
 own-lines-ready {t = t} b w h k r n =
     record {
@@ -114,7 +116,7 @@ own-lines-ready {t = t} b w h k r n =
 
 -- the first line start lies inside
 module _ {t t1 : List ℕ} {i n x : ℕ} (l : Linked t) (w : Placed t i) (h : entryAt t i .start < x) (c : CutPart t t1 i n x) where
-  pub inner-lines-ready : {source : List ℕ} {end : ℕ} → x < end → end ≤ length source → 6156 ≤ length t → length t ≤ 4294967296 → LinesReady source t1 n (x + 1) end
+  pub inner-lines-ready : {source : List ℕ} {end : ℕ} → x < end → end ≤ length source → CHUNKS-LEN ≤ length t → length t ≤ 4294967296 → LinesReady source t1 n (x + 1) end
   inner-lines-ready k g r m =
       record {
         linked = c .linked;
@@ -157,11 +159,12 @@ module _ {t t1 : List ℕ} {i n x : ℕ} (l : Linked t) (w : Placed t i) (h : en
       }
 
 -- no room for a first cut
-pub inner-full : {t t' p p' : List ℕ} {i x top top' : ℕ} {starts : Starts} {mark' : Bool} → entryAt t i .start < x → leb 512 (countOf t) ≡ true → PartsDone t p i top (then-start x starts) t' p' 13 mark' top'
+pub inner-full : {t t' p p' : List ℕ} {i x top top' : ℕ} {starts : Starts} {mark' : Bool}
+    → entryAt t i .start < x → leb CHUNKS (countOf t) ≡ true → PartsDone t p i top (then-start x starts) t' p' 13 mark' top'
 inner-full {t} {i = i} {x = x} {starts = starts} h f =
     record {
       zero-or = inr refl;
       done = λ z. absurd (omega arith);
       mark-is = λ z. absurd (omega arith);
-      past = λ z. omega (arith, leb-true 512 (countOf t) f, parts-inside (entryAt t i .start) x (starts .starts) h, parts-some x (starts .starts));
+      past = λ z. omega (arith, leb-true CHUNKS (countOf t) f, parts-inside (entryAt t i .start) x (starts .starts) h, parts-some x (starts .starts));
     }

@@ -8,6 +8,7 @@ use native.Mathlib.Omega.{arith}
 use native.Mathlib.Decide.{ℕ-discrete}
 use lib.Dec.{leb}
 use lib.ListN.{length}
+use Rattle.layout.specs.Layout.{ROW, CHUNKS, CHUNKS-LEN}
 use Rattle.table.specs.declared.Row.{Row}
 use Rattle.table.specs.Table.{rowAt}
 use Rattle.table.specs.Order.{entryAt, countOf, Linked}
@@ -26,7 +27,7 @@ pub record SourceReady (source t p : List ℕ) (i top : ℕ) (usable : Bool) : T
   pub placed : Placed t i
   pub span : SpanIn source (entryAt t i)
   pub below : usable ≡ true → BeginReady t p i top
-  pub chunk-rows : 6156 ≤ length t
+  pub chunk-rows : CHUNKS-LEN ≤ length t
   pub narrow-chunks : length t ≤ 4294967296
 
 -- a line start at the row's own start, and one inside
@@ -35,7 +36,7 @@ pub record OwnReady (source t p : List ℕ) (i start end top : ℕ) : Type 0 whe
   pub at-start : start ≡ entryAt t i .start
   pub below : start < end
   pub inside : end ≤ length source
-  pub chunk-rows : 6156 ≤ length t
+  pub chunk-rows : CHUNKS-LEN ≤ length t
   pub narrow-chunks : length t ≤ 4294967296
 
 pub record InnerReady (source t : List ℕ) (i x end : ℕ) : Type 0 where
@@ -44,7 +45,7 @@ pub record InnerReady (source t : List ℕ) (i x end : ℕ) : Type 0 where
   pub after : entryAt t i .start < x
   pub below : x < end
   pub inside : end ≤ length source
-  pub chunk-rows : 6156 ≤ length t
+  pub chunk-rows : CHUNKS-LEN ≤ length t
   pub narrow-chunks : length t ≤ 4294967296
 
 -- what the cuts leave, whatever the piece table is: they do not touch it
@@ -57,8 +58,8 @@ own-cuts {source} {t} {p} {t1} {p'} {i} {start} {end} h b =
     let e = h .at-start in
     subst (λ (y : ℕ). LinesReady source t1 i (y + 1) end) (sym e) (own-lines-ready b (h .own .placed) (omega (arith, e, h .below)) (h .inside) (h .chunk-rows) (h .narrow-chunks))
 
-pub inner-room : {source t : List ℕ} {i x end : ℕ} → InnerReady source t i x end → leb 512 (countOf t) ≡ false → ((countOf t + 1) * 12 + 12 ≤ length t) × (length t ≤ 4294967296)
-inner-room {t = t} h f = (omega (arith, leb-less 512 (countOf t) f, h .chunk-rows), h .narrow-chunks)
+pub inner-room : {source t : List ℕ} {i x end : ℕ} → InnerReady source t i x end → leb CHUNKS (countOf t) ≡ false → ((countOf t + 1) * ROW + ROW ≤ length t) × (length t ≤ 4294967296)
+inner-room {t = t} h f = (omega (arith, leb-less CHUNKS (countOf t) f, h .chunk-rows), h .narrow-chunks)
 
 abbrev pub rowLines : List ℕ → List ℕ → List ℕ → ℕ → Bool → Starts
 rowLines exclude source t i mark = linesFrom exclude source mark (entryAt t i .start) (entryAt t i .end)
@@ -69,7 +70,9 @@ pub record SourceDone (exclude source t p : List ℕ) (i top : ℕ) (mark usable
   pub done : number ≡ 0 → Parts t p i top (rowLines exclude source t i mark .starts) t' p' top'
   pub mark-is : number ≡ 0 → mark' ≡ rowLines exclude source t i mark .mark
   pub used : number ≡ 0 → (usable ≡ false) → rowLines exclude source t i mark .starts ≡ []
-  pub past : number ≡ 13 → (513 < countOf t + parts (entryAt t i .start) (rowLines exclude source t i mark .starts)) ⊎ ((usable ≡ false) × (0 < length (rowLines exclude source t i mark .starts)))
+  pub past : number ≡ 13
+      → (CHUNKS + 1 < countOf t + parts (entryAt t i .start) (rowLines exclude source t i mark .starts))
+      ⊎ ((usable ≡ false) × (0 < length (rowLines exclude source t i mark .starts)))
 
 -- ---- the search in a part of the source
 apart : (a b : ℕ) → (a ≡ b → ⊥) → a ≤ b → a < b
@@ -151,5 +154,5 @@ module _ {source t p : List ℕ} {i top : ℕ} {usable : Bool} (exclude : List �
           done = λ z. subst (λ (y : Starts). Parts t p i top (y .starts) t' p' top') (sym lines-then) (d .done z);
           mark-is = λ z. d .mark-is z ∙ sym (ap (λ (y : Starts). y .mark) lines-then);
           used = λ z f. no-tf (sym u ∙ f);
-          past = λ z. inl (subst (λ (y : Starts). 513 < countOf t + parts (entryAt t i .start) (y .starts)) (sym lines-then) (d .past z));
+          past = λ z. inl (subst (λ (y : Starts). CHUNKS + 1 < countOf t + parts (entryAt t i .start) (y .starts)) (sym lines-then) (d .past z));
         }

@@ -13,7 +13,7 @@ fn prefix_run(p: &mut [u32], at: u32, n: u32, top: u32)
     requires { ⌜ PrefixRoom (now p) at n top ⌝ }
     ensures { λ _. ⌜ Prefixed (now (p .entry)) (now (p .exit)) at n top ⌝ }
 {
-    let r = table::get_piece(p, 2048);
+    let r = table::get_piece(p, layout::NEW_ROW);
     table::put_piece(p, top, r);
     trim_run::copy_rows(p, at, n, top + 1);
 }
@@ -26,7 +26,7 @@ fn begin_own(t: &mut [u32], p: &mut [u32], i: u32, top: u32) -> u32
     let r = table::get_row(t, i);
     let n = r.intro_n;
     if n == 0 {
-        table::put_row(t, i, indent_cuts::with_intro(r, 2048, 1));
+        table::put_row(t, i, indent_cuts::with_intro(r, layout::NEW_ROW, 1));
         return top;
     }
     prefix_run(p, r.intro_at, n, top);

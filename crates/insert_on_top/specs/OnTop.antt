@@ -7,6 +7,7 @@ use native.Mathlib.Omega.{arith}
 use native.Mathlib.Numerals.{add-one}
 use lib.ListN.{length, take, drop, take-append-drop}
 use lib.Seq.{length-take-le, take-append-add}
+use Rattle.layout.specs.Layout.{PIECES-LEN, STORE-LEN}
 use Rattle.utf8.specs.Chars.{All}
 use Rattle.utf8.specs.CharLaws.{all-front, all-back}
 use Rattle.table.specs.declared.Row.{Row}
@@ -259,8 +260,8 @@ pub record TopReady (t P S text : List ℕ) (l : Used) : Type 0 where
   pub pieces : piece-count (magicStringOf [] t (take (l .row * 2) P) (take (l .byte) S)) ≤ l .pieces
   pub rows : l .row + l .pieces < length P / 2
   pub bytes : l .byte + length text ≤ length S
-  pub lent-pieces : length P ≤ 4096
-  pub lent-store : length S ≤ 32768
+  pub lent-pieces : length P ≤ PIECES-LEN
+  pub lent-store : length S ≤ STORE-LEN
 
 room-of : (t P S text : List ℕ) (l : Used) (x : Place) → TopReady t P S text l → RunIn (take (l .row * 2) P) (take (l .byte) S) x → x .1 ≤ l .pieces → TopRoom x text P S (l .row) (l .byte)
 room-of t P S text l x k h f =

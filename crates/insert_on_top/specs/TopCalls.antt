@@ -7,6 +7,7 @@ use Prim.Native.Nat.{ℕ, suc, _+_, _-_, _*_, _/_, _≤_}
 use native.Mathlib.Omega.{arith}
 use lib.Dec.{eqb}
 use lib.ListN.{length, take}
+use Rattle.layout.specs.Layout.{ROW}
 use Rattle.table.specs.Ring.{Each}
 use Rattle.table.specs.Order.{entryAt, order, countOf}
 use Rattle.model.specs.Text.{Text, sum}
@@ -146,7 +147,7 @@ module _ {source t P S t1 : List ℕ} {l : Used} {n : ℕ} (text : List ℕ) (w 
 
   -- with one piece more it keeps the limits, and the bound with one more is above it
   module _ (t' P' S' : List ℕ) (o : OneMore text (magicStringOf [] t1 (rowsBelow l P) (bytesBelow l S)) (magicStringOf [] t' P' S')) where
-    within-after : countOf t1 ≤ length t / 12 - 1 → within (limitsOf t P S) (magicStringOf [] t' P' S') ≡ true
+    within-after : countOf t1 ≤ length t / ROW - 1 → within (limitsOf t P S) (magicStringOf [] t' P' S') ≡ true
     within-after c =
         keeps-within
         (record {
@@ -214,7 +215,7 @@ module _ (left front : Bool) (q : ℕ) (text : List ℕ) {source t P S t1 : List
   pub top-ready : TopReady t1 P S text l
   top-ready = ready-after text w rm cut-low (c .kept)
 
-  few : countOf t1 ≤ length t / 12 - 1
+  few : countOf t1 ≤ length t / ROW - 1
   few = omega (arith, c .count, rm .chunks)
 
   leave : CutsLeave (q ∷ []) source t P S t1 r

@@ -2,6 +2,7 @@
 ghost use mathlib.Core.Path.{_≡_};
 ghost use Prim.Native.Nat.{_+_, _*_, _^_, _≤_, _<_};
 ghost use lib.ListN.{length, take};
+ghost use Rattle.layout.specs.Layout.{ROW, PIECES-LEN};
 ghost use Rattle.table.specs.Order.{entryAt, countOf};
 ghost use Rattle.memory.specs.WellFormed.{RunIn};
 ghost use Rattle.memory_used.specs.Above.{Above, Desk};
@@ -28,8 +29,8 @@ fn add_on_top(
     row: usize,
     byte: usize,
 ) -> usize
-    requires { ⌜ i * 12 + 12 ≤ length (now chunks) ⌝ }
-    requires { ⌜ length (now pieces) ≤ 4096 ⌝ }
+    requires { ⌜ i * ROW + ROW ≤ length (now chunks) ⌝ }
+    requires { ⌜ length (now pieces) ≤ PIECES-LEN ⌝ }
     requires { ⌜ TopRoom (side outro (entryAt (now chunks) i)) (now text) (now pieces) (now store) row byte ⌝ }
     requires { ⌜ RunIn (take (row * 2) (now pieces)) (take byte (now store)) (side outro (entryAt (now chunks) i)) ⌝ }
     ensures { λ above. ⌜ AddedOnTop outro front (now (text .entry)) row byte (now (pieces .entry)) (now (store .entry)) (now (chunks .entry))

@@ -13,10 +13,10 @@ use Rattle.model.specs.Chunk.{Chunk, Texts, with-texts, start-of, end-of}
 use Rattle.model.specs.MagicString.{MagicString, Result, ok, err, and-then, with-chunks, with-intro, with-outro, by-start, by-end, at-start, at-end, holder, refuses-split, split-holder, split-at}
 use Rattle.model.specs.Limits.{full, within, chunk-bytes, byte-count}
 use Rattle.model.specs.Call.{Edit, steps, refused-before}
-use Rattle.model.specs.Lists.{sum-append}
+use Rattle.model.specs.Lists.{bool-elim, sum-append}
 use Rattle.memory.specs.Layout.{magicStringOf}
 use Rattle.memory.specs.WellFormed.{Readable, WellFormed}
-use Rattle.memory.specs.Laws.{desk-full}
+use Rattle.memory.specs.Laws.{desk-full, within-keeps}
 use Rattle.memory.specs.Calls.{idle, Ran}
 use Rattle.texts.specs.Carry.{withText}
 use Rattle.rebuild.specs.Rebuilt.{Finished}
@@ -118,7 +118,7 @@ module _ (left front : Bool) (q : ℕ) (text p s t t1 p1 s1 : List ℕ) (r : ℕ
     cut-made source v =
         c .leave source p s h v .result (insert-step left front q text) ∙ ap (λ (n : ℕ). and-then (err n (magicStringOf source t1 p s)) (insert-step left front q text)) z
 
-    pub steps-long : 32768 < length text → InsertSteps left front q text p s t t1 p1 s1 13
+    pub steps-long : full .bytes < length text → InsertSteps left front q text p s t t1 p1 s1 13
     steps-long l =
         record {
           leave = λ z. absurd (omega arith);
@@ -180,7 +180,7 @@ WholeRan outro front text source t p s t' p' s' r =
     → Ran e source t p s t' p' s' r
 
 module _ (outro front : Bool) (text : List ℕ) {source t p s : List ℕ} (w : WellFormed source t p s) where
-  pub whole-long : 32768 < length text → WholeRan outro front text source t p s t p s 13
+  pub whole-long : full .bytes < length text → WholeRan outro front text source t p s t p s 13
   whole-long l e h q i =
       let m = magicStringOf source t p s in
       ran-past-limits e source t p s w h (ap (λ (y : Result). within full (y .desk)) (q m) ∙ past-bytes (whole-add outro front text m) (omega (arith, whole-big outro front text m)))

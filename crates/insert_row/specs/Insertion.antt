@@ -7,6 +7,7 @@ use Prim.Native.Nat.{ℕ, _+_, _*_, _≤_}
 use native.Mathlib.Omega.{arith}
 use lib.Dec.{eqb}
 use lib.ListN.{length}
+use Rattle.layout.specs.Layout.{ROW}
 use Rattle.utf8.specs.Chars.{All, nil, cons}
 use Rattle.utf8.specs.CharLaws.{all-front, all-back}
 use Rattle.table.specs.declared.Row.{Row}
@@ -247,5 +248,5 @@ module _ (f : Entry → Bool) (t p s : List ℕ) (i : ℕ) (w : First f t i) whe
         side-small outro (entryAt t i) (first-of (all-back (EntrySmall p s) (map (entryAt t) (w .us)) (entryAt t i ∷ map (entryAt t) (w .bs)) (subst (All (EntrySmall p s)) e (k .chunks)))),
       )
 
-  pub found-row : Linked t → i * 12 + 12 ≤ length t
+  pub found-row : Linked t → i * ROW + ROW ≤ length t
   found-row l = omega (arith, l .room, inside-at t (w .us) i (w .bs) l (w .place) .1)

@@ -5,6 +5,7 @@ use mathlib.Core.List.{List, [], _∷_, _++_}
 use Prim.Native.Nat.{ℕ, suc, _≤_, _<_}
 use native.Mathlib.Omega.{arith}
 use lib.ListN.{length, drop, length-append, length-drop}
+use Rattle.layout.specs.Layout.{PIECES-LEN, STORE-LEN, INSERT-PIECES-LEN, INSERT-STORE-LEN}
 use Rattle.table.specs.declared.Row.{Row}
 use Rattle.table.specs.Table.{rowAt, Put}
 use Rattle.table.specs.Order.{Entry, entryAt}
@@ -26,10 +27,10 @@ pub record Spare (p s p1 s1 : List ℕ) : Type 0 where
   pub after : List ℕ
   pub pieces : p1 ≡ p ++ behind
   pub store : s1 ≡ s ++ after
-  pub lent-pieces : length p ≤ 4096
-  pub lent-store : length s ≤ 32768
-  pub rows-room : 6146 ≤ length p1
-  pub bytes-room : 65536 ≤ length s1
+  pub lent-pieces : length p ≤ PIECES-LEN
+  pub lent-store : length s ≤ STORE-LEN
+  pub rows-room : INSERT-PIECES-LEN ≤ length p1
+  pub bytes-room : INSERT-STORE-LEN ≤ length s1
   pub rows-narrow : length p1 < 4294967296
   pub narrow : length s1 < 4294967296
 
@@ -54,13 +55,13 @@ with-length false text ts = length-append ts (text ∷ []) ∙ omega arith
 -- the scratch tables of an insertion
 pub record LongScratch (t p s : List ℕ) : Type 0 where
   pub scratch : Scratch t p s
-  pub pieces : length p ≡ 6146
-  pub store : length s ≡ 65536
+  pub pieces : length p ≡ INSERT-PIECES-LEN
+  pub store : length s ≡ INSERT-STORE-LEN
 
 pub loaded-spare : {source t p s t₀ p₀ s₀ t1 p1 s1 : List ℕ} → WellFormed source t p s → LongScratch t₀ p₀ s₀ → Loaded t p s t₀ p₀ s₀ t1 p1 s1 → Spare p s p1 s1
 loaded-spare {p = p} {s = s} {p₀ = p₀} {s₀ = s₀} {p1 = p1} {s1 = s1} w f d =
-    let lp : length p1 ≡ 6146 = ap length (d .pieces) ∙ simp (length-append, length-drop) (omega (arith, w .sized .pieces, f .pieces)) in
-    let ls : length s1 ≡ 65536 = ap length (d .store) ∙ simp (length-append, length-drop) (omega (arith, w .sized .store, f .store)) in
+    let lp : length p1 ≡ INSERT-PIECES-LEN = ap length (d .pieces) ∙ simp (length-append, length-drop) (omega (arith, w .sized .pieces, f .pieces)) in
+    let ls : length s1 ≡ INSERT-STORE-LEN = ap length (d .store) ∙ simp (length-append, length-drop) (omega (arith, w .sized .store, f .store)) in
     record {
       behind = drop (length p) p₀;
       after = drop (length s) s₀;

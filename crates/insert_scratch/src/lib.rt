@@ -1,6 +1,7 @@
 // A piece more at the front or the back of a chunk's intro or outro, or of the head or the tail: on scratch tables.
 ghost use Prim.Native.Nat.{_+_, _*_, _≤_};
 ghost use lib.ListN.{length};
+ghost use Rattle.layout.specs.Layout.{ROW, STORE-LEN};
 ghost use Rattle.table.specs.Order.{entryAt};
 ghost use Rattle.memory.specs.WellFormed.{RunIn, Readable, WellFormed};
 ghost use Rattle.split.specs.Lift.{RunSmall, DeskSmall};
@@ -24,16 +25,16 @@ fn add_piece(
     outro: bool,
     front: bool,
 )
-    requires { ⌜ i * 12 + 12 ≤ length (now t) ⌝ }
+    requires { ⌜ i * ROW + ROW ≤ length (now t) ⌝ }
     requires { ⌜ RunIn (now pieces) (now store) (side outro (entryAt (now t) i)) ⌝ }
     requires { ⌜ RunSmall (now pieces) (now store) (side outro (entryAt (now t) i)) ⌝ }
     requires { ⌜ Spare (now pieces) (now store) (now p) (now s) ⌝ }
-    requires { ⌜ length (now text) ≤ 32768 ⌝ }
+    requires { ⌜ length (now text) ≤ STORE-LEN ⌝ }
     ensures { λ _. ⌜ PieceAdded outro front (now (text .entry)) (now (pieces .entry)) (now (store .entry)) (now (t .entry)) (now (t .exit)) (now (p .exit)) (now (s .exit)) i ⌝ }
 {
     let r = table::get_row(t, i);
     let run = insert_row::run_of(r, outro);
-    let first = on_top::lengthen(p, s, text, front, run.at, run.n, 2048, 32768);
+    let first = on_top::lengthen(p, s, text, front, run.at, run.n, layout::PIECE_ROWS, layout::STORE_LEN);
     table::put_row(
         t,
         i,
@@ -57,7 +58,7 @@ fn insert_rows(
     requires { ⌜ Readable (now t) (now pieces) (now store) ⌝ }
     requires { ⌜ DeskSmall (now t) (now pieces) (now store) ⌝ }
     requires { ⌜ Spare (now pieces) (now store) (now p) (now s) ⌝ }
-    requires { ⌜ length (now text) ≤ 32768 ⌝ }
+    requires { ⌜ length (now text) ≤ STORE-LEN ⌝ }
     ensures { λ _. ⌜ Inserted left front q (now (text .entry)) (now (t .entry)) (now (pieces .entry)) (now (store .entry)) (now (t .exit)) (now (p .exit)) (now (s .exit)) ⌝ }
 {
     let Found::At(i) = rows::find(t, insert_row::key_for(left), q) else {
@@ -89,7 +90,7 @@ fn insert_steps(
     if r != 0 {
         return r;
     }
-    if text.len() > 32768 {
+    if text.len() > layout::STORE_LEN {
         return 13;
     }
     insert_rows(pieces, store, text, t, p, s, q, left, front);
@@ -140,12 +141,12 @@ pub fn insert_scratch(
         (now (chunks .exit)) (now (pieces .exit)) (now (store .exit)) (o .number)
         × Above (now (chunks .exit)) (now (pieces .exit)) (now (store .exit)) (o .used) ⌝ }
 {
-    let rows = 6192usize;
-    let words = 6146usize;
-    let size = 65536usize;
-    let mut t = [0u32; 6192];
-    let mut p = [0u32; 6146];
-    let mut s = [0u8; 65536];
+    let rows = layout::SCRATCH_LEN;
+    let words = layout::INSERT_PIECES_LEN;
+    let size = layout::INSERT_STORE_LEN;
+    let mut t = [0u32; layout::SCRATCH_LEN];
+    let mut p = [0u32; layout::INSERT_PIECES_LEN];
+    let mut s = [0u8; layout::INSERT_STORE_LEN];
     insert_by(
         source,
         chunks,
@@ -176,7 +177,7 @@ fn whole_by(
 ) -> Outcome
     requires { ⌜ WellFormed (now source) (now chunks) (now pieces) (now store) ⌝ }
     requires { ⌜ LongScratch (now t) (now p) (now s) ⌝ }
-    requires { ⌜ length (now text) ≤ 32768 ⌝ }
+    requires { ⌜ length (now text) ≤ STORE-LEN ⌝ }
     ensures { λ o. ⌜ WholeRan outro front (now (text .entry)) (now (source .entry)) (now (chunks .entry)) (now (pieces .entry)) (now (store .entry))
         (now (chunks .exit)) (now (pieces .exit)) (now (store .exit)) (o .number)
         × Above (now (chunks .exit)) (now (pieces .exit)) (now (store .exit)) (o .used) ⌝ }
@@ -201,15 +202,15 @@ pub fn whole_scratch(
         (now (chunks .exit)) (now (pieces .exit)) (now (store .exit)) (o .number)
         × Above (now (chunks .exit)) (now (pieces .exit)) (now (store .exit)) (o .used) ⌝ }
 {
-    if text.len() > 32768 {
+    if text.len() > layout::STORE_LEN {
         return on_top::counted(chunks, pieces, store, 13);
     }
-    let rows = 6192usize;
-    let words = 6146usize;
-    let size = 65536usize;
-    let mut t = [0u32; 6192];
-    let mut p = [0u32; 6146];
-    let mut s = [0u8; 65536];
+    let rows = layout::SCRATCH_LEN;
+    let words = layout::INSERT_PIECES_LEN;
+    let size = layout::INSERT_STORE_LEN;
+    let mut t = [0u32; layout::SCRATCH_LEN];
+    let mut p = [0u32; layout::INSERT_PIECES_LEN];
+    let mut s = [0u8; layout::INSERT_STORE_LEN];
     whole_by(
         source,
         chunks,

@@ -8,6 +8,7 @@ use native.Mathlib.Omega.{arith}
 use lib.ListN.{length, take, drop}
 use borrow.Author.Tests.{ltb-true}
 use lib.Dec.{ltb, leb}
+use Rattle.layout.specs.Layout.{ROW}
 use Rattle.utf8.specs.Rfc3629.{utf8, decodeAt, codeOf, LastStart}
 use Rattle.utf8.specs.Chars.{All, chars, code}
 use Rattle.utf8.specs.Sequences.{both}
@@ -229,7 +230,7 @@ module _ (source t p s : List ℕ) (w : WellFormed source t p s) where
     suc-is : left ≡ suc (left - 1)
     suc-is = omega arith
 
-    pub seeking-row : row * 12 + 12 ≤ length t
+    pub seeking-row : row * ROW + ROW ≤ length t
     seeking-row = rw (k .row-is (left - 1) suc-is) (row-in t (left - 1) (w .readable .linked))
 
     module _ (r : Row) (sr : SectionRow t (left - 1) row r) where

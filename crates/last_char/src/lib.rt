@@ -20,7 +20,7 @@ use memory::Answer;
 use utf8::Decoded;
 
 // No code point.
-const NONE: u32 = 0xFFFF_FFFF;
+const NO_CHAR: u32 = 0xFFFF_FFFF;
 
 // `chars().next_back()` of a text.
 fn last_code(text: &[u8]) -> u32
@@ -28,13 +28,13 @@ fn last_code(text: &[u8]) -> u32
     ensures { λ r. ⌜ Gives (last-code (now (text .entry))) r ⌝ }
 {
     if text.len() == 0 {
-        return NONE;
+        return NO_CHAR;
     }
     let at = utf8::last_start(text);
     match utf8::decode(text, at) {
         Decoded::Char { code, width: _ } => code,
-        Decoded::Invalid => NONE,
-        Decoded::End => NONE,
+        Decoded::Invalid => NO_CHAR,
+        Decoded::End => NO_CHAR,
     }
 }
 
@@ -45,7 +45,7 @@ fn last_of_run(pieces: &[u32], store: &[u8], at: u32, n: u32) -> u32
     ensures { λ r. ⌜ Gives (last-of-pieces (runOf (now (pieces .entry)) (now (store .entry)) (at, n))) r ⌝ }
 {
     if n == 0 {
-        return NONE;
+        return NO_CHAR;
     }
     last_code(texts::text_of(pieces, store, at as usize + (n - 1) as usize))
 }
@@ -58,11 +58,11 @@ fn last_of_row<'a>(source: &'a [u8], pieces: &[u32], store: &'a [u8], row: Row) 
     ensures { λ r. ⌜ Gives (lastOf (now (source .entry)) (now (pieces .entry)) (now (store .entry)) (entryOf row)) r ⌝ }
 {
     let a = last_of_run(pieces, store, row.outro_at, row.outro_n);
-    if a != NONE {
+    if a != NO_CHAR {
         return a;
     }
     let b = last_code(texts::content(source, store, row.start, row.end, row.text_at, row.text_n));
-    if b != NONE {
+    if b != NO_CHAR {
         return b;
     }
     last_of_run(pieces, store, row.intro_at, row.intro_n)
@@ -80,13 +80,13 @@ pub fn last_char<'a>(source: &'a [u8], chunks: &[u32], pieces: &[u32], store: &'
         left -= 1;
         let r = fragments::section_row(chunks, left, row);
         let value = last_of_row(source, pieces, store, r);
-        if value != NONE {
+        if value != NO_CHAR {
             return Answer { number: 0, value };
         }
         row = r.prev;
     }
     Answer {
         number: 0,
-        value: NONE,
+        value: NO_CHAR,
     }
 }

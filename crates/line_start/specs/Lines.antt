@@ -7,6 +7,7 @@ use native.Mathlib.Omega.{arith}
 use lib.ListN.{length, getD, take, drop, length-append, length-drop, take-append-drop, drop-of-length-le}
 use lib.Seq.{drop-cons, drop-append-le}
 use borrow.Author.Tests.{eq-eqb, ne-eqb}
+use Rattle.layout.specs.Layout.{ROW}
 use Rattle.utf8.specs.Chars.{concat}
 use Rattle.utf8.specs.CharLaws.{concat-append}
 use Rattle.table.specs.declared.Row.{Row}
@@ -18,7 +19,7 @@ use Rattle.memory.specs.Layout.{magicStringOf}
 use Rattle.memory.specs.WellFormed.{WellFormed, EntryIn}
 use Rattle.texts.specs.Texts.{SpanIn, concat-cons, concat-nil}
 use Rattle.fragments.specs.Sections.{SectionRow, sectionAt, section, sections, fragmentsOf, fragmentsAll, size, rowNo, row-edge, row-last, row-in, On, rest, rest-first, rest-end, rest-cons, rest-over}
-use Rattle.fragments.specs.Output.{ready, output-bound, all-append, concat-sections, sum-length}
+use Rattle.fragments.specs.Output.{ready, most-output, output-bound, all-append, concat-sections, sum-length}
 use Rattle.line_start.specs.Line.{LineFrom}
 
 -- ---- behind the last line feed
@@ -80,7 +81,7 @@ module _ (source t p s : List ℕ) where
     unfolding last-line-of
     line-is = last-line-is (magicStringOf source t p s) ∙ ap last-line-of output-is
 
-    pub left-short : (g item : ℕ) → length (left g item) ≤ 8421376
+    pub left-short : (g item : ℕ) → length (left g item) ≤ most-output
     left-short g item =
         let e : length (left 0 0) ≡ sum length (fragmentsAll source p s (sections t)) = ap (λ (x : List Text). length (concat x)) (rest-first source t p s) ∙ sym (sum-length (fragmentsAll source p s (sections t))) in
         omega (arith, output-bound source t p s w, ap length (all-is g item), length-append (front g item) (left g item))
@@ -115,7 +116,7 @@ module _ (source t p s : List ℕ) where
         pub before-row : before ≡ rowNo t (g - 1)
         before-row = v .before-is (g - 1) (omega arith)
 
-        pub before-in : before * 12 + 12 ≤ length t
+        pub before-in : before * ROW + ROW ≤ length t
         before-in = rw before-row (row-in t (g - 1) (w .readable .linked))
 
         module _ (r : Row) (sr : SectionRow t (g - 1) before r) where
@@ -165,7 +166,7 @@ module _ (source t p s : List ℕ) where
         here : left g item ≡ x ++ left g (suc item)
         here = left-cons g item b i ∙ ap (λ (y : Text). y ++ left g (suc item)) (sym e)
 
-        pub byte-short : n ≤ 8421376
+        pub byte-short : n ≤ most-output
         byte-short =
             omega (arith, left-short g item, ap length here, length-append x (left g (suc item)), v .line .length-is, length-append (drop at x) (left g (suc item)), length-drop at x)
 

@@ -3,6 +3,7 @@ use mathlib.Core.Path.{_≡_}
 use mathlib.Core.List.{List}
 use Prim.Native.Nat.{ℕ, _+_, _-_, _*_, _≤_, _<_}
 use lib.ListN.{length, getD}
+use Rattle.layout.specs.Layout.{ROW}
 use Rattle.table.specs.Ring.{Edge, Ring}
 use Rattle.table.specs.Order.{nextOf, prevOf}
 use Rattle.counts.specs.Counts.{indicator}
@@ -12,7 +13,7 @@ use Rattle.links.specs.declared.Side.{Side}
 
 -- where word k of a row leads: word 2 to the next row, word 3 to the one before. So the other of the two is word 5 - k
 abbrev pub leads : List ℕ → ℕ → ℕ → ℕ
-leads t k i = getD t (i * 12 + k) 0
+leads t k i = getD t (i * ROW + k) 0
 
 -- word k of row a leads to b, and the other word of b back to a
 abbrev pub Joint : List ℕ → ℕ → ℕ → ℕ → Type 0

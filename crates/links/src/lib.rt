@@ -3,6 +3,7 @@ ghost use mathlib.Core.Path.{_≡_};
 ghost use mathlib.Core.Bool.{true};
 ghost use Prim.Native.Nat.{ℕ, _+_, _*_, _≤_, _<_};
 ghost use lib.ListN.{length, getD};
+ghost use Rattle.layout.specs.Layout.{ROW, SOURCE-BYTES};
 ghost use Rattle.utf8.specs.Rfc3629.{utf8 as isText};
 ghost use Rattle.counts.specs.Counts.{Decides, indicator};
 ghost use Rattle.spans.specs.Spans.{Edged, Empty, Listed};
@@ -10,9 +11,9 @@ ghost use Rattle.marks.specs.Marks.{Marked};
 ghost use Rattle.bit_marks.specs.BitMarks.{bitAt};
 ghost use Rattle.links.specs.Walk.{Joint, Found, Proper, pendingSize, Sound, Turned, Stepped, Ended, Alone};
 
-// Whether word k of row a leads to row b, and the other word of b back to a. Words 2 and 3 lead to the next row and to the one before: the other one of word k is word 5 - k.
+// Whether word k of row a leads to row b, and the other word of b back to a. Words 2 (next) and 3 (prev) lead to the next row and to the one before: the other one of word k is word 5 - k.
 fn edge(t: &[u32], k: usize, a: u32, b: u32) -> bool
-    requires { ⌜ (a * 12 + 12 ≤ length (now t)) × (b * 12 + 12 ≤ length (now t)) × (k ≤ 5) ⌝ }
+    requires { ⌜ (a * ROW + ROW ≤ length (now t)) × (b * ROW + ROW ≤ length (now t)) × (k ≤ 5) ⌝ }
     ensures { λ r. ⌜ Decides r (Joint (now (t .entry)) k a b) ⌝ }
 {
     if spans::word(t, a, k) != b {
@@ -24,20 +25,20 @@ fn edge(t: &[u32], k: usize, a: u32, b: u32) -> bool
     true
 }
 
-// The row to which word k of row a leads, if it is one of the rows 1 to n and its other word leads back to a; else 0.
+// The row to which word k of row a leads, if it is one of the rows 1 to n and its other word leads back to a; else the end mark.
 fn linked_row(t: &[u32], n: u32, k: usize, a: u32) -> u32
-    requires { ⌜ (n * 12 + 12 ≤ length (now t)) × (a ≤ n) × (k ≤ 5) ⌝ }
+    requires { ⌜ (n * ROW + ROW ≤ length (now t)) × (a ≤ n) × (k ≤ 5) ⌝ }
     ensures { λ r. ⌜ Found (now (t .entry)) n k a r ⌝ }
 {
     let x = spans::word(t, a, k);
-    if x == 0 {
-        return 0;
+    if x == layout::LIST_END {
+        return layout::LIST_END;
     }
     if x > n {
-        return 0;
+        return layout::LIST_END;
     }
     if spans::word(t, x, 5 - k) != a {
-        return 0;
+        return layout::LIST_END;
     }
     x
 }
@@ -45,7 +46,7 @@ fn linked_row(t: &[u32], n: u32, k: usize, a: u32) -> u32
 // Whether the span of row i is not empty, ends inside the source, and both its ends stand between characters.
 // `from` and `to` stand there, so an end that is one of them is not tested anew.
 fn proper(source: &[u8], t: &[u32], i: u32, from: usize, to: usize) -> bool
-    requires { ⌜ (isText (now source) ≡ true) × (i * 12 + 12 ≤ length (now t)) ⌝ }
+    requires { ⌜ (isText (now source) ≡ true) × (i * ROW + ROW ≤ length (now t)) ⌝ }
     requires { ⌜ Edged (now source) from to ⌝ }
     ensures { λ r. ⌜ Decides r (Proper (now (source .entry)) (now (t .entry)) i) ⌝ }
 {
@@ -121,7 +122,7 @@ fn turn(side: Side, i: u32, start: usize, end: usize, marks: &mut [u64]) -> Side
         };
     }
     Side {
-        row: 0,
+        row: layout::LIST_END,
         from: 0,
         to: 0,
         left: 0,
@@ -131,18 +132,18 @@ fn turn(side: Side, i: u32, start: usize, end: usize, marks: &mut [u64]) -> Side
 // A step of one side by word k. Row 0 if the list does not go on, or the next span is not proper or cannot be marked.
 fn step(source: &[u8], t: &[u32], n: u32, k: usize, side: Side, marks: &mut [u64]) -> Side
     requires { ⌜ (isText (now source) ≡ true) × Sound (now source) side ⌝ }
-    requires { ⌜ (n * 12 + 12 ≤ length (now t)) × (side .row ≤ n) × (k ≤ 5) ⌝ }
+    requires { ⌜ (n * ROW + ROW ≤ length (now t)) × (side .row ≤ n) × (k ≤ 5) ⌝ }
     requires { ⌜ (length (now source) ≤ length (now marks) * 64) × (length (now marks) < 0x400_0000_0000_0000) ⌝ }
     ensures { λ r. ⌜ Stepped (now (source .entry)) (now (t .entry)) n k (bitAt (now (marks .entry))) side (bitAt (now (marks .exit))) r ⌝ }
 {
     let i = linked_row(t, n, k, side.row);
-    if i != 0 {
+    if i != layout::LIST_END {
         if proper(source, t, i, side.from, side.to) {
             return turn(side, i, spans::start(t, i), spans::end(t, i), marks);
         }
     }
     Side {
-        row: 0,
+        row: layout::LIST_END,
         from: 0,
         to: 0,
         left: 0,
@@ -163,7 +164,7 @@ fn mark_rest(side: Side, left: usize, marks: &mut [u64]) -> bool
 
 // Whether the walk may end: the two sides meet, and what is pending is all that is left and can be marked.
 fn ended(t: &[u32], k: usize, near: Side, far: Side, marks: &mut [u64]) -> bool
-    requires { ⌜ (near .row * 12 + 12 ≤ length (now t)) × (far .row * 12 + 12 ≤ length (now t)) × (k ≤ 5) ⌝ }
+    requires { ⌜ (near .row * ROW + ROW ≤ length (now t)) × (far .row * ROW + ROW ≤ length (now t)) × (k ≤ 5) ⌝ }
     requires { ⌜ (near .from ≤ near .to) × (near .to ≤ length (now marks) * 64) × (length (now marks) < 0x400_0000_0000_0000) ⌝ }
     requires { ⌜ (far .from ≤ far .to) × (far .to ≤ length (now marks) * 64) ⌝ }
     ensures { λ r. ⌜ Decides r (Ended (now (t .entry)) k (bitAt (now (marks .entry))) near far) ⌝ }
@@ -180,29 +181,29 @@ fn ended(t: &[u32], k: usize, near: Side, far: Side, marks: &mut [u64]) -> bool
 // The reads of one side need not wait for those of the other.
 fn walk(source: &[u8], t: &[u32], n: u32, marks: &mut [u64]) -> bool
     requires { ⌜ (isText (now source) ≡ true) × (0 < length (now source)) ⌝ }
-    requires { ⌜ n * 12 + 12 ≤ length (now t) ⌝ }
+    requires { ⌜ n * ROW + ROW ≤ length (now t) ⌝ }
     requires { ⌜ (length (now source) ≤ length (now marks) * 64) × (length (now marks) < 0x400_0000_0000_0000) ⌝ }
     requires { ⌜ ((b : ℕ) → bitAt (now marks) b ≡ 0) ⌝ }
     ensures { λ r. ⌜ Decides r (Listed (now (source .entry)) (now (t .entry)) n) ⌝ }
 {
     let size = source.len();
     let mut near = Side {
-        row: 0,
+        row: layout::LIST_END,
         from: 0,
         to: 0,
         left: size,
     };
     let mut far = Side {
-        row: 0,
+        row: layout::LIST_END,
         from: size,
         to: size,
         left: size,
     };
-    let mut word = spans::NEXT;
+    let mut word = layout::NEXT;
     let mut k = 0;
     while k < n {
         let side = step(source, t, n, word, near, marks);
-        if side.row == 0 {
+        if side.row == layout::LIST_END {
             return false;
         }
         near = Side {
@@ -221,17 +222,17 @@ fn walk(source: &[u8], t: &[u32], n: u32, marks: &mut [u64]) -> bool
 // The same with marks of its own.
 fn walked(source: &[u8], t: &[u32], n: u32) -> bool
     requires { ⌜ (isText (now source) ≡ true) × (0 < length (now source)) ⌝ }
-    requires { ⌜ length (now source) ≤ 16384 ⌝ }
-    requires { ⌜ n * 12 + 12 ≤ length (now t) ⌝ }
+    requires { ⌜ length (now source) ≤ SOURCE-BYTES ⌝ }
+    requires { ⌜ n * ROW + ROW ≤ length (now t) ⌝ }
     ensures { λ r. ⌜ Decides r (Listed (now (source .entry)) (now (t .entry)) n) ⌝ }
 {
-    let mut marks = [0u64; 256];
-    walk(source, t, n, &mut marks[..256])
+    let mut marks = [0u64; layout::SOURCE_MARKS];
+    walk(source, t, n, &mut marks[..layout::SOURCE_MARKS])
 }
 
 // The one span of an empty source.
 fn span_empty(t: &[u32], n: u32) -> bool
-    requires { ⌜ n * 12 + 12 ≤ length (now t) ⌝ }
+    requires { ⌜ n * ROW + ROW ≤ length (now t) ⌝ }
     ensures { λ r. ⌜ Decides r (Empty (now (t .entry)) n) ⌝ }
 {
     if n != 1 {
@@ -248,12 +249,12 @@ fn span_empty(t: &[u32], n: u32) -> bool
 
 // The one chunk of an empty source.
 fn alone(t: &[u32], n: u32) -> bool
-    requires { ⌜ n * 12 + 12 ≤ length (now t) ⌝ }
+    requires { ⌜ n * ROW + ROW ≤ length (now t) ⌝ }
     ensures { λ r. ⌜ Decides r (Alone (now (t .entry)) n) ⌝ }
 {
     if span_empty(t, n) {
-        if edge(t, spans::NEXT, 0, 1) {
-            return edge(t, spans::NEXT, 1, 0);
+        if edge(t, layout::NEXT, layout::LIST_END, 1) {
+            return edge(t, layout::NEXT, 1, layout::LIST_END);
         }
     }
     false
@@ -262,8 +263,8 @@ fn alone(t: &[u32], n: u32) -> bool
 // Whether the chunks 1 to n stand in one list and cover the source. Only where a chunk was moved are marks needed.
 pub fn listed(source: &[u8], t: &[u32], n: u32) -> bool
     requires { ⌜ isText (now source) ≡ true ⌝ }
-    requires { ⌜ length (now source) ≤ 16384 ⌝ }
-    requires { ⌜ n * 12 + 12 ≤ length (now t) ⌝ }
+    requires { ⌜ length (now source) ≤ SOURCE-BYTES ⌝ }
+    requires { ⌜ n * ROW + ROW ≤ length (now t) ⌝ }
     ensures { λ r. ⌜ Decides r (Listed (now (source .entry)) (now (t .entry)) n) ⌝ }
 {
     if source.len() == 0 {

@@ -4,13 +4,14 @@ use mathlib.Core.Bool.{Bool, true}
 use mathlib.Core.List.{List}
 use Prim.Native.Nat.{ℕ, _+_, _*_, _≤_}
 use lib.ListN.{getD}
+use Rattle.layout.specs.Layout.{ROW}
 use Rattle.table.specs.Order.{Entry, entryAt}
 use Rattle.memory.specs.Layout.{Place}
 use Rattle.counts.specs.Counts.{Decides, sum-to}
 
 -- word k of row i of the chunk table, and the place that words k and k + 1 give
 abbrev pub cell : List ℕ → ℕ → ℕ → ℕ
-cell t i k = getD t (i * 12 + k) 0
+cell t i k = getD t (i * ROW + k) 0
 
 abbrev pub placeAt : List ℕ → ℕ → ℕ → Place
 placeAt t i k = (cell t i k, cell t i (k + 1))

@@ -2,13 +2,9 @@
 ghost use mathlib.Core.Path.{_≡_};
 ghost use Prim.Native.Nat.{_+_, _*_, _≤_, _<_, max};
 ghost use lib.ListN.{length};
+ghost use Rattle.layout.specs.Layout.{ROW};
 ghost use Rattle.memory.specs.WellFormed.{among};
 ghost use Rattle.marks.specs.Marks.{cell, markAt, Bits, Marked};
-
-// In a row: where its two runs stand.
-pub const INTRO: usize = 4;
-
-pub const OUTRO: usize = 6;
 
 pub fn larger(a: usize, b: usize) -> usize
     ensures { λ r. ⌜ r ≡ max a b ⌝ }
@@ -19,18 +15,12 @@ pub fn larger(a: usize, b: usize) -> usize
     a
 }
 
-pub fn wide(x: u32) -> usize
-    ensures { λ r. ⌜ (r ≡ x) × (r < 4294967296) ⌝ }
-{
-    x as usize
-}
-
 // Word k of row i.
 pub fn word(t: &[u32], i: u32, k: usize) -> usize
-    requires { ⌜ (i * 12 + 12 ≤ length (now t)) × (k < 12) ⌝ }
+    requires { ⌜ (i * ROW + ROW ≤ length (now t)) × (k < ROW) ⌝ }
     ensures { λ r. ⌜ (r ≡ cell (now (t .entry)) i k) × (r < 4294967296) ⌝ }
 {
-    wide(t[i as usize * 12 + k])
+    layout::wide(t[i as usize * layout::ROW + k])
 }
 
 // Marks n places from at on. False if they are not inside, or one is marked already. The marks met are joined, so that no byte is tested by itself.

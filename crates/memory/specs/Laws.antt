@@ -182,9 +182,9 @@ source-of source t p s = refl
 pub valid-source : {source t p s : List ℕ} → WellFormed source t p s → utf8 source ≡ true
 valid-source {source} {t} {p} {s} w = ap utf8 (sym (source-of source t p s)) ∙ w .desk .formed .source
 
-pub short-source : {source t p s : List ℕ} → WellFormed source t p s → length source ≤ 16384
-unfolding within magicStringOf
-short-source {source} w = leb-true (length source) 16384 (and-left (leb (length source) 16384) _ (w .desk .limits))
+pub short-source : {source t p s : List ℕ} → WellFormed source t p s → length source ≤ full .source
+unfolding magicStringOf
+short-source w = keeps-desk w .source
 
 pub narrow-source : {source t p s : List ℕ} → WellFormed source t p s → length source < 2 ^ 32
 narrow-source w = omega (arith, short-source w)

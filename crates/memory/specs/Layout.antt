@@ -1,4 +1,4 @@
--- The desk that four lent slices hold: the source, the chunk table (rows of 12 words, row 0 the desk's own), the piece table (rows of 2 words) and the byte store.
+-- The desk that four lent slices hold: the source, the chunk table (row 0 is the desk's own), the piece table and the byte store.
 -- docs/LAYOUT.md has the words of each row.
 use Prim.Native.Nat.{ℕ, zero, suc, _+_, _*_}
 use mathlib.Core.Bool.{cond}
@@ -6,14 +6,12 @@ use mathlib.Core.List.{List, [], _∷_, _++_, map}
 use mathlib.Core.Option.{Option, none, some}
 use lib.Dec.{eqb}
 use lib.ListN.{getD, take, drop}
+pub use Rattle.layout.specs.Layout.{NONE}
+use Rattle.layout.specs.Layout.{PIECE, PIECE-N}
 use Rattle.table.specs.Order.{Entry, entryAt, entries}
 use Rattle.model.specs.Text.{Text}
 use Rattle.model.specs.Chunk.{Chunk, Texts, chunk-of}
 use Rattle.model.specs.MagicString.{MagicString}
-
--- the mark in a chunk row's `text_at` that says: no replacement
-abbrev pub NONE : ℕ
-NONE = 0xFFFF_FFFF
 
 -- a place in the store, or in the piece table: where it begins and how many bytes, or rows, it has
 abbrev pub Place : Type 0
@@ -25,7 +23,7 @@ bytesAt s r = take (r .1) (drop (r .0) s)
 
 -- row j of the piece table: the place of one piece's text
 abbrev pub pieceAt : List ℕ → ℕ → Place
-pieceAt p j = (getD p (j * 2) 0, getD p (j * 2 + 1) 0)
+pieceAt p j = (getD p (j * PIECE) 0, getD p (j * PIECE + PIECE-N) 0)
 
 -- f 0, f 1, .., f (n - 1)
 abbrev pub tabulate : {A : Type 0} → (ℕ → A) → ℕ → List A

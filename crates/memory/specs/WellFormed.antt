@@ -8,34 +8,35 @@ use mathlib.Core.Bool.{_&&_, cond}
 use mathlib.Core.List.{List, [], _∷_}
 use lib.Dec.{ltb, leb, eqb}
 use lib.ListN.{length}
+use Rattle.layout.specs.Layout.{ROW, PIECE, CHUNKS-LEN, CHUNKS-LEAST, PIECE-ROOM, PIECES-LEN, STORE-LEN}
 use Rattle.utf8.specs.Chars.{All}
 use Rattle.table.specs.Order.{Entry, entryAt, entries, order, countOf, Linked}
 use Rattle.model.specs.Text.{sum}
-use Rattle.model.specs.Limits.{Limits}
+use Rattle.model.specs.Limits.{Limits, full}
 use Rattle.model.specs.WellFormed as model
 use Rattle.memory.specs.Layout.{NONE, Place, pieceAt, tabulate, magicStringOf}
 
 -- the limits of a desk in tables of these lengths: a chunk for each row but the first, a piece for each two rows, a byte for each of the store
 abbrev pub limitsBy : ℕ → ℕ → ℕ → Limits
-limitsBy c p b = record { source = 16384; chunks = c; pieces = p; bytes = b }
+limitsBy c p b = record { source = full .source; chunks = c; pieces = p; bytes = b }
 
 abbrev pub limitsOf : List ℕ → List ℕ → List ℕ → Limits
-limitsOf t p s = limitsBy (length t / 12 - 1) (length p / 4) (length s)
+limitsOf t p s = limitsBy (length t / ROW - 1) (length p / PIECE-ROOM) (length s)
 
--- whole rows, one chunk's at least, and nothing longer than 513 chunk rows, 2,048 piece rows and 32,768 bytes
+-- whole rows, one chunk's at least, and nothing longer than the full sizes
 pub record Sized (t p s : List ℕ) : Type 0 where
-  pub whole-chunks : length t % 12 ≡ 0
-  pub whole-pieces : length p % 2 ≡ 0
-  pub some : 24 ≤ length t
-  pub chunks : length t ≤ 513 * 12
-  pub pieces : length p ≤ 2048 * 2
-  pub store : length s ≤ 32768
+  pub whole-chunks : length t % ROW ≡ 0
+  pub whole-pieces : length p % PIECE ≡ 0
+  pub some : CHUNKS-LEAST ≤ length t
+  pub chunks : length t ≤ CHUNKS-LEN
+  pub pieces : length p ≤ PIECES-LEN
+  pub store : length s ≤ STORE-LEN
 
--- the full sizes, which exported calls take: 513 chunk rows, 2,048 piece rows, 32,768 bytes
+-- the full sizes, which exported calls take
 pub record Full (t p s : List ℕ) : Type 0 where
-  pub chunks : length t ≡ 513 * 12
-  pub pieces : length p ≡ 2048 * 2
-  pub store : length s ≡ 32768
+  pub chunks : length t ≡ CHUNKS-LEN
+  pub pieces : length p ≡ PIECES-LEN
+  pub store : length s ≡ STORE-LEN
 
 -- tables as long as others
 pub record Lengths (t p s t′ p′ s′ : List ℕ) : Type 0 where
@@ -48,7 +49,7 @@ abbrev pub Inside : List ℕ → Place → Type 0
 Inside s r = r .0 + r .1 ≤ length s
 
 pub record PieceIn (p s : List ℕ) (j : ℕ) : Type 0 where
-  pub row : j * 2 + 2 ≤ length p
+  pub row : j * PIECE + PIECE ≤ length p
   pub text : Inside s (pieceAt p j)
 
 unfoldable pub RunIn : List ℕ → List ℕ → Place → Type 0

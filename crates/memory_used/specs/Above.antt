@@ -2,6 +2,7 @@
 use Prim.Native.Nat.{ℕ, _*_, _/_, _≤_}
 use mathlib.Core.List.{List, []}
 use lib.ListN.{length, take}
+use Rattle.layout.specs.Layout.{PIECE-ROOM}
 use Rattle.model.specs.Limits.{piece-count}
 use Rattle.model.specs.Call.{Edit}
 use Rattle.memory.specs.Layout.{magicStringOf}
@@ -13,7 +14,7 @@ use Rattle.memory_used.specs.declared.Outcome.{Outcome}
 -- no fewer than the desk's pieces, and inside the limit; and the desk is read from the rows and bytes below the two places alone
 pub record Above (t p s : List ℕ) (l : Used) : Type 0 where
   pub pieces : piece-count (magicStringOf [] t p s) ≤ l .pieces
-  pub few : l .pieces ≤ length p / 4
+  pub few : l .pieces ≤ length p / PIECE-ROOM
   pub readable : Readable t (take (l .row * 2) p) (take (l .byte) s)
   pub row : l .row * 2 ≤ length p
   pub byte : l .byte ≤ length s

@@ -7,6 +7,7 @@ use native.Mathlib.Omega.{arith}
 use native.Mathlib.Decide.{ℕ-discrete, decLt}
 use lib.ListN.{length, getD, take}
 use lib.Seq.{length-take-le, getD-take}
+use Rattle.layout.specs.Layout.{PIECES, PIECES-PAST, BYTES-PAST}
 use Rattle.utf8.specs.Chars.{All, nil, cons}
 use Rattle.table.specs.Order.{Entry, entryAt, nextOf, countOf}
 use Rattle.model.specs.Text.{sum}
@@ -66,7 +67,7 @@ row-up p s at n row row' h l t =
           (omega arith, omega arith)
     ]
 
-pub run-end : {p s : List ℕ} {at n : ℕ} {c : Used} {i byte pieces row : ℕ} → RunIn p s (at, n) → LiveIn p s c → RunAt p s at n c i byte → n ≤ i → pieces ≡ min (c .pieces + n) 1025
+pub run-end : {p s : List ℕ} {at n : ℕ} {c : Used} {i byte pieces row : ℕ} → RunIn p s (at, n) → LiveIn p s c → RunAt p s at n c i byte → n ≤ i → pieces ≡ min (c .pieces + n) PIECES-PAST
     → TopRow at n (c .row) row → RunLive p s (at, n) c (record { pieces = pieces; row = row; byte = byte })
 run-end {p} {s} {at} {n} {c} {i} {byte} {pieces} {row} h l r g ep t =
     let u = row-up p s at n (c .row) row h (l .row) t in
@@ -87,8 +88,8 @@ below-up : (p : List ℕ) (byte row byte' row' : ℕ) (x : Place) → Below p by
 below-up p byte row byte' row' x h a b k g = (omega (arith, h k g .0), omega (arith, h k g .1))
 
 module _ {p s : List ℕ} (e : Entry) {c a b : Used} (x : RunLive p s (e .intro) c a) (y : RunLive p s (e .outro) a b) where
-  two-runs : b .pieces ≡ min (c .pieces + chunk-pieces (chunkOf p s e)) 1025
-  two-runs = two-counts 1025 (c .pieces) (e .intro .1) (e .outro .1) (a .pieces) (b .pieces) (chunk-pieces (chunkOf p s e)) (x .pieces) (y .pieces) (pieces-of p s e)
+  two-runs : b .pieces ≡ min (c .pieces + chunk-pieces (chunkOf p s e)) PIECES-PAST
+  two-runs = two-counts PIECES-PAST (c .pieces) (e .intro .1) (e .outro .1) (a .pieces) (b .pieces) (chunk-pieces (chunkOf p s e)) (x .pieces) (y .pieces) (pieces-of p s e)
 
   pub entry-none : e .text .0 ≡ NONE → EntryLive p s e c b
   entry-none h =
@@ -136,8 +137,8 @@ pub live-start : (t p s : List ℕ) (e : Entry) (c : Used) → e ≡ own t → E
 live-start t p s e c q l =
     record {
       done = [];
-      bytes = min (0 + chunk-bytes (chunkOf p s e)) 32769;
-      counts = count-start t p s e (c .pieces) (min (0 + chunk-bytes (chunkOf p s e)) 32769) q (l .pieces) refl;
+      bytes = min (0 + chunk-bytes (chunkOf p s e)) BYTES-PAST;
+      counts = count-start t p s e (c .pieces) (min (0 + chunk-bytes (chunkOf p s e)) BYTES-PAST) q (l .pieces) refl;
       below = cons (subst (EntryBelow p (c .byte) (c .row)) q (l .below)) nil;
       inside = l .inside;
     }
@@ -153,7 +154,7 @@ entries-up (cons {x = e} h k) a b = cons (entry-up e h a b) (entries-up k a b)
 module _ {t p s : List ℕ} {m cur pieces row byte : ℕ} (h : Readable t p s) (c : LiveAt t p s (suc m) cur pieces row byte) where
   pub live-more : (d : Used) → EntryLive p s (entryAt t cur) (record { pieces = pieces; row = row; byte = byte }) d → LiveAt t p s m (nextOf t cur) (d .pieces) (d .row) (d .byte)
   live-more d l =
-      let bytes = min (c .bytes + chunk-bytes (chunkOf p s (entryAt t cur))) 32769 in
+      let bytes = min (c .bytes + chunk-bytes (chunkOf p s (entryAt t cur))) BYTES-PAST in
       record {
         done = c .done ++ (cur ∷ []);
         bytes = bytes;
@@ -182,7 +183,7 @@ module _ {t p s : List ℕ} {n k cur pieces row byte : ℕ} (l : Loop t p s n k 
   pub live-end : Readable t p s → within (limitsOf t p s) (magicStringOf [] t p s) ≡ true → Sized t p s → Above t p s (record { pieces = pieces; row = row; byte = byte })
   live-end h w z =
       let f = within-keeps (limitsOf t p s) (magicStringOf [] t p s) w in
-      let pe = capped-all 1024 (piece-count (magicStringOf [] t p s)) pieces (pieces-all (l .at .counts) none-left) (omega (arith, f .pieces, z .pieces)) in
+      let pe = capped-all PIECES (piece-count (magicStringOf [] t p s)) pieces (pieces-all (l .at .counts) none-left) (omega (arith, f .pieces, z .pieces)) in
       let b = l .at .below in
       let hr = l .at .inside .row in
       let hb = l .at .inside .byte in

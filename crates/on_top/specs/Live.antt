@@ -7,6 +7,7 @@ use native.Mathlib.Omega.{arith}
 use lib.Dec.{leb}
 use borrow.Author.Tests.{leb-true}
 use lib.ListN.{length, take, drop, take-append-drop}
+use Rattle.layout.specs.Layout.{ROW, PIECE-ROOM, PIECES-PAST}
 use Rattle.table.specs.Order.{Entry}
 use Rattle.model.specs.Text.{sum}
 use Rattle.model.specs.Limits.{within, chunk-pieces}
@@ -20,7 +21,7 @@ use Rattle.memory_used.specs.Above.{Above}
 
 -- a count up to one past the limit, and places inside the tables
 pub record LiveIn (p s : List ℕ) (c : Used) : Type 0 where
-  pub pieces : c .pieces ≤ 1025
+  pub pieces : c .pieces ≤ PIECES-PAST
   pub row : c .row * 2 ≤ length p
   pub byte : c .byte ≤ length s
 
@@ -30,14 +31,14 @@ pub record TopRow (at n row row' : ℕ) : Type 0 where
   pub some : (n ≡ 0 → ⊥) → row' ≡ max row (at + n)
 
 pub record RunLive (p s : List ℕ) (x : Place) (c d : Used) : Type 0 where
-  pub pieces : d .pieces ≡ min (c .pieces + x .1) 1025
+  pub pieces : d .pieces ≡ min (c .pieces + x .1) PIECES-PAST
   pub below : Below p (d .byte) (d .row) x
   pub row-grows : c .row ≤ d .row
   pub byte-grows : c .byte ≤ d .byte
   pub inside : LiveIn p s d
 
 pub record EntryLive (p s : List ℕ) (e : Entry) (c d : Used) : Type 0 where
-  pub pieces : d .pieces ≡ min (c .pieces + chunk-pieces (chunkOf p s e)) 1025
+  pub pieces : d .pieces ≡ min (c .pieces + chunk-pieces (chunkOf p s e)) PIECES-PAST
   pub below : EntryBelow p (d .byte) (d .row) e
   pub row-grows : c .row ≤ d .row
   pub byte-grows : c .byte ≤ d .byte
@@ -51,14 +52,14 @@ pub record Usable (t p s : List ℕ) : Type 0 where
 
 -- a count inside the limit and places inside the lent tables, cp words of pieces and cs bytes
 pub record Small (cp cs : ℕ) (l : Used) : Type 0 where
-  pub pieces : l .pieces ≤ cp / 4
+  pub pieces : l .pieces ≤ cp / PIECE-ROOM
   pub row : l .row * 2 ≤ cp
   pub byte : l .byte ≤ cs
 
 -- n chunks and a piece more keep the limits; and there is room on top for any run with a piece more, and for len bytes (so that these keep the limit too: `bytes-below`)
 pub record Room (ct cp cs : ℕ) (l : Used) (n len : ℕ) : Type 0 where
-  pub chunks : n ≤ ct / 12 - 1
-  pub pieces : l .pieces < cp / 4
+  pub chunks : n ≤ ct / ROW - 1
+  pub pieces : l .pieces < cp / PIECE-ROOM
   pub rows : l .row + l .pieces < cp / 2
   pub places : l .byte + len ≤ cs
 

@@ -4,6 +4,7 @@ ghost use mathlib.Core.Bool.{true, false};
 ghost use mathlib.Core.List.{[]};
 ghost use Prim.Native.Nat.{_+_, _*_, _≤_, _<_, max};
 ghost use lib.ListN.{length};
+ghost use Rattle.layout.specs.Layout.{CHUNKS-LEAST};
 ghost use Rattle.table.specs.Order.{entryOf};
 ghost use Rattle.model.specs.Limits.{within};
 ghost use Rattle.memory.specs.Layout.{pieceAt, magicStringOf};
@@ -36,8 +37,8 @@ fn piece_end(p: &[u32], row: usize) -> usize
     requires { ⌜ row * 2 + 2 ≤ length (now p) ⌝ }
     ensures { λ r. ⌜ r ≡ pieceAt (now (p .entry)) row .0 + pieceAt (now (p .entry)) row .1 ⌝ }
 {
-    let at = wide(p[row * 2]);
-    let n = wide(p[row * 2 + 1]);
+    let at = wide(p[row * layout::PIECE]);
+    let n = wide(p[row * layout::PIECE + layout::PIECE_N]);
     at + n
 }
 
@@ -65,7 +66,7 @@ fn live_run(p: &[u32], s: &[u8], at: u32, n: u32, c: Used) -> Used
         byte = larger(byte, piece_end(p, first + i));
         i += 1;
     }
-    let pieces = frame::add_capped(c.pieces, count, 1025);
+    let pieces = frame::add_capped(c.pieces, count, layout::PIECES_PAST);
     let row = top_row(at, n, c.row);
     Used { pieces, row, byte }
 }
@@ -78,7 +79,7 @@ fn live_row(p: &[u32], s: &[u8], r: table::Row, c: Used) -> Used
 {
     let a = live_run(p, s, r.intro_at, r.intro_n, c);
     let b = live_run(p, s, r.outro_at, r.outro_n, a);
-    if r.text_at == texts::NONE {
+    if r.text_at == layout::NONE {
         return b;
     }
     Used {
@@ -156,16 +157,16 @@ pub fn finish(
 // Whether n chunks and a piece more keep the limits, and the tables have room on top for any run with a piece more, and for len bytes.
 pub fn has_room(l: Used, n: u32, len: usize, ct: usize, cp: usize, cs: usize) -> bool
     requires { ⌜ Small cp cs l ⌝ }
-    requires { ⌜ 24 ≤ ct ⌝ }
+    requires { ⌜ CHUNKS-LEAST ≤ ct ⌝ }
     ensures { λ r. ⌜ (r ≡ true → Room ct cp cs l n len) × (r ≡ false → Room ct cp cs l n len → ⊥) ⌝ }
 {
-    if wide(n) > ct / 12 - 1 {
+    if wide(n) > ct / layout::ROW - 1 {
         return false;
     }
-    if l.pieces >= cp / 4 {
+    if l.pieces >= cp / layout::PIECE_ROOM {
         return false;
     }
-    if l.row + l.pieces >= cp / 2 {
+    if l.row + l.pieces >= cp / layout::PIECE {
         return false;
     }
     if len > cs - l.byte {
@@ -180,9 +181,9 @@ fn copy_rows(p: &mut [u32], at: u32, n: u32, to: usize)
     requires { ⌜ (to + n) * 2 ≤ length (now p) ⌝ }
     ensures { λ _. ⌜ now (p .exit) ≡ over (now (p .entry)) (to * 2) (rowWords (now (p .entry)) (at, n)) ⌝ }
 {
-    let from = at as usize * 2;
-    let count = n as usize * 2;
-    let start = to * 2;
+    let from = at as usize * layout::PIECE;
+    let count = n as usize * layout::PIECE;
+    let start = to * layout::PIECE;
     let mut k = 0;
     while k < count {
         p[start + k] = p[from + k];

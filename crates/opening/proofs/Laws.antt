@@ -6,6 +6,7 @@ use Prim.Native.Nat.{ℕ, zero, suc, _+_, _*_, _/_, _≤_, _<_}
 use native.Mathlib.Omega.{arith}
 use borrow.Author.Tests.{le-leb, lt-leb}
 use lib.ListN.{length, take}
+use Rattle.layout.specs.Layout.{CHUNKS-LEAST, PIECE-ROOM}
 use Rattle.utf8.specs.Rfc3629.{utf8, between}
 use Rattle.utf8.specs.Chars.{All, nil, cons}
 use Rattle.utf8.specs.Boundaries.{between-zero, between-past}
@@ -16,7 +17,7 @@ use Rattle.table.specs.Order.{Entry, entryOf, entryAt, nextOf, prevOf, countOf,
 use Rattle.model.specs.WellFormed.{Valid, ValidReplacement, ValidTexts}
 use Rattle.model.specs.Chunk.{Chunk, new-chunk}
 use Rattle.model.specs.MagicString.{new}
-use Rattle.model.specs.Limits.{piece-count}
+use Rattle.model.specs.Limits.{full, piece-count}
 use Rattle.model.specs.Call.{opened}
 use Rattle.memory.specs.Layout.{NONE, runOf, replacementOf, textsOf, chunkOf, magicStringOf}
 use Rattle.memory.specs.WellFormed.{limitsOf, Sized, Full, Lengths, ReplacementIn, RunsIn, EntryIn, Readable, pieceUses, runUses, byteUses, WellFormed}
@@ -98,7 +99,7 @@ module _ (t₀ t source p s : List ℕ) (f : Fresh t₀ t (length source)) where
       ∙ ap (λ (e : Entry). chunkOf p s e ∷ []) chunk-entry
       ∙ ap (λ (c : Chunk). c ∷ []) (bare-chunk p s 0 (length source)))
 
-  fresh-linked : 24 ≤ length t → Linked t
+  fresh-linked : CHUNKS-LEAST ≤ length t → Linked t
   fresh-linked h =
       let pd : prevOf t 0 ≡ 1 = ap (λ (r : Row). r .prev) (f .desk) in
       let nc : nextOf t 1 ≡ 0 = ap (λ (r : Row). r .next) (f .chunk) in
@@ -108,7 +109,7 @@ module _ (t₀ t source p s : List ℕ) (f : Fresh t₀ t (length source)) where
       record { ring = rw count-is (g .1); room = omega (arith, count-is) }
 
   -- no row names a piece or a byte, so nothing more is asked of the tables
-  fresh-readable : (q k : List ℕ) → 24 ≤ length t → Readable t q k
+  fresh-readable : (q k : List ℕ) → CHUNKS-LEAST ≤ length t → Readable t q k
   unfolding ReplacementIn
   fresh-readable q k h =
       let none : (a e : ℕ) → EntryIn q k (bareEntry a e) =
@@ -120,7 +121,7 @@ module _ (t₀ t source p s : List ℕ) (f : Fresh t₀ t (length source)) where
       }
 
   -- any bound inside the tables is one of what the desk uses
-  pub fresh-above : 24 ≤ length t → (l : Used) → l .pieces ≤ length p / 4 → l .row * 2 ≤ length p → l .byte ≤ length s → Above t p s l
+  pub fresh-above : CHUNKS-LEAST ≤ length t → (l : Used) → l .pieces ≤ length p / PIECE-ROOM → l .row * 2 ≤ length p → l .byte ≤ length s → Above t p s l
   unfolding magicStringOf
   fresh-above h l few row byte =
       record {
@@ -184,13 +185,13 @@ module _ (t₀ t source p s : List ℕ) (f : Fresh t₀ t (length source)) where
             (subst (λ (e : Entry). ValidTexts (textsOf p s e)) (sym chunk-entry) (record { intro = run-empty p s 0; outro = run-empty p s 0; replacement = text-none p s }));
       }
 
-  fresh-count : pieceTotal t 1 ≤ length p / 4
+  fresh-count : pieceTotal t 1 ≤ length p / PIECE-ROOM
   fresh-count =
       let a : pieceCount (entryAt t 0) ≡ 0 = ap pieceCount desk-entry in
       let b : pieceCount (entryAt t 1) ≡ 0 = ap pieceCount chunk-entry in
       omega arith
 
-  pub fresh-formed : Sized t p s → length source ≤ 16384 → utf8 source ≡ true → WellFormed source t p s
+  pub fresh-formed : Sized t p s → length source ≤ full .source → utf8 source ≡ true → WellFormed source t p s
   fresh-formed z h u =
       rows-formed source t p s
       (record {
@@ -209,21 +210,21 @@ module _ (source t p s : List ℕ) {o : Outcome} where
   refused-with : (o .number ≡ 0 → ⊥) → o .number ≡ opened (limitsOf t p s) source (new []) .number → OpenedWith source t p s t o
   refused-with h e = record { number-is = e; desk-is = λ z. absurd (h z); desk = λ z. absurd (h z); refused = λ _. refl }
 
-  pub refused-13 : o .number ≡ 13 → 16384 < length source → OpenedWith source t p s t o
+  pub refused-13 : o .number ≡ 13 → full .source < length source → OpenedWith source t p s t o
   unfolding opened
-  refused-13 e h = refused-with (λ z. omega arith) (rw (lt-leb (length source) 16384 h) e)
+  refused-13 e h = refused-with (λ z. omega arith) (rw (lt-leb (length source) (full .source) h) e)
 
-  pub refused-1 : o .number ≡ 1 → length source ≤ 16384 → utf8 source ≡ false → OpenedWith source t p s t o
+  pub refused-1 : o .number ≡ 1 → length source ≤ full .source → utf8 source ≡ false → OpenedWith source t p s t o
   unfolding opened
-  refused-1 e h u = refused-with (λ z. omega arith) (rw (le-leb (length source) 16384 h, u) e)
+  refused-1 e h u = refused-with (λ z. omega arith) (rw (le-leb (length source) (full .source) h, u) e)
 
-  pub opened-0 : (t′ : List ℕ) → o .number ≡ 0 → Sized t p s → length source ≤ 16384 → utf8 source ≡ true → Fresh t t′ (length source)
-      → o .used .pieces ≤ length p / 4 → o .used .row * 2 ≤ length p → o .used .byte ≤ length s → OpenedWith source t p s t′ o
+  pub opened-0 : (t′ : List ℕ) → o .number ≡ 0 → Sized t p s → length source ≤ full .source → utf8 source ≡ true → Fresh t t′ (length source)
+      → o .used .pieces ≤ length p / PIECE-ROOM → o .used .row * 2 ≤ length p → o .used .byte ≤ length s → OpenedWith source t p s t′ o
   unfolding opened
   opened-0 t′ e z h u f few row byte =
       let z′ : Sized t′ p s = sized-as (record { chunks = f .same; pieces = refl; store = refl }) z in
       record {
-        number-is = rw (le-leb (length source) 16384 h, u) e;
+        number-is = rw (le-leb (length source) (full .source) h, u) e;
         desk-is = λ _. fresh-desk t t′ source p s f;
         desk = λ _. record { well-formed = fresh-formed t t′ source p s f z′ h u; above = fresh-above t t′ source p s f (z′ .some) (o .used) few row byte };
         refused = λ n. absurd (n e);

@@ -1,6 +1,7 @@
 // Opening a desk: `MagicString::new` on lent memory.
 ghost use Prim.Native.Nat.{_≤_};
 ghost use lib.ListN.{length};
+ghost use Rattle.layout.specs.Layout.{CHUNKS-LEAST};
 ghost use Rattle.memory.specs.WellFormed.{Sized};
 ghost use Rattle.memory.specs.Calls.{Opened};
 ghost use Rattle.opening.specs.Fresh.{Fresh};
@@ -10,7 +11,7 @@ use memory_used::Used;
 
 // Writes the two rows of a desk as it is opened: one chunk over a source of len bytes.
 pub fn fresh(chunks: &mut [u32], len: u32)
-    requires { ⌜ 24 ≤ length (now chunks) ⌝ }
+    requires { ⌜ CHUNKS-LEAST ≤ length (now chunks) ⌝ }
     ensures { λ _. ⌜ Fresh (now (chunks .entry)) (now (chunks .exit)) len ⌝ }
 {
     table::put_row(
@@ -25,7 +26,7 @@ pub fn fresh(chunks: &mut [u32], len: u32)
             intro_n: 0,
             outro_at: 0,
             outro_n: 0,
-            text_at: 0xFFFF_FFFF,
+            text_at: layout::NONE,
             text_n: 0,
             spare0: 0,
             spare1: 0,
@@ -37,13 +38,13 @@ pub fn fresh(chunks: &mut [u32], len: u32)
         table::Row {
             start: 0,
             end: len,
-            next: 0,
-            prev: 0,
+            next: layout::LIST_END,
+            prev: layout::LIST_END,
             intro_at: 0,
             intro_n: 0,
             outro_at: 0,
             outro_n: 0,
-            text_at: 0xFFFF_FFFF,
+            text_at: layout::NONE,
             text_n: 0,
             spare0: 0,
             spare1: 0,
@@ -63,7 +64,7 @@ pub fn open_with(source: &[u8], chunks: &mut [u32], pieces: &[u32], store: &[u8]
         byte: 0,
     };
     let len = source.len();
-    if len > 16384 {
+    if len > layout::SOURCE_BYTES {
         return Outcome { number: 13, used };
     }
     if utf8::valid(source) {
@@ -77,13 +78,13 @@ pub fn open_with(source: &[u8], chunks: &mut [u32], pieces: &[u32], store: &[u8]
 pub fn open(source: &[u8], chunks: &mut [u32], pieces: &mut [u32], store: &mut [u8]) -> u32
     ensures { λ r. ⌜ Opened (now (source .entry)) (now (chunks .entry)) (now (pieces .entry)) (now (store .entry)) (now (chunks .exit)) (now (pieces .exit)) (now (store .exit)) r ⌝ }
 {
-    if chunks.len() != 6156 {
+    if chunks.len() != layout::CHUNKS_LEN {
         return 2;
     }
-    if pieces.len() != 4096 {
+    if pieces.len() != layout::PIECES_LEN {
         return 2;
     }
-    if store.len() != 32768 {
+    if store.len() != layout::STORE_LEN {
         return 2;
     }
     let o = open_with(source, chunks, pieces, store);

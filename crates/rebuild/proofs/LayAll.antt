@@ -10,6 +10,7 @@ use native.Mathlib.Decide.{ℕ-discrete}
 use lib.Dec.{leb, eqb}
 use lib.ListN.{length, getD, take, drop, length-append, length-map}
 use borrow.Author.Tests.{leb-true, eqb-true, eq-eqb, ne-eqb}
+use Rattle.layout.specs.Layout.{ROW}
 use Rattle.utf8.specs.Chars.{All, nil, cons}
 use Rattle.utf8.specs.CharLaws.{all-back}
 use Rattle.table.specs.declared.Row.{Row}
@@ -82,7 +83,7 @@ up-links nx pv zero f y e = e
 up-links nx pv (suc k) f y e =
     links-append (Edge nx pv) 0 (upTo k) (suc k) [] y (up-links nx pv k (λ i h. f i (omega arith)) (suc k) (f k (omega arith))) e
 
-in-sequence : (c : List ℕ) (n : ℕ) → countOf c ≡ n → n * 12 + 12 ≤ length c → ((i : ℕ) → i < n → Edge (nextOf c) (prevOf c) i (suc i)) → Edge (nextOf c) (prevOf c) n 0
+in-sequence : (c : List ℕ) (n : ℕ) → countOf c ≡ n → n * ROW + ROW ≤ length c → ((i : ℕ) → i < n → Edge (nextOf c) (prevOf c) i (suc i)) → Edge (nextOf c) (prevOf c) n 0
     → (order c ≡ upTo n) × Linked c
 unfolding order
 in-sequence c n e r f l =
@@ -166,7 +167,7 @@ module _ {t p s : List ℕ} {k m cur byte row : ℕ} {C P S : List ℕ} (h : Rea
       first-of (all-back (EntryIn p s) (map (entryAt t) (l .done)) (map (entryAt t) (follow (nextOf t) (suc m) cur))
       (subst (All (EntryIn p s)) (ap (map (entryAt t)) (l .place) ∙ map-append (entryAt t) (l .done) (follow (nextOf t) (suc m) cur)) (h .chunks)))
 
-  turn-row : cur * 12 + 12 ≤ length t
+  turn-row : cur * ROW + ROW ≤ length t
   turn-row = omega (arith, h .linked .room, inside-at t (l .done) cur (follow (nextOf t) m (nextOf t cur)) (h .linked) (l .place) .1)
 
   turn-room : length P < 4294967295 → length S < 4294967295 → RoomEntry p s (entryAt t cur) P S byte row
@@ -215,7 +216,7 @@ module _ {t p s : List ℕ} {k m cur byte row : ℕ} {C P S : List ℕ} (h : Rea
         bytes-left = omega (arith, l .bytes-left, d .byte-is, ls);
       }
 
-turn-done : {t p s : List ℕ} {k cur byte row : ℕ} {C P S : List ℕ} → LayAt t p s k 0 cur byte row C P S → k * 12 + 12 ≤ length C → Rebuilt t p s C P S
+turn-done : {t p s : List ℕ} {k cur byte row : ℕ} {C P S : List ℕ} → LayAt t p s k 0 cur byte row C P S → k * ROW + ROW ≤ length C → Rebuilt t p s C P S
 turn-done {t} {p} {s} {k} {cur} {byte} {row} {C} {P} {S} l h =
     let n : countOf C ≡ k = l .count ∙ omega arith in
     let q = in-sequence C k n h (l .fwd) (record { fwd = l .tip; bwd = l .back ∙ omega arith }) in
@@ -298,7 +299,7 @@ module _ {t p s : List ℕ} {n k cur byte row : ℕ} {C₀ P₀ S₀ C P S : Lis
   loop-at : LayAt t p s k (suc (n - (k + 1))) cur byte row C P S
   loop-at = let e : n - k ≡ suc (n - (k + 1)) = omega arith in rw e at (l .at)
 
-  pub loop-row : cur * 12 + 12 ≤ length t
+  pub loop-row : cur * ROW + ROW ≤ length t
   loop-row = turn-row h loop-at
 
   pub loop-in : EntryIn p s (entryAt t cur)
@@ -319,7 +320,7 @@ module _ {t p s : List ℕ} {n k cur byte row : ℕ} {C₀ P₀ S₀ C P S : Lis
             (turn-more h loop-at d (w .same) (w .prev) (w .next ∙ ap (nextFor (n - (k + 1))) (add-one k)) (subst (λ (j : ℕ). Put C C' j x) (add-one k) q) lp ls);
       }
 
-pub loop-done : {t p s : List ℕ} {n k cur byte row : ℕ} {C₀ P₀ S₀ C P S : List ℕ} → Loop t p s n k cur byte row C₀ P₀ S₀ C P S → n ≤ k → n * 12 + 12 ≤ length C₀ → Rebuilt t p s C P S
+pub loop-done : {t p s : List ℕ} {n k cur byte row : ℕ} {C₀ P₀ S₀ C P S : List ℕ} → Loop t p s n k cur byte row C₀ P₀ S₀ C P S → n ≤ k → n * ROW + ROW ≤ length C₀ → Rebuilt t p s C P S
 loop-done {n = n} {k = k} l h g = let e : n - k ≡ 0 = omega arith in turn-done (rw e at (l .at)) (omega (arith, l .below, l .lengths .chunks))
 
 pub own-room : (t p s : List ℕ) {C P S : List ℕ} → within (limitsOf C P S) (magicStringOf [] t p s) ≡ true → Sized C P S → RoomEntry p s (own t) P S 0 0
@@ -333,5 +334,5 @@ own-room t p s {C} {P} {S} e z =
     }
 
 -- the chunks' rows fit
-pub rows-fit : (t p s : List ℕ) {C P S : List ℕ} → within (limitsOf C P S) (magicStringOf [] t p s) ≡ true → Sized C P S → countOf t * 12 + 12 ≤ length C
+pub rows-fit : (t p s : List ℕ) {C P S : List ℕ} → within (limitsOf C P S) (magicStringOf [] t p s) ≡ true → Sized C P S → countOf t * ROW + ROW ≤ length C
 rows-fit t p s {C} {P} {S} e z = omega (arith, within-room (limitsOf C P S) t p s e .2, z .some)

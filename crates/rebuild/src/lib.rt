@@ -4,6 +4,7 @@ ghost use mathlib.Core.List.{[]};
 ghost use mathlib.Core.Bool.{true};
 ghost use Prim.Native.Nat.{_+_, _*_, _≤_, _<_};
 ghost use lib.ListN.{length};
+ghost use Rattle.layout.specs.Layout.{ROW, CHUNKS};
 ghost use Rattle.table.specs.Order.{entryOf};
 ghost use Rattle.model.specs.Limits.{within, replacement-bytes};
 ghost use Rattle.memory.specs.Layout.{replacementOf, magicStringOf};
@@ -30,7 +31,7 @@ fn lay_text(s: &[u8], store: &mut [u8], at: u32, n: u32, byte: usize) -> Spot
     requires { ⌜ (byte + replacement-bytes (replacementOf (now s) (at, n)) ≤ length (now store)) × (length (now store) < 4294967295) ⌝ }
     ensures { λ r. ⌜ LaidText (now (s .entry)) (at, n) (r .at, n) (now (store .entry)) byte (now (store .exit)) (r .byte) ⌝ }
 {
-    if at == texts::NONE {
+    if at == layout::NONE {
         return Spot { at, byte };
     }
     let i = at as usize;
@@ -81,14 +82,14 @@ fn top_row(r: table::Row, n: u32) -> table::Row
         x.next = 1;
         return x;
     }
-    x.next = 0;
+    x.next = layout::LIST_END;
     x
 }
 
 // The row of chunk k + 1 of n, linked to its neighbours.
 fn seq_row(r: table::Row, k: u32, n: u32) -> table::Row
     requires { ⌜ k < n ⌝ }
-    requires { ⌜ n ≤ 512 ⌝ }
+    requires { ⌜ n ≤ CHUNKS ⌝ }
     ensures { λ x. ⌜ SeqRow r x k n ⌝ }
 {
     let mut x = r;
@@ -97,7 +98,7 @@ fn seq_row(r: table::Row, k: u32, n: u32) -> table::Row
         x.next = k + 2;
         return x;
     }
-    x.next = 0;
+    x.next = layout::LIST_END;
     x
 }
 
@@ -117,7 +118,7 @@ fn lay_rest(
     requires { ⌜ Readable (now t) (now p) (now s) ⌝ }
     requires { ⌜ LayAt (now t) (now p) (now s) 0 n first byte0 row0 (now chunks) (now pieces) (now store) ⌝ }
     requires { ⌜ Sized (now chunks) (now pieces) (now store) ⌝ }
-    requires { ⌜ n * 12 + 12 ≤ length (now chunks) ⌝ }
+    requires { ⌜ n * ROW + ROW ≤ length (now chunks) ⌝ }
     ensures { λ _. ⌜ Rebuilt (now (t .entry)) (now (p .entry)) (now (s .entry)) (now (chunks .exit)) (now (pieces .exit)) (now (store .exit)) ⌝ }
 {
     let mut k = 0;

@@ -8,6 +8,7 @@ use native.Mathlib.Omega.{arith}
 use lib.Dec.{leb}
 use lib.ListN.{length}
 use borrow.Author.Tests.{eqb-true, eqb-false, le-leb}
+use Rattle.layout.specs.Layout.{ROW}
 use Rattle.utf8.specs.Chars.{All, cons}
 use Rattle.table.specs.Ring.{Each, each-map, each-append, each-left, each-right}
 use Rattle.table.specs.declared.Row.{Row}
@@ -126,7 +127,7 @@ module _ (a b to : ℕ) (t : List ℕ) where
         inside-not p q = let z : _≡_ {A = ℕ} 0 1 = (let e : _≡_ {A = Bool} true false = sym (rw (le-leb a to p, le-leb to b q) refl) ∙ m .outside in cc) in omega arith
 
     -- the last row of the range is in the table
-    pub moved-row : l * 12 + 12 ≤ length t
+    pub moved-row : l * ROW + ROW ≤ length t
     unfolding us xs ys
     moved-row = omega (arith, k .room, w .walked .last, last-in t k us f xs ys place)
 

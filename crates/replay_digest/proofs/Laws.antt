@@ -11,6 +11,7 @@ use lib.Dec.{eqb}
 use lib.ListN.{length, getD, drop, drop-of-length-le}
 use lib.Seq.{drop-cons}
 use borrow.Author.Tests.{eq-eqb, ne-eqb}
+use Rattle.layout.specs.Layout.{ROW}
 use Rattle.table.specs.declared.Row.{Row}
 use Rattle.table.specs.Order.{Entry, entryAt, entryOf, entries, nextOf, countOf, Linked}
 use Rattle.model.specs.Text.{Text}
@@ -51,7 +52,7 @@ module _ {t : List ℕ} {h stop d g row : ℕ} (c : Rows t h stop d g row) where
   rows-done l = ap (mixed-entries d) (sym (sections-end t g (omega (arith, c .stop-is)))) ∙ c .digest-is
 
   module _ (k : Linked t) (l : g < stop) where
-    pub rows-row : row * 12 + 12 ≤ length t
+    pub rows-row : row * ROW + ROW ≤ length t
     rows-row = rw (c .row-is l) (row-in t g k)
 
     pub rows-more : (r : Row) → SectionRow t g row r → {d' : ℕ} → d' ≡ mixed-entry d (entryOf r) → Rows t h stop d' (g + 1) (r .next)

@@ -36,7 +36,7 @@ fn mix_row(h: u32, r: Row) -> u32
     let b = mix(a, r.end);
     let c = mix(b, r.intro_n);
     let d = mix(c, r.outro_n);
-    if r.text_at == texts::NONE {
+    if r.text_at == layout::NONE {
         return mix(d, 0);
     }
     mix(d, 1)

@@ -5,6 +5,7 @@ use Prim.Native.Nat.{ℕ, suc, _+_, _*_, _-_, _≤_, _<_}
 use native.Mathlib.Omega.{arith}
 use native.Mathlib.Numerals.{add-one}
 use lib.ListN.{length, drop}
+use Rattle.layout.specs.Layout.{ROW}
 use Rattle.utf8.specs.Chars.{concat}
 use Rattle.utf8.specs.CharLaws.{concat-append}
 use Rattle.table.specs.declared.Row.{Row}
@@ -73,7 +74,7 @@ module _ {source t p s d₀ : List ℕ} {stop : ℕ} {d : List ℕ} {g row o : �
       writing-done (c .writing) (ap (λ (x : List Entry). concat (fragmentsAll source p s x)) (sections-end t g (omega (arith, c .stop-is))) ∙ concat-nil)
 
   module _ (h : g < stop) where
-    pub sectioning-row : row * 12 + 12 ≤ length t
+    pub sectioning-row : row * ROW + ROW ≤ length t
     sectioning-row = rw (c .row-is h) (Rattle.fragments.specs.Sections.row-in t g (w .readable .linked))
 
     module _ (r : Row) (sr : SectionRow t g row r) where

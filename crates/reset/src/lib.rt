@@ -28,7 +28,7 @@ pub fn reset(
         if source.len() < end as usize {
             return Outcome { number: 10, used };
         }
-        return movement::range_with(source, chunks, pieces, store, start, end, texts::NONE, used);
+        return movement::range_with(source, chunks, pieces, store, start, end, layout::NONE, used);
     }
     Outcome { number: 3, used }
 }

@@ -7,6 +7,7 @@ use native.Mathlib.Omega.{arith}
 use native.Mathlib.Nat.{sub-zero}
 use lib.ListN.{length}
 use lib.Dec.{ltb, eqb}
+use Rattle.layout.specs.Layout.{ROW}
 use Rattle.rows.specs.declared.Key.{Key}
 use Rattle.rows.specs.declared.Key.the-variants.{Start, End, Inside}
 use Rattle.rows.specs.declared.Found.{Found}
@@ -50,7 +51,7 @@ module _ (f : Entry → Bool) (t : List ℕ) where
         let e : countOf t - k ≡ suc (countOf t - (k + 1)) = omega arith in
         s .place ∙ ap (λ (m : ℕ). s .us ++ follow (nextOf t) m cur) e
 
-    pub seen-in : Linked t → k < countOf t → cur * 12 + 12 ≤ length t
+    pub seen-in : Linked t → k < countOf t → cur * ROW + ROW ≤ length t
     seen-in l h =
         let i = inside-at t (s .us) cur _ l (seen-at h) in
         let r = l .room in

@@ -4,6 +4,7 @@ use mathlib.Core.List.{List, [], _∷_, _++_, map}
 use Prim.Native.Nat.{ℕ, zero, suc, _+_, _*_, _-_, _≤_, _<_}
 use native.Mathlib.Omega.{arith}
 use lib.ListN.{length}
+use Rattle.layout.specs.Layout.{ROW}
 use Rattle.table.specs.declared.Row.{Row}
 use Rattle.table.specs.Ring.{Not, Inserted}
 use Rattle.table.specs.Table.{rowAt, Put}
@@ -77,7 +78,7 @@ prevF r = r .prev
 module _ (t t1 t2 t3 t4 : List ℕ) (i n q : ℕ) (r c d z : Row) (l : Linked t) (w : Placed t i)
     (en : n ≡ countOf t + 1) (eq : q ≡ nextOf t i) (ec : c ≡ rowAt t i) (p1 : Put t t1 n (withLinks r (c .next) i))
     (p2 : Put t1 t2 i (withLinks c n (c .prev))) (ed : d ≡ rowAt t2 q) (p3 : Put t2 t3 q (withLinks d (d .next) n))
-    (ez : z ≡ rowAt t3 0) (p4 : Put t3 t4 0 (withStart z n)) (room : n * 12 + 12 ≤ length t4) where
+    (ez : z ≡ rowAt t3 0) (p4 : Put t3 t4 0 (withStart z n)) (room : n * ROW + ROW ≤ length t4) where
   in-i : (0 < i) × (i ≤ countOf t)
   in-i = inside-at t (w .us) i (w .bs) l (w .place)
 
@@ -126,8 +127,8 @@ module _ (t t1 t2 t3 t4 : List ℕ) (i n q : ℕ) (r c d z : Row) (l : Linked t)
       }
 
 -- the rows that are written are in the table
-pub room-i : (t : List ℕ) (i : ℕ) → Linked t → Placed t i → i * 12 + 12 ≤ length t
+pub room-i : (t : List ℕ) (i : ℕ) → Linked t → Placed t i → i * ROW + ROW ≤ length t
 room-i t i l w = omega (arith, l .room, inside-at t (w .us) i (w .bs) l (w .place) .1)
 
-pub room-q : (t : List ℕ) (i q : ℕ) → Linked t → Placed t i → q ≡ nextOf t i → q * 12 + 12 ≤ length t
+pub room-q : (t : List ℕ) (i q : ℕ) → Linked t → Placed t i → q ≡ nextOf t i → q * ROW + ROW ≤ length t
 room-q t i q l w e = omega (arith, l .room, next-inside t (w .us) i (w .bs) l (w .place))

@@ -5,6 +5,7 @@ use mathlib.Core.Logic.{_⊎_, inl, inr, ⊎-elim}
 use Prim.Native.Nat.{ℕ, _+_, _*_, _≤_, _<_}
 use native.Mathlib.Omega.{arith}
 use lib.ListN.{length}
+use Rattle.layout.specs.Layout.{ROW}
 use Rattle.table.specs.declared.Row.{Row}
 use Rattle.table.specs.Ring.{Not, Pos, Each, each-left, each-right, each-map, Edge, Links, links-left, links-right}
 use Rattle.rows.specs.Swap.{Turned, lastOf, ring-swap, last-edge, links-split, lasts, each-last, tail-le}
@@ -73,7 +74,7 @@ abbrev pub Relinked : List ℕ → List ℕ → ℕ → ℕ → ℕ → Type 0
 Relinked t t' f l n = Three t t' (prevOf t f) (nextOf t l) (prevOf t n) f l n
 
 abbrev pub InTable : List ℕ → ℕ → Type 0
-InTable t i = i * 12 + 12 ≤ length t
+InTable t i = i * ROW + ROW ≤ length t
 
 pub record Movable (t : List ℕ) (f l n : ℕ) : Type 0 where
   pub in-f : InTable t f

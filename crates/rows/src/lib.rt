@@ -2,6 +2,7 @@
 ghost use mathlib.Core.Path.{_≡_};
 ghost use Prim.Native.Nat.{_+_, _*_, _≤_};
 ghost use lib.ListN.{length};
+ghost use Rattle.layout.specs.Layout.{ROW};
 ghost use Rattle.table.specs.Order.{Linked, entryOf, countOf};
 ghost use Rattle.rows.specs.Find.{meets, FoundIn};
 ghost use Rattle.rows.specs.Insert.{Placed, LinkedIn};
@@ -56,7 +57,7 @@ pub fn find(t: &[u32], key: Key, p: u32) -> Found
 pub fn link_in(t: &mut [u32], i: u32, r: table::Row)
     requires { ⌜ Linked (now t) ⌝ }
     requires { ⌜ Placed (now t) i ⌝ }
-    requires { ⌜ ((countOf (now t) + 1) * 12 + 12 ≤ length (now t)) × (length (now t) ≤ 4294967296) ⌝ }
+    requires { ⌜ ((countOf (now t) + 1) * ROW + ROW ≤ length (now t)) × (length (now t) ≤ 4294967296) ⌝ }
     ensures { λ _. ⌜ LinkedIn (now (t .entry)) (now (t .exit)) i r ⌝ }
 {
     let z = table::get_row(t, 0);
@@ -81,7 +82,7 @@ pub fn link_in(t: &mut [u32], i: u32, r: table::Row)
 pub fn split_row(t: &mut [u32], i: u32, p: u32)
     requires { ⌜ Linked (now t) ⌝ }
     requires { ⌜ Placed (now t) i ⌝ }
-    requires { ⌜ ((countOf (now t) + 1) * 12 + 12 ≤ length (now t)) × (length (now t) ≤ 4294967296) ⌝ }
+    requires { ⌜ ((countOf (now t) + 1) * ROW + ROW ≤ length (now t)) × (length (now t) ≤ 4294967296) ⌝ }
     ensures { λ _. ⌜ SplitRow (now (t .entry)) (now (t .exit)) i p ⌝ }
 {
     let c = table::get_row(t, i);
@@ -99,7 +100,7 @@ pub fn split_row(t: &mut [u32], i: u32, p: u32)
 
 // Row k, if it starts from a up to b: it loses its pieces, and its replacement is empty, at text_at, or gone.
 fn clear_row(t: &mut [u32], k: u32, a: u32, b: u32, text_at: u32)
-    requires { ⌜ k * 12 + 12 ≤ length (now t) ⌝ }
+    requires { ⌜ k * ROW + ROW ≤ length (now t) ⌝ }
     ensures { λ _. ⌜ ClearedAt (now (t .entry)) (now (t .exit)) k a b «text_at» ⌝ }
 {
     let c = table::get_row(t, k);
@@ -135,7 +136,7 @@ pub fn clear_rows(t: &mut [u32], a: u32, b: u32, text_at: u32)
 
 // Row a leads to row b, and b back to a.
 fn join(t: &mut [u32], a: u32, b: u32)
-    requires { ⌜ (a * 12 + 12 ≤ length (now t)) × (b * 12 + 12 ≤ length (now t)) ⌝ }
+    requires { ⌜ (a * ROW + ROW ≤ length (now t)) × (b * ROW + ROW ≤ length (now t)) ⌝ }
     ensures { λ _. ⌜ Joined (now (t .entry)) (now (t .exit)) a b ⌝ }
 {
     let mut r = table::get_row(t, a);

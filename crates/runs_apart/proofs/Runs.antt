@@ -7,6 +7,7 @@ use native.Mathlib.Omega.{arith}
 use native.Mathlib.Numerals.{add-one}
 use native.Mathlib.Decide.{decLt}
 use lib.ListN.{length}
+use Rattle.layout.specs.Layout.{INTRO-AT, PIECE-ROWS, PIECES-LEN}
 use Rattle.table.specs.Order.{Entry, entryAt}
 use Rattle.memory.specs.Layout.{Place}
 use Rattle.memory.specs.WellFormed.{among, runUses, pieceUses, listUses}
@@ -150,7 +151,7 @@ pub record StepsTo (size : ℕ) (p rows₀ words₀ : List ℕ) (u₀ : Used) (E
   pub words-same : length words ≡ length words₀
   pub passes : PassesTo lower (sizes size p) (both (markAt rows₀) (bitAt words₀)) u₀ (λ i w. E i (w .byte) (w .row)) f k (both (markAt rows) (bitAt words)) u
   pub counted : u .pieces ≡ u₀ .pieces + sum-to c k
-  pub few : u .pieces ≤ u₀ .pieces + k * 4096
+  pub few : u .pieces ≤ u₀ .pieces + k * PIECES-LEN
 
 module _ {size : ℕ} {p rows₀ words₀ : List ℕ} (m : Markable size p rows₀ words₀) where
   pub steps-none : {u₀ : Used} (E : ℕ → ℕ → ℕ → Type 0) (f : ℕ → Spot → ℕ) (c : ℕ → ℕ) → StepsTo size p rows₀ words₀ u₀ E f c 0 rows₀ words₀ u₀
@@ -170,7 +171,7 @@ module _ {size : ℕ} {p rows₀ words₀ : List ℕ} (m : Markable size p rows�
         record { rows-are = a .rows-same ∙ m .rows-are; few = m .few; bits = rows-bits _ _ (to-bits (a .passes .marks)); enough = enough-kept (a .words-same) (m .enough) }
 
     module _ {rows′ words′ : List ℕ} {r : Step} (b : RunsPassed r size p rows words u (E k) (f k) (c k) rows′ words′) where
-      pub steps-more : r .ok ≡ true → c k ≤ 4096 → length rows′ ≡ length rows → length words′ ≡ length words → StepsTo size p rows₀ words₀ u₀ E f c (k + 1) rows′ words′ (r .used)
+      pub steps-more : r .ok ≡ true → c k ≤ PIECES-LEN → length rows′ ≡ length rows → length words′ ≡ length words → StepsTo size p rows₀ words₀ u₀ E f c (k + 1) rows′ words′ (r .used)
       steps-more s h lr lw =
           record {
             rows-same = lr ∙ a .rows-same;
@@ -202,12 +203,12 @@ run-small p b row x h =
     elim (decLt 0 (x .1)) [ yes l ↦ let y = h (x .1 - 1) (omega arith) .0 in omega arith | no l ↦ omega arith ]
 
 pub run-few : {size : ℕ} {p rows words rows′ words′ : List ℕ} {u : Used} {r : Step} (x : Place)
-    → Markable size p rows words → RunPassed r size p rows words u x rows′ words′ → r .ok ≡ true → x .1 ≤ 2048
+    → Markable size p rows words → RunPassed r size p rows words u x rows′ words′ → r .ok ≡ true → x .1 ≤ PIECE-ROWS
 run-few {size = size} {p = p} x k a t = omega (arith, run-small p size (length p / 2) x (a .passed .marked .decides .yes t .fits), k .few)
 
 -- run k of row i: the first, and the second
 abbrev pub runAt : List ℕ → ℕ → ℕ → Place
-runAt t i k = placeAt t i (4 + k * 2)
+runAt t i k = placeAt t i (INTRO-AT + k * 2)
 
 abbrev pub ListsTo : ℕ → List ℕ → ℕ → List ℕ → List ℕ → List ℕ → Used → ℕ → List ℕ → List ℕ → Used → Type 0
 ListsTo size t i p rows₀ words₀ u₀ k rows words u =

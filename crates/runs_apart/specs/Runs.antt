@@ -4,6 +4,7 @@ use mathlib.Core.Bool.{true}
 use mathlib.Core.List.{List}
 use Prim.Native.Nat.{ℕ, _+_, _/_, _≤_}
 use lib.ListN.{length}
+use Rattle.layout.specs.Layout.{PIECES-LEN}
 use Rattle.table.specs.Order.{Entry}
 use Rattle.memory.specs.Layout.{Place}
 use Rattle.memory.specs.WellFormed.{among, runUses, pieceUses, listUses}
@@ -27,7 +28,7 @@ both f g (byte b) = g b
 -- a mark for each row of the piece table and for each byte of a store of this size
 pub record Markable (size : ℕ) (p rows words : List ℕ) : Type 0 where
   pub rows-are : length rows ≡ length p / 2
-  pub few : length p ≤ 4096
+  pub few : length p ≤ PIECES-LEN
   pub bits : Bits (markAt rows)
   pub enough : Enough size words
 

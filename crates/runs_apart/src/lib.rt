@@ -2,6 +2,7 @@
 ghost use mathlib.Core.Path.{_≡_};
 ghost use Prim.Native.Nat.{_+_, _*_, _≤_, _<_};
 ghost use lib.ListN.{length};
+ghost use Rattle.layout.specs.Layout.{ROW};
 ghost use Rattle.table.specs.Order.{entryAt};
 ghost use Rattle.marks.specs.Marks.{placeAt};
 ghost use Rattle.runs_apart.specs.Runs.{Markable, RunPassed, ListsPassed};
@@ -52,7 +53,7 @@ fn mark_run(
     size: usize,
     used: Used,
 ) -> Step
-    requires { ⌜ (i * 12 + 12 ≤ length (now t)) × (k < 11) ⌝ }
+    requires { ⌜ (i * ROW + ROW ≤ length (now t)) × (k < 11) ⌝ }
     requires { ⌜ Markable size (now pieces) (now rows) (now marks) ⌝ }
     requires { ⌜ used .pieces ≤ 0x2000_0000_0000 ⌝ }
     ensures { λ r. ⌜ RunPassed r size (now (pieces .entry)) (now (rows .entry)) (now (marks .entry)) used (placeAt (now (t .entry)) i k)
@@ -76,7 +77,7 @@ pub fn mark_lists(
     size: usize,
     used: Used,
 ) -> Step
-    requires { ⌜ i * 12 + 12 ≤ length (now t) ⌝ }
+    requires { ⌜ i * ROW + ROW ≤ length (now t) ⌝ }
     requires { ⌜ Markable size (now pieces) (now rows) (now marks) ⌝ }
     requires { ⌜ used .pieces ≤ 0x1000_0000_0000 ⌝ }
     ensures { λ r. ⌜ ListsPassed r size (now (pieces .entry)) (now (rows .entry)) (now (marks .entry)) used (entryAt (now (t .entry)) i)
@@ -90,7 +91,7 @@ pub fn mark_lists(
         let a = mark_run(
             t,
             i,
-            marks::INTRO + k * 2,
+            layout::INTRO_AT + k * 2,
             pieces,
             rows,
             marks,

@@ -7,6 +7,7 @@ use native.Mathlib.Omega.{arith}
 use lib.Dec.{eqb}
 use lib.ListN.{length, length-append}
 use borrow.Author.Tests.{eqb-true, eqb-false, eq-eqb, ne-eqb}
+use Rattle.layout.specs.Layout.{ROW}
 use Rattle.table.specs.Ring.{Each, length-follow}
 use Rattle.table.specs.Table.{rowAt}
 use Rattle.table.specs.Order.{entryAt, order, nextOf, countOf, Linked}
@@ -56,10 +57,10 @@ module _ (t : List ℕ) (a b f : ℕ) where
     leads : LeadsTo t l (w .walked .ys)
     leads = subst (λ (x : ℕ). LeadsTo t x (w .walked .ys)) (sym (w .walked .last)) (leads-to t k (w .walked .us) f (w .walked .xs) (w .walked .ys) (w .walked .place))
 
-    pub walk-row : l * 12 + 12 ≤ length t
+    pub walk-row : l * ROW + ROW ≤ length t
     walk-row = omega (arith, k .room, w .walked .last, last-in t k (w .walked .us) f (w .walked .xs) (w .walked .ys) (w .walked .place))
 
-    pub walk-next : nextOf t l * 12 + 12 ≤ length t
+    pub walk-next : nextOf t l * ROW + ROW ≤ length t
     walk-next = omega (arith, k .room, ap (nextOf t) (w .walked .last), next-in t k (w .walked .us) f (w .walked .xs) (w .walked .ys) (w .walked .place))
 
     pub walk-whole : entryAt t l .end ≡ b → WholeRange t a b f l

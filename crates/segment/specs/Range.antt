@@ -6,6 +6,7 @@ use Prim.Native.Nat.{ℕ, zero, suc, _+_, _*_, _≤_, _<_}
 use native.Mathlib.Omega.{arith}
 use lib.Dec.{eqb}
 use lib.ListN.{length}
+use Rattle.layout.specs.Layout.{LIST-END}
 use Rattle.table.specs.Ring.{Each, each-left, each-right, Edge, Links, links-right}
 use Rattle.table.specs.Table.{rowAt}
 use Rattle.table.specs.Order.{Entry, entryAt, order, nextOf, prevOf, countOf, Linked}
@@ -17,7 +18,7 @@ use Rattle.segment.specs.declared.Range.the-variants.{Whole, Broken, Not
 
 -- there is a row n, and it starts at y
 unfoldable pub goes-on : List ℕ → ℕ → ℕ → Bool
-goes-on t n y = not (eqb n 0) && eqb (rowAt t n .start) y
+goes-on t n y = not (eqb n LIST-END) && eqb (rowAt t n .start) y
 
 -- row i, then the rows xs: each starts where the one before it ends, which is not b
 abbrev pub Follows : List ℕ → ℕ → ℕ → List ℕ → Type 0

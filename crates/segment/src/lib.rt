@@ -3,6 +3,7 @@
 ghost use mathlib.Core.Path.{_≡_};
 ghost use Prim.Native.Nat.{_+_, _*_, _≤_};
 ghost use lib.ListN.{length};
+ghost use Rattle.layout.specs.Layout.{ROW};
 ghost use Rattle.table.specs.Order.{Linked};
 ghost use Rattle.segment.specs.Range.{goes-on, RangeIn};
 use rows::Found;
@@ -20,10 +21,10 @@ pub enum Range {
 
 // Whether a next chunk stands behind c in the list and starts where c ends.
 fn next_follows(t: &[u32], c: table::Row) -> bool
-    requires { ⌜ c .next * 12 + 12 ≤ length (now t) ⌝ }
+    requires { ⌜ c .next * ROW + ROW ≤ length (now t) ⌝ }
     ensures { λ r. ⌜ r ≡ goes-on (now (t .entry)) (c .next) (c .end) ⌝ }
 {
-    if c.next == 0 {
+    if c.next == layout::LIST_END {
         return false;
     }
     let d = table::get_row(t, c.next);

@@ -8,6 +8,7 @@ use native.Mathlib.Omega.{arith}
 use lib.Dec.{ltb, leb, eqb}
 use lib.ListN.{length, drop}
 use borrow.Author.Tests.{le-leb, lt-leb, ltb-false, leb-false}
+use Rattle.layout.specs.Layout.{ROW}
 use Rattle.utf8.specs.Rfc3629.{between}
 use Rattle.table.specs.declared.Row.{Row}
 use Rattle.table.specs.Table.{rowAt}
@@ -111,7 +112,7 @@ module _ (source t p s : List ℕ) (start end k row : ℕ) (found : FoundStart t
   pub found-row : row ≡ rowNo t (suc k)
   found-row = f .row-is
 
-  pub found-fits : row * 12 + 12 ≤ length t
+  pub found-fits : row * ROW + ROW ≤ length t
   found-fits = rw found-row (row-in t (suc k) l)
 
   module _ (r : Row) (e : r ≡ rowAt t row) where

@@ -7,6 +7,7 @@ use native.Mathlib.Omega.{arith}
 use native.Mathlib.Numerals.{add-one}
 use lib.Dec.{ltb, leb, eqb}
 use lib.ListN.{length, drop}
+use Rattle.layout.specs.Layout.{ROW}
 use Rattle.table.specs.declared.Row.{Row}
 use Rattle.table.specs.Table.{rowAt}
 use Rattle.table.specs.Order.{Entry, entryOf, entryAt, entries, countOf, nextOf, Linked}
@@ -55,7 +56,7 @@ module _ {t : List ℕ} {start end n k row : ℕ} (c : Seeking t start end n k r
     inside : k < countOf t
     inside = omega (arith, c .count-is)
 
-    pub seek-row : row * 12 + 12 ≤ length t
+    pub seek-row : row * ROW + ROW ≤ length t
     seek-row = rw (c .row-is h) (row-in t (suc k) l)
 
     split : (p s : List ℕ) → find-start start end (chunksOf p s (entries t)) ≡ find-start start end (chunkOf p s (section t (suc k)) ∷ chunksOf p s (drop (suc k) (entries t)))

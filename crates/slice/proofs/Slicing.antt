@@ -7,6 +7,7 @@ use native.Mathlib.Omega.{arith}
 use native.Mathlib.Numerals.{add-one}
 use lib.Dec.{eqb}
 use lib.ListN.{length, take, drop, length-append, length-take, length-drop, take-append-drop}
+use Rattle.layout.specs.Layout.{ROW}
 use Rattle.utf8.specs.Chars.{concat}
 use Rattle.table.specs.declared.Row.{Row}
 use Rattle.table.specs.Table.{rowAt}
@@ -23,7 +24,7 @@ use Rattle.memory.specs.WellFormed.{WellFormed, EntryIn}
 use Rattle.memory.specs.Laws.{edited-is, desk-full}
 use Rattle.texts.specs.Texts.{SpanIn}
 use Rattle.fragments.specs.Sections.{section, rowNo, row-edge, row-in, section-chunk, entries-drop, entries-end, fragmentsAll, fragmentsOf}
-use Rattle.fragments.specs.Output.{ready, sum-length, all-append, output-short}
+use Rattle.fragments.specs.Output.{ready, sum-length, all-append, most-output, output-short}
 use Rattle.slice.proofs.Seek.{contains-is}
 use Rattle.chunk_slice.specs.Emit.{overIf, Emitted, Room, emitted-none, emitted-then}
 use Rattle.chunk_slice.specs.Given.{holdsEnd, chunkSlice}
@@ -57,14 +58,14 @@ slice-le source w begin end c =
     )
 
 -- all chunks together are short
-chunks-short : (source t p s : List ℕ) → WellFormed source t p s → sum length (fragmentsAll source p s (entries t)) ≤ 8421376
+chunks-short : (source t p s : List ℕ) → WellFormed source t p s → sum length (fragmentsAll source p s (entries t)) ≤ most-output
 unfolding magicStringOf
 chunks-short source t p s w =
     let m = magicStringOf source t p s in
     let cs = chunk-fragments (m .source) (m .chunks) in
     omega (arith, output-short m (desk-full w), sum-append length (m .intro) (cs ++ m .outro), sum-append length cs (m .outro))
 
-pub rest-short : (source t p s : List ℕ) (k : ℕ) → WellFormed source t p s → sum length (fragmentsAll source p s (drop k (entries t))) ≤ 8421376
+pub rest-short : (source t p s : List ℕ) (k : ℕ) → WellFormed source t p s → sum length (fragmentsAll source p s (drop k (entries t))) ≤ most-output
 rest-short source t p s k w =
     let F = fragmentsAll source p s in
     let e : F (entries t) ≡ F (take k (entries t)) ++ F (drop k (entries t)) = ap F (sym (take-append-drop k (entries t))) ∙ all-append source p s (take k (entries t)) (drop k (entries t)) in
@@ -94,7 +95,7 @@ pub record Slicing (w : Bool) (source t p s : List ℕ) (end : ℕ) (whole : Sli
   pub done : Text
   pub whole-is : whole ≡ before done (sliceWalk source wi begin end (chunksOf p s (drop k (entries t))))
   pub emitted : Emitted w d₀ 0 done d o
-  pub small : o + sum length (fragmentsAll source p s (drop k (entries t))) ≤ 8421376
+  pub small : o + sum length (fragmentsAll source p s (drop k (entries t))) ≤ most-output
   pub same : length d ≡ length d₀
 
 before-nil : (r : Sliced) → before [] r ≡ r
@@ -144,7 +145,7 @@ module _ {w : Bool} {source t p s : List ℕ} {end : ℕ} {whole : Sliced} {d₀
     inside : k < countOf t
     inside = omega (arith, c .count-is)
 
-    pub slicing-row : row * 12 + 12 ≤ length t
+    pub slicing-row : row * ROW + ROW ≤ length t
     slicing-row = rw (c .row-is h) (row-in t (suc k) l)
 
     module _ (r : Row) (e : r ≡ rowAt t row) where

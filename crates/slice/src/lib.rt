@@ -58,7 +58,7 @@ fn ends_inside(start: u32, stop: u32, text_at: u32, end: u32) -> bool
     ensures { λ r. ⌜ r ≡ endsInside start stop «text_at» end ⌝ }
 {
     if chunk_slice::contains_end(start, stop, end) {
-        if text_at != texts::NONE {
+        if text_at != layout::NONE {
             return stop != end;
         }
         return false;
@@ -181,7 +181,7 @@ fn slice_into<'a>(
 fn starts_inside(start: u32, text_at: u32, at: u32) -> bool
     ensures { λ r. ⌜ r ≡ startsInside start «text_at» at ⌝ }
 {
-    if text_at != texts::NONE {
+    if text_at != layout::NONE {
         return start != at;
     }
     false

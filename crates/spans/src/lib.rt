@@ -2,37 +2,27 @@
 ghost use mathlib.Core.Path.{_≡_};
 ghost use Prim.Native.Nat.{_+_, _*_, _≤_, _<_};
 ghost use lib.ListN.{length, getD};
+ghost use Rattle.layout.specs.Layout.{ROW};
 ghost use Rattle.spans.specs.Spans.{startOf, endOf};
-
-// In a row: the row behind it in the list, and the row before it.
-pub const NEXT: usize = 2;
-
-pub const PREV: usize = 3;
 
 // Word k of row i.
 pub fn word(t: &[u32], i: u32, k: usize) -> u32
-    requires { ⌜ (i * 12 + 12 ≤ length (now t)) × (k < 12) ⌝ }
-    ensures { λ r. ⌜ r ≡ getD (now (t .entry)) (i * 12 + k) 0 ⌝ }
+    requires { ⌜ (i * ROW + ROW ≤ length (now t)) × (k < ROW) ⌝ }
+    ensures { λ r. ⌜ r ≡ getD (now (t .entry)) (i * ROW + k) 0 ⌝ }
 {
-    t[i as usize * 12 + k]
-}
-
-fn wide(x: u32) -> usize
-    ensures { λ r. ⌜ r ≡ x ⌝ }
-{
-    x as usize
+    t[i as usize * layout::ROW + k]
 }
 
 pub fn start(t: &[u32], i: u32) -> usize
-    requires { ⌜ i * 12 + 12 ≤ length (now t) ⌝ }
+    requires { ⌜ i * ROW + ROW ≤ length (now t) ⌝ }
     ensures { λ r. ⌜ r ≡ startOf (now (t .entry)) i ⌝ }
 {
-    wide(t[i as usize * 12])
+    layout::wide(t[i as usize * layout::ROW])
 }
 
 pub fn end(t: &[u32], i: u32) -> usize
-    requires { ⌜ i * 12 + 12 ≤ length (now t) ⌝ }
+    requires { ⌜ i * ROW + ROW ≤ length (now t) ⌝ }
     ensures { λ r. ⌜ r ≡ endOf (now (t .entry)) i ⌝ }
 {
-    wide(t[i as usize * 12 + 1])
+    layout::wide(t[i as usize * layout::ROW + layout::END])
 }

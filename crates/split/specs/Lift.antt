@@ -20,7 +20,7 @@ use Rattle.model.specs.MagicString.{MagicString, with-chunks}
 use Rattle.model.specs.Lists.{bool-elim, and-left, and-right, concat-sum}
 use Rattle.memory.specs.Layout.{NONE, Place, runOf, replacementOf, chunkOf, magicStringOf}
 use Rattle.memory.specs.WellFormed.{RunIn, ReplacementIn, RunsIn, EntryIn, Readable}
-use Rattle.memory.specs.Laws.{desk-same, no-run, no-run-in}
+use Rattle.memory.specs.Laws.{desk-same, no-run, no-run-in, within-keeps}
 use Rattle.texts.specs.Texts.{concat-nil}
 use Rattle.rows.specs.Insert.{runsOf}
 use Rattle.rows.specs.Split.{first, second}
@@ -59,8 +59,8 @@ module _ (t p s t' : List ℕ) {es : List Entry} (h : Readable t p s) (d : Reord
 
 -- ── runs that keep the limits by themselves ──
 pub record RunSmall (p s : List ℕ) (r : Place) : Type 0 where
-  pub pieces : length (runOf p s r) ≤ 1024
-  pub bytes : length (concat (runOf p s r)) ≤ 32768
+  pub pieces : length (runOf p s r) ≤ full .pieces
+  pub bytes : length (concat (runOf p s r)) ≤ full .bytes
 
 pub record EntrySmall (p s : List ℕ) (e : Entry) : Type 0 where
   pub intro : RunSmall p s (e .intro)
@@ -71,14 +71,15 @@ pub record DeskSmall (t p s : List ℕ) : Type 0 where
   pub desk : EntrySmall p s (entryAt t 0)
   pub chunks : All (EntrySmall p s) (entries t)
 
-small-entry : (p s : List ℕ) (e : Entry) → chunk-pieces (chunkOf p s e) ≤ 1024 → chunk-bytes (chunkOf p s e) ≤ 32768 → EntrySmall p s e
+small-entry : (p s : List ℕ) (e : Entry) → chunk-pieces (chunkOf p s e) ≤ full .pieces → chunk-bytes (chunkOf p s e) ≤ full .bytes → EntrySmall p s e
 small-entry p s e h k =
     record {
       intro = record { pieces = omega arith; bytes = omega (arith, concat-sum (runOf p s (e .intro))) };
       outro = record { pieces = omega arith; bytes = omega (arith, concat-sum (runOf p s (e .outro))) };
     }
 
-small-entries : (p s : List ℕ) (a b : ℕ) (es : List Entry) → a + sum chunk-pieces (map (chunkOf p s) es) ≤ 1024 → b + sum chunk-bytes (map (chunkOf p s) es) ≤ 32768 → All (EntrySmall p s) es
+small-entries : (p s : List ℕ) (a b : ℕ) (es : List Entry)
+    → a + sum chunk-pieces (map (chunkOf p s) es) ≤ full .pieces → b + sum chunk-bytes (map (chunkOf p s) es) ≤ full .bytes → All (EntrySmall p s) es
 small-entries p s a b [] h k = nil
 small-entries p s a b (e ∷ es) h k =
     let c = small-entry p s e (omega arith) (omega arith) in
@@ -86,12 +87,12 @@ small-entries p s a b (e ∷ es) h k =
 
 -- a desk that keeps the limits
 pub desk-small : (source t p s : List ℕ) → within full (magicStringOf source t p s) ≡ true → DeskSmall t p s
-unfolding within magicStringOf
+unfolding magicStringOf
 desk-small source t p s e =
     let m = magicStringOf source t p s in
-    let u = and-right (leb (length (m .chunks)) 512) _ (and-right (leb (length source) 16384) _ e) in
-    let a = leb-true (piece-count m) 1024 (and-left (leb (piece-count m) 1024) _ u) in
-    let b = leb-true (byte-count m) 32768 (and-right (leb (piece-count m) 1024) _ u) in
+    let kept = within-keeps full m e in
+    let a = kept .pieces in
+    let b = kept .bytes in
     let own : Entry = record { start = 0; end = 0; intro = entryAt t 0 .intro; outro = entryAt t 0 .outro; text = (NONE, 0) } in
     let c = small-own p s own (omega (arith, a)) (omega (arith, b)) in
     record {
@@ -99,7 +100,8 @@ desk-small source t p s e =
       chunks = small-entries p s (length (m .intro) + length (m .outro)) (sum length (m .intro) + sum length (m .outro)) (entries t) a b;
     }
   where
-    small-own : (p s : List ℕ) (e : Entry) → length (runOf p s (e .intro)) + length (runOf p s (e .outro)) ≤ 1024 → sum length (runOf p s (e .intro)) + sum length (runOf p s (e .outro)) ≤ 32768 → EntrySmall p s e
+    small-own : (p s : List ℕ) (e : Entry)
+        → length (runOf p s (e .intro)) + length (runOf p s (e .outro)) ≤ full .pieces → sum length (runOf p s (e .intro)) + sum length (runOf p s (e .outro)) ≤ full .bytes → EntrySmall p s e
     small-own p s e h k =
         record {
           intro = record { pieces = omega arith; bytes = omega (arith, concat-sum (runOf p s (e .intro))) };

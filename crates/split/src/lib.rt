@@ -11,7 +11,7 @@ use rows::Key;
 fn is_filled(c: table::Row) -> bool
     ensures { λ r. ⌜ r ≡ filled (entryOf c) ⌝ }
 {
-    if c.text_at == texts::NONE {
+    if c.text_at == layout::NONE {
         return false;
     }
     0 < c.text_n

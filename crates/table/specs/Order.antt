@@ -6,6 +6,7 @@ use Prim.Native.Nat.{ℕ, zero, suc, _+_, _*_, _-_, _≤_, _<_}
 use native.Mathlib.Omega.{arith}
 use native.Mathlib.Decide.{ℕ-discrete}
 use lib.ListN.{length, getD, drop, length-drop, length-map}
+use Rattle.layout.specs.Layout.{ROW}
 use Rattle.table.specs.declared.Row.{Row}
 use Rattle.table.specs.Ring.{Each, each-right, each-left, Not, follow, length-follow, Ring, Inserted, ring-insert, next-le, links-right, Edge, later, earlier, Pos, each-map}
 use Rattle.table.specs.Table.{rowAt, Put}
@@ -26,7 +27,7 @@ order t = follow (nextOf t) (countOf t) (nextOf t 0)
 
 pub record Linked (t : List ℕ) : Type 0 where
   pub ring : Ring (nextOf t) (prevOf t) (countOf t)
-  pub room : countOf t * 12 + 12 ≤ length t
+  pub room : countOf t * ROW + ROW ≤ length t
 
 -- a chunk apart from its links: a span, and three runs (first, count)
 pub record Entry : Type 0 where
@@ -86,7 +87,7 @@ inside-at t us i bs k o = each-right (λ x. (0 < x) × (x ≤ countOf t)) us (i 
 
 pub insert-order : (t t' us : List ℕ) (i : ℕ) (bs : List ℕ) → Linked t → order t ≡ us ++ i ∷ bs
     → Inserted (nextOf t) (prevOf t) (nextOf t') (prevOf t') i (countOf t + 1) → countOf t' ≡ countOf t + 1
-    → (countOf t + 1) * 12 + 12 ≤ length t'
+    → (countOf t + 1) * ROW + ROW ≤ length t'
     → (order t' ≡ us ++ i ∷ (countOf t + 1) ∷ bs) × Linked t'
 unfolding order
 insert-order t t' us i bs k o d c r =

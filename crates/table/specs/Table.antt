@@ -5,25 +5,26 @@ use Prim.Native.Nat.{ℕ, _+_, _*_, _≤_, _<_}
 use lib.ListN.{length, getD, take, drop, set}
 use lib.Seq.{sets}
 use native.Mathlib.Nat.{add-zero}
+use Rattle.layout.specs.Layout.{ROW, END, NEXT, PREV, INTRO-AT, INTRO-N, OUTRO-AT, OUTRO-N, TEXT-AT, TEXT-N, SPARE0, SPARE1}
 use Rattle.table.specs.Words.{cells, cells-word, cells-same, cells-other}
 use Rattle.table.specs.declared.Row.{Row}
 
--- row i of the table t: twelve words from i * 12 on
+-- row i of the table t: its words from i * ROW on
 abbrev pub rowAt : List ℕ → ℕ → Row
 rowAt t i =
     record {
-      start = getD t (i * 12) 0;
-      end = getD t (i * 12 + 1) 0;
-      next = getD t (i * 12 + 2) 0;
-      prev = getD t (i * 12 + 3) 0;
-      «intro_at» = getD t (i * 12 + 4) 0;
-      «intro_n» = getD t (i * 12 + 5) 0;
-      «outro_at» = getD t (i * 12 + 6) 0;
-      «outro_n» = getD t (i * 12 + 7) 0;
-      «text_at» = getD t (i * 12 + 8) 0;
-      «text_n» = getD t (i * 12 + 9) 0;
-      spare0 = getD t (i * 12 + 10) 0;
-      spare1 = getD t (i * 12 + 11) 0;
+      start = getD t (i * ROW) 0;
+      end = getD t (i * ROW + END) 0;
+      next = getD t (i * ROW + NEXT) 0;
+      prev = getD t (i * ROW + PREV) 0;
+      «intro_at» = getD t (i * ROW + INTRO-AT) 0;
+      «intro_n» = getD t (i * ROW + INTRO-N) 0;
+      «outro_at» = getD t (i * ROW + OUTRO-AT) 0;
+      «outro_n» = getD t (i * ROW + OUTRO-N) 0;
+      «text_at» = getD t (i * ROW + TEXT-AT) 0;
+      «text_n» = getD t (i * ROW + TEXT-N) 0;
+      spare0 = getD t (i * ROW + SPARE0) 0;
+      spare1 = getD t (i * ROW + SPARE1) 0;
     }
 
 -- t' is t with row i written as r
@@ -31,7 +32,7 @@ pub record Put (t t' : List ℕ) (i : ℕ) (r : Row) : Type 0 where
   pub at : rowAt t' i ≡ r
   pub off : (j : ℕ) → (j ≡ i → ⊥) → rowAt t' j ≡ rowAt t j
 
--- the words of a row, and the row of twelve words
+-- the words of a row, and the row of such words
 abbrev pub wordsOf : Row → List ℕ
 wordsOf r =
     r .start ∷ r .end ∷ r .next ∷ r .prev ∷ r .«intro_at» ∷ r .«intro_n» ∷ r .«outro_at» ∷ r .«outro_n» ∷ r .«text_at» ∷ r .«text_n» ∷ r .spare0 ∷ r .spare1 ∷ []
@@ -53,14 +54,14 @@ rowOf c =
       spare1 = getD c 11 0;
     }
 
-row-cells : (t : List ℕ) (i : ℕ) → rowOf (cells 12 t i) ≡ rowAt t i
-row-cells t i = simp (cells-word 12 t i, add-zero)
+row-cells : (t : List ℕ) (i : ℕ) → rowOf (cells ROW t i) ≡ rowAt t i
+row-cells t i = simp (cells-word ROW t i, add-zero)
 
 -- what storing the row's words leaves
-pub put-of : (t t' : List ℕ) (i : ℕ) (r : Row) → i * 12 + 12 ≤ length t → t' ≡ sets t (i * 12) (wordsOf r) → Put t t' i r
+pub put-of : (t t' : List ℕ) (i : ℕ) (r : Row) → i * ROW + ROW ≤ length t → t' ≡ sets t (i * ROW) (wordsOf r) → Put t t' i r
 put-of t t' i r h e =
     rw e
     (record {
-      at = sym (row-cells _ i) ∙ ap rowOf (cells-same 12 t i (wordsOf r) refl h);
-      off = λ j n. sym (row-cells _ j) ∙ ap rowOf (cells-other 12 t i (wordsOf r) refl h j n) ∙ row-cells t j;
+      at = sym (row-cells _ i) ∙ ap rowOf (cells-same ROW t i (wordsOf r) refl h);
+      off = λ j n. sym (row-cells _ j) ∙ ap rowOf (cells-other ROW t i (wordsOf r) refl h j n) ∙ row-cells t j;
     })

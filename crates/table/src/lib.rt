@@ -3,6 +3,7 @@ ghost use mathlib.Core.Path.{_≡_};
 ghost use Prim.Native.Nat.{_+_, _*_, _≤_};
 ghost use lib.ListN.{length};
 ghost use lib.Seq.{sets};
+ghost use Rattle.layout.specs.Layout.{ROW, PIECE};
 ghost use Rattle.table.specs.Table.{rowAt, Put};
 ghost use Rattle.table.specs.Pieces.{pieceAt, PutPiece};
 ghost use Rattle.table.specs.Order.{entryOf};
@@ -24,23 +25,23 @@ pub struct Row {
 }
 
 pub fn get_row(t: &[u32], i: u32) -> Row
-    requires { ⌜ i * 12 + 12 ≤ length (now t) ⌝ }
+    requires { ⌜ i * ROW + ROW ≤ length (now t) ⌝ }
     ensures { λ r. ⌜ r ≡ rowAt (now (t .entry)) i ⌝ }
 {
-    let b = i as usize * 12;
+    let b = i as usize * layout::ROW;
     Row {
         start: t[b],
-        end: t[b + 1],
-        next: t[b + 2],
-        prev: t[b + 3],
-        intro_at: t[b + 4],
-        intro_n: t[b + 5],
-        outro_at: t[b + 6],
-        outro_n: t[b + 7],
-        text_at: t[b + 8],
-        text_n: t[b + 9],
-        spare0: t[b + 10],
-        spare1: t[b + 11],
+        end: t[b + layout::END],
+        next: t[b + layout::NEXT],
+        prev: t[b + layout::PREV],
+        intro_at: t[b + layout::INTRO_AT],
+        intro_n: t[b + layout::INTRO_N],
+        outro_at: t[b + layout::OUTRO_AT],
+        outro_n: t[b + layout::OUTRO_N],
+        text_at: t[b + layout::TEXT_AT],
+        text_n: t[b + layout::TEXT_N],
+        spare0: t[b + layout::SPARE0],
+        spare1: t[b + layout::SPARE1],
     }
 }
 
@@ -57,7 +58,7 @@ fn put_words(t: &mut [u32], b: usize, w: &[u32])
 }
 
 pub fn put_row(t: &mut [u32], i: u32, r: Row)
-    requires { ⌜ i * 12 + 12 ≤ length (now t) ⌝ }
+    requires { ⌜ i * ROW + ROW ≤ length (now t) ⌝ }
     ensures { λ _. ⌜ Put (now (t .entry)) (now (t .exit)) i r ⌝ }
 {
     let w = [
@@ -74,7 +75,7 @@ pub fn put_row(t: &mut [u32], i: u32, r: Row)
         r.spare0,
         r.spare1,
     ];
-    put_words(t, i as usize * 12, &w);
+    put_words(t, i as usize * layout::ROW, &w);
 }
 
 // A piece's place and length in the store.
@@ -84,22 +85,22 @@ pub struct Piece {
 }
 
 pub fn get_piece(t: &[u32], i: u32) -> Piece
-    requires { ⌜ i * 2 + 2 ≤ length (now t) ⌝ }
+    requires { ⌜ i * PIECE + PIECE ≤ length (now t) ⌝ }
     ensures { λ r. ⌜ r ≡ pieceAt (now (t .entry)) i ⌝ }
 {
-    let b = i as usize * 2;
+    let b = i as usize * layout::PIECE;
     Piece {
         at: t[b],
-        n: t[b + 1],
+        n: t[b + layout::PIECE_N],
     }
 }
 
 pub fn put_piece(t: &mut [u32], i: u32, r: Piece)
-    requires { ⌜ i * 2 + 2 ≤ length (now t) ⌝ }
+    requires { ⌜ i * PIECE + PIECE ≤ length (now t) ⌝ }
     ensures { λ _. ⌜ PutPiece (now (t .entry)) (now (t .exit)) i r ⌝ }
 {
     let w = [r.at, r.n];
-    put_words(t, i as usize * 2, &w);
+    put_words(t, i as usize * layout::PIECE, &w);
 }
 
 // A row's outro, or its intro.

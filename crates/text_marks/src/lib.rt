@@ -38,8 +38,8 @@ fn mark_piece(pieces: &[u32], marks: &mut [u64], size: usize, row: usize, byte: 
     ensures { λ r. ⌜ TextsPassed r size (now (marks .entry)) byte (λ w. pieceAt (now (pieces .entry)) row .0 + pieceAt (now (pieces .entry)) row .1 ≤ w)
         (among (pieceAt (now (pieces .entry)) row)) (now (marks .exit)) ⌝ }
 {
-    let at = marks::wide(pieces[row * 2]);
-    let n = marks::wide(pieces[row * 2 + 1]);
+    let at = layout::wide(pieces[row * layout::PIECE]);
+    let n = layout::wide(pieces[row * layout::PIECE + layout::PIECE_N]);
     mark_text(marks, size, at, n, byte)
 }
 

@@ -13,9 +13,6 @@ ghost use Rattle.utf8.specs.Rfc3629.{utf8, between};
 ghost use Rattle.table.specs.Order.{entryOf};
 ghost use Rattle.model.specs.Text.{all};
 
-// The mark in a chunk row's text_at that says: no replacement.
-pub const NONE: u32 = 0xFFFF_FFFF;
-
 // Copies `text` to the front of `out`.
 pub fn put(out: &mut [u8], text: &[u8])
     requires { ⌜ length (now text) ≤ length (now out) ⌝ }
@@ -40,19 +37,13 @@ pub fn put_words(out: &mut [u32], words: &[u32])
     }
 }
 
-fn wide(x: u32) -> usize
-    ensures { λ r. ⌜ r ≡ x ⌝ }
-{
-    x as usize
-}
-
 // The text that a row of the piece table names: a part of the store.
 pub fn text_of<'a>(pieces: &[u32], store: &'a [u8], row: usize) -> &'a [u8]
     requires { ⌜ PieceIn (now pieces) (now store) row ⌝ }
     ensures { λ r. ⌜ now r ≡ bytesAt (now (store .entry)) (pieceAt (now (pieces .entry)) row) ⌝ }
 {
-    let at = wide(pieces[row * 2]);
-    let n = wide(pieces[row * 2 + 1]);
+    let at = layout::wide(pieces[row * layout::PIECE]);
+    let n = layout::wide(pieces[row * layout::PIECE + layout::PIECE_N]);
     &store[at..at + n]
 }
 
@@ -68,7 +59,7 @@ pub fn content<'a>(
     requires { ⌜ ContentIn (now source) (now store) start end (at, n) ⌝ }
     ensures { λ r. ⌜ now r ≡ contentAt (now (source .entry)) (now (store .entry)) start end (at, n) ⌝ }
 {
-    if at == NONE {
+    if at == layout::NONE {
         return &source[start as usize..end as usize];
     }
     let from = at as usize;

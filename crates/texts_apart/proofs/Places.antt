@@ -7,6 +7,7 @@ use native.Mathlib.Omega.{arith}
 use native.Mathlib.Numerals.{add-one}
 use borrow.Author.Tests.{ne-eqb, eq-eqb}
 use lib.ListN.{length, take, replicate, length-replicate}
+use Rattle.layout.specs.Layout.{TEXT-AT, TEXT-N, PIECE-ROWS, PIECES-LEN, STORE-LEN, STORE-MARKS}
 use Rattle.table.specs.Order.{Entry, entryAt}
 use Rattle.memory.specs.Layout.{NONE}
 use Rattle.memory.specs.WellFormed.{among, replacementUses, pieceUses, listUses, byteUses}
@@ -64,7 +65,7 @@ module _ {size : ℕ} {p rows words rows₁ words₁ : List ℕ} {u : Used} (e :
 
 -- a row inside the tables has no more than 4,096 pieces
 pub entry-few : {size : ℕ} {p rows words rows′ words′ : List ℕ} {u : Used} {r : Step} (e : Entry)
-    → Markable size p rows words → EntryPassed r size p rows words u e rows′ words′ → r .ok ≡ true → pieceCount e ≤ 4096
+    → Markable size p rows words → EntryPassed r size p rows words u e rows′ words′ → r .ok ≡ true → pieceCount e ≤ PIECES-LEN
 entry-few {size = size} {p = p} e k a t =
     let f = a .passed .marked .decides .yes t .fits in
     omega (arith, run-small p size (length p / 2) (e .intro) (f .intro), run-small p size (length p / 2) (e .outro) (f .outro), k .few)
@@ -80,7 +81,7 @@ pub start-first : (t : List ℕ) (i : ℕ) → i ≡ 0 → textStart t i ≡ NON
 unfolding textStart
 start-first t i e = rw (eq-eqb i 0 e)
 
-pub start-other : (t : List ℕ) (i : ℕ) → (i ≡ 0 → ⊥) → textStart t i ≡ cell t i 8
+pub start-other : (t : List ℕ) (i : ℕ) → (i ≡ 0 → ⊥) → textStart t i ≡ cell t i TEXT-AT
 unfolding textStart
 start-other t i ne = rw (ne-eqb i 0 ne)
 
@@ -99,7 +100,7 @@ rows-sum t F n =
 -- row 0 has the bytes of its two runs
 first-bytes : (t p : List ℕ) (b : ℕ) → byteUses p b (rowEntry t 0) ≡ listUses p b (entryAt t 0)
 unfolding replacementUses
-first-bytes t p b = omega (arith, ap (λ x. replacementUses b (x, cell t 0 9)) (first-text t))
+first-bytes t p b = omega (arith, ap (λ x. replacementUses b (x, cell t 0 TEXT-N)) (first-text t))
 
 module _ (t p : List ℕ) (n : ℕ) where
   below-rows : (b row : ℕ) → ((i : ℕ) → i < n + 1 → EntryBelow p b row (rowEntry t i)) → RowsBelow t p n b row
@@ -156,16 +157,16 @@ module _ (size : ℕ) (t p : List ℕ) {rows words rows′ words′ : List ℕ} 
       }
 
 -- marks of their own: clear, and one for each piece row and each byte
-pub fresh-marks : {size : ℕ} {p : List ℕ} (k : ℕ) → length p ≤ 4096 → size ≤ 32768 → k ≡ length p / 2 → Markable size p (take k (replicate 2048 0)) (replicate 512 0)
+pub fresh-marks : {size : ℕ} {p : List ℕ} (k : ℕ) → length p ≤ PIECES-LEN → size ≤ STORE-LEN → k ≡ length p / 2 → Markable size p (take k (replicate PIECE-ROWS 0)) (replicate STORE-MARKS 0)
 unfolding Bits markAt
 fresh-marks k h l e =
     record {
-      rows-are = zeros-length 2048 k (omega arith) ∙ e;
+      rows-are = zeros-length PIECE-ROWS k (omega arith) ∙ e;
       few = h;
-      bits = λ j. omega (arith, zeros-at 2048 k j);
-      enough = record { marks = omega (arith, length-replicate {A = ℕ} 512 0); small = omega (arith, length-replicate {A = ℕ} 512 0) };
+      bits = λ j. omega (arith, zeros-at PIECE-ROWS k j);
+      enough = record { marks = omega (arith, length-replicate {A = ℕ} STORE-MARKS 0); small = omega (arith, length-replicate {A = ℕ} STORE-MARKS 0) };
     }
 
-pub fresh-clear : (k : ℕ) → ((j : ℕ) → markAt (take k (replicate 2048 0)) j ≡ 0) × ((b : ℕ) → bitAt (replicate 512 0) b ≡ 0)
+pub fresh-clear : (k : ℕ) → ((j : ℕ) → markAt (take k (replicate PIECE-ROWS 0)) j ≡ 0) × ((b : ℕ) → bitAt (replicate STORE-MARKS 0) b ≡ 0)
 unfolding markAt
-fresh-clear k = (zeros-at 2048 k, marks-clear 512)
+fresh-clear k = (zeros-at PIECE-ROWS k, marks-clear STORE-MARKS)

@@ -5,6 +5,7 @@ use mathlib.Core.List.{List}
 use Prim.Native.Nat.{ℕ, _+_, _/_, _≤_, _<_}
 use lib.Dec.{eqb}
 use lib.ListN.{length}
+use Rattle.layout.specs.Layout.{TEXT-AT, TEXT-N}
 use Rattle.table.specs.Order.{Entry, entryAt}
 use Rattle.memory.specs.Layout.{NONE, Place}
 use Rattle.memory.specs.WellFormed.{pieceUses, listUses, byteUses}
@@ -52,7 +53,7 @@ TextBelow x byte = (x .0 ≡ NONE → ⊥) → x .0 + x .1 ≤ byte
 
 -- where the replacement of row i begins: row 0 has none
 unfoldable pub textStart : List ℕ → ℕ → ℕ
-textStart t i = cond (eqb i 0) NONE (cell t i 8)
+textStart t i = cond (eqb i 0) NONE (cell t i TEXT-AT)
 
 -- row i with what it has
 abbrev pub rowEntry : List ℕ → ℕ → Entry
@@ -62,7 +63,7 @@ rowEntry t i =
       end = entryAt t i .end;
       intro = entryAt t i .intro;
       outro = entryAt t i .outro;
-      text = (textStart t i, cell t i 9);
+      text = (textStart t i, cell t i TEXT-N);
     }
 
 -- one row, and the first n

@@ -2,6 +2,7 @@
 ghost use mathlib.Core.Path.{_≡_};
 ghost use Prim.Native.Nat.{ℕ, _+_, _*_, _≤_, _<_};
 ghost use lib.ListN.{length};
+ghost use Rattle.layout.specs.Layout.{ROW, PIECES-LEN, STORE-LEN};
 ghost use Rattle.memory.specs.WellFormed.{replacementUses};
 ghost use Rattle.marks.specs.Marks.{markAt};
 ghost use Rattle.bit_marks.specs.BitMarks.{bitAt};
@@ -12,34 +13,29 @@ use memory_used::Used;
 use runs_apart::Step;
 use text_marks::Top;
 
-// In a row's `text_at`: no replacement.
-const NONE: usize = 0xFFFF_FFFF;
-
-const TEXT: usize = 8;
-
 // Where the replacement of row i begins. Row 0, the desk's own, has none.
 fn text_start(t: &[u32], i: u32) -> usize
-    requires { ⌜ i * 12 + 12 ≤ length (now t) ⌝ }
+    requires { ⌜ i * ROW + ROW ≤ length (now t) ⌝ }
     ensures { λ r. ⌜ (r ≡ textStart (now (t .entry)) i) × (r < 4294967296) ⌝ }
 {
     if i == 0 {
-        return NONE;
+        return layout::NONE_WIDE;
     }
-    marks::word(t, i, TEXT)
+    marks::word(t, i, layout::TEXT_AT)
 }
 
 // Marks the replacement of row i, if it has one.
 fn mark_replacement(t: &[u32], i: u32, marks: &mut [u64], size: usize, byte: usize) -> Top
-    requires { ⌜ i * 12 + 12 ≤ length (now t) ⌝ }
+    requires { ⌜ i * ROW + ROW ≤ length (now t) ⌝ }
     requires { ⌜ Enough size (now marks) ⌝ }
     ensures { λ r. ⌜ TextsPassed r size (now (marks .entry)) byte (TextBelow (rowEntry (now (t .entry)) i .text))
         (λ b. replacementUses b (rowEntry (now (t .entry)) i .text)) (now (marks .exit)) ⌝ }
 {
     let at = text_start(t, i);
-    if at == NONE {
+    if at == layout::NONE_WIDE {
         return Top { ok: true, byte };
     }
-    let n = marks::word(t, i, TEXT + 1);
+    let n = marks::word(t, i, layout::TEXT_N);
     text_marks::mark_text(marks, size, at, n, byte)
 }
 
@@ -53,7 +49,7 @@ fn mark_entry(
     size: usize,
     used: Used,
 ) -> Step
-    requires { ⌜ i * 12 + 12 ≤ length (now t) ⌝ }
+    requires { ⌜ i * ROW + ROW ≤ length (now t) ⌝ }
     requires { ⌜ Markable size (now pieces) (now rows) (now marks) ⌝ }
     requires { ⌜ used .pieces ≤ 0x1000_0000_0000 ⌝ }
     ensures { λ r. ⌜ EntryPassed r size (now (pieces .entry)) (now (rows .entry)) (now (marks .entry)) used (rowEntry (now (t .entry)) i)
@@ -83,7 +79,7 @@ fn mark_rows(
     marks: &mut [u64],
     size: usize,
 ) -> Step
-    requires { ⌜ n * 12 ≤ length (now t) ⌝ }
+    requires { ⌜ n * ROW ≤ length (now t) ⌝ }
     requires { ⌜ Markable size (now pieces) (now rows) (now marks) ⌝ }
     ensures { λ r. ⌜ RowsPassed r size (now (t .entry)) (now (pieces .entry)) (now (rows .entry)) (now (marks .entry)) n nothing (now (rows .exit)) (now (marks .exit)) ⌝ }
 {
@@ -133,7 +129,7 @@ fn places_by(
     marks: &mut [u64],
     size: usize,
 ) -> Step
-    requires { ⌜ (n * 12 + 12 ≤ length (now t)) × (n < 4294967295) ⌝ }
+    requires { ⌜ (n * ROW + ROW ≤ length (now t)) × (n < 4294967295) ⌝ }
     requires { ⌜ Markable size (now pieces) (now rows) (now marks) ⌝ }
     requires { ⌜ ((j : ℕ) → markAt (now rows) j ≡ 0) × ((b : ℕ) → bitAt (now marks) b ≡ 0) ⌝ }
     ensures { λ r. ⌜ Places r (now (t .entry)) (now (pieces .entry)) n size ⌝ }
@@ -141,15 +137,15 @@ fn places_by(
     mark_rows(t, n + 1, pieces, rows, marks, size)
 }
 
-// The same with marks of its own, for at most 2,048 piece rows and 32,768 bytes.
+// The same with marks of its own, for tables no longer than the lent ones.
 pub fn places_apart(t: &[u32], n: u32, pieces: &[u32], size: usize) -> Step
-    requires { ⌜ (n * 12 + 12 ≤ length (now t)) × (n < 4294967295) ⌝ }
-    requires { ⌜ length (now pieces) ≤ 4096 ⌝ }
-    requires { ⌜ size ≤ 32768 ⌝ }
+    requires { ⌜ (n * ROW + ROW ≤ length (now t)) × (n < 4294967295) ⌝ }
+    requires { ⌜ length (now pieces) ≤ PIECES-LEN ⌝ }
+    requires { ⌜ size ≤ STORE-LEN ⌝ }
     ensures { λ r. ⌜ Places r (now (t .entry)) (now (pieces .entry)) n size ⌝ }
 {
-    let count = pieces.len() / 2;
-    let mut rows = [0u8; 2048];
-    let mut marks = [0u64; 512];
-    places_by(t, n, pieces, &mut rows[..count], &mut marks[..512], size)
+    let count = pieces.len() / layout::PIECE;
+    let mut rows = [0u8; layout::PIECE_ROWS];
+    let mut marks = [0u64; layout::STORE_MARKS];
+    places_by(t, n, pieces, &mut rows[..count], &mut marks[..layout::STORE_MARKS], size)
 }

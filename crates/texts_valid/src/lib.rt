@@ -2,6 +2,7 @@
 ghost use mathlib.Core.Path.{_≡_};
 ghost use Prim.Native.Nat.{ℕ, _+_, _*_, _≤_, _<_};
 ghost use lib.ListN.{length, getD, take, drop};
+ghost use Rattle.layout.specs.Layout.{ROW, TEXT-AT};
 ghost use Rattle.utf8.specs.Rfc3629.{utf8 as isText};
 ghost use Rattle.utf8.specs.Chars.{All};
 ghost use Rattle.table.specs.Order.{entryAt};
@@ -13,11 +14,6 @@ ghost use Rattle.marks.specs.Marks.{placeAt};
 ghost use Rattle.texts_apart.specs.Places.{Counted};
 ghost use Rattle.texts_valid.specs.Valid.{ListsValid, TextsValid};
 use memory_used::Used;
-
-// In a row's `text_at`: no replacement.
-const NONE: usize = 0xFFFF_FFFF;
-
-const TEXT: usize = 8;
 
 // The bits of all bytes, joined: at least as large as each of them.
 fn joined_bits(s: &[u8]) -> u8
@@ -55,8 +51,8 @@ fn piece_valid(pieces: &[u32], store: &[u8], row: usize) -> bool
     requires { ⌜ PieceIn (now pieces) (now store) row ⌝ }
     ensures { λ r. ⌜ r ≡ isText (bytesAt (now (store .entry)) (pieceAt (now (pieces .entry)) row)) ⌝ }
 {
-    let at = marks::wide(pieces[row * 2]);
-    let n = marks::wide(pieces[row * 2 + 1]);
+    let at = layout::wide(pieces[row * layout::PIECE]);
+    let n = layout::wide(pieces[row * layout::PIECE + layout::PIECE_N]);
     part_valid(store, at, n)
 }
 
@@ -78,7 +74,7 @@ fn rows_valid(pieces: &[u32], store: &[u8], at: usize, n: usize) -> bool
 
 // Whether the texts of the run whose place stands at word k of row i are UTF-8.
 fn run_valid(t: &[u32], i: u32, k: usize, pieces: &[u32], store: &[u8]) -> bool
-    requires { ⌜ (i * 12 + 12 ≤ length (now t)) × (k < 11) ⌝ }
+    requires { ⌜ (i * ROW + ROW ≤ length (now t)) × (k < 11) ⌝ }
     requires { ⌜ RunIn (now pieces) (now store) (placeAt (now t) i k) ⌝ }
     ensures { λ r. ⌜ Decides r (All Valid (runOf (now (pieces .entry)) (now (store .entry)) (placeAt (now (t .entry)) i k))) ⌝ }
 {
@@ -89,33 +85,33 @@ fn run_valid(t: &[u32], i: u32, k: usize, pieces: &[u32], store: &[u8]) -> bool
 
 // Whether the texts of both runs of row i are UTF-8.
 fn lists_valid(t: &[u32], i: u32, pieces: &[u32], store: &[u8]) -> bool
-    requires { ⌜ i * 12 + 12 ≤ length (now t) ⌝ }
+    requires { ⌜ i * ROW + ROW ≤ length (now t) ⌝ }
     requires { ⌜ RunsIn (now pieces) (now store) (entryAt (now t) i) ⌝ }
     ensures { λ r. ⌜ Decides r (ListsValid (now (pieces .entry)) (now (store .entry)) (entryAt (now (t .entry)) i)) ⌝ }
 {
-    if run_valid(t, i, marks::INTRO, pieces, store) {
-        return run_valid(t, i, marks::OUTRO, pieces, store);
+    if run_valid(t, i, layout::INTRO_AT, pieces, store) {
+        return run_valid(t, i, layout::OUTRO_AT, pieces, store);
     }
     false
 }
 
 // Whether the replacement of row i is UTF-8, if it has one.
 fn replacement_valid(t: &[u32], i: u32, store: &[u8]) -> bool
-    requires { ⌜ i * 12 + 12 ≤ length (now t) ⌝ }
-    requires { ⌜ ReplacementIn (now store) (placeAt (now t) i 8) ⌝ }
-    ensures { λ r. ⌜ Decides r (ValidReplacement (replacementOf (now (store .entry)) (placeAt (now (t .entry)) i 8))) ⌝ }
+    requires { ⌜ i * ROW + ROW ≤ length (now t) ⌝ }
+    requires { ⌜ ReplacementIn (now store) (placeAt (now t) i TEXT-AT) ⌝ }
+    ensures { λ r. ⌜ Decides r (ValidReplacement (replacementOf (now (store .entry)) (placeAt (now (t .entry)) i TEXT-AT))) ⌝ }
 {
-    let at = marks::word(t, i, TEXT);
-    if at == NONE {
+    let at = marks::word(t, i, layout::TEXT_AT);
+    if at == layout::NONE_WIDE {
         return true;
     }
-    let n = marks::word(t, i, TEXT + 1);
+    let n = marks::word(t, i, layout::TEXT_N);
     part_valid(store, at, n)
 }
 
 // Whether all texts of row i are UTF-8.
 fn entry_valid(t: &[u32], i: u32, pieces: &[u32], store: &[u8]) -> bool
-    requires { ⌜ i * 12 + 12 ≤ length (now t) ⌝ }
+    requires { ⌜ i * ROW + ROW ≤ length (now t) ⌝ }
     requires { ⌜ EntryIn (now pieces) (now store) (entryAt (now t) i) ⌝ }
     ensures { λ r. ⌜ Decides r (ValidTexts (textsOf (now (pieces .entry)) (now (store .entry)) (entryAt (now (t .entry)) i))) ⌝ }
 {
@@ -127,7 +123,7 @@ fn entry_valid(t: &[u32], i: u32, pieces: &[u32], store: &[u8]) -> bool
 
 // Whether all texts of rows 1 to n are UTF-8.
 fn chunks_valid(t: &[u32], n: u32, pieces: &[u32], store: &[u8]) -> bool
-    requires { ⌜ n * 12 + 12 ≤ length (now t) ⌝ }
+    requires { ⌜ n * ROW + ROW ≤ length (now t) ⌝ }
     requires { ⌜ ((k : ℕ) → k < n → EntryIn (now pieces) (now store) (entryAt (now t) (k + 1))) ⌝ }
     ensures { λ r. ⌜ Decides r ((k : ℕ) → k < n → ValidTexts (textsOf (now (pieces .entry)) (now (store .entry)) (entryAt (now (t .entry)) (k + 1)))) ⌝ }
 {
@@ -144,7 +140,7 @@ fn chunks_valid(t: &[u32], n: u32, pieces: &[u32], store: &[u8]) -> bool
 
 // Whether all texts of rows 0 to n are UTF-8. They lie below what the rows use.
 pub fn texts_valid(t: &[u32], n: u32, pieces: &[u32], store: &[u8], used: Used) -> bool
-    requires { ⌜ n * 12 + 12 ≤ length (now t) ⌝ }
+    requires { ⌜ n * ROW + ROW ≤ length (now t) ⌝ }
     requires { ⌜ Counted (now t) (now pieces) n (length (now store)) used ⌝ }
     ensures { λ r. ⌜ Decides r (TextsValid (now (t .entry)) (now (pieces .entry)) (now (store .entry)) n) ⌝ }
 {

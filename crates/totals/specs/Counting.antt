@@ -19,7 +19,7 @@ use Rattle.measures.specs.declared.Measure.the-variants.{Bytes}
 use Rattle.measures.specs.Measures.{measureOf}
 use Rattle.measures.specs.Laws.{measure-le, measure-nil}
 use Rattle.fragments.specs.Sections.{On, Went, rest, rest-first, rest-went, rest-cons, rest-end, section, sections, sections-are, fragmentsOf, fragmentsAll, size, tailOf}
-use Rattle.fragments.specs.Output.{output-bound, all-append, sum-append, sum-sections}
+use Rattle.fragments.specs.Output.{most-output, output-bound, all-append, sum-append, sum-sections}
 use Rattle.fragments.specs.Valid.{output-valid}
 use Rattle.totals.specs.Totals.{Whole, OfChunks}
 
@@ -33,7 +33,7 @@ sum-drop f zero ts = omega arith
 sum-drop f (suc i) [] = omega arith
 sum-drop f (suc i) (t ∷ ts) = omega (arith, sum-drop f i ts)
 
-pub rest-bound : (m : Measure) (source t p s : List ℕ) (g item : ℕ) → WellFormed source t p s → sum (measureOf m) (rest source t p s g item) ≤ 8421376
+pub rest-bound : (m : Measure) (source t p s : List ℕ) (g item : ℕ) → WellFormed source t p s → sum (measureOf m) (rest source t p s g item) ≤ most-output
 unfolding rest
 rest-bound m source t p s g item w =
     let f = measureOf m in
@@ -83,7 +83,7 @@ module _ {f : Text → ℕ} {source t p s : List ℕ} {stop g₀ i₀ g row item
 
 -- the fragment at hand is short, and the count stays so
 pub here-short : (source t p s : List ℕ) (g item : ℕ) → WellFormed source t p s → g < countOf t + 2 → item < size (section t g)
-    → length (getD (fragmentsOf source p s (section t g)) item []) ≤ 8421376
+    → length (getD (fragmentsOf source p s (section t g)) item []) ≤ most-output
 here-short source t p s g item w h k =
     omega (arith, rest-bound Bytes source t p s g item w, ap (sum length) (rest-cons source t p s g item h k))
 

@@ -3,13 +3,14 @@ use mathlib.Core.Path.{_≡_}
 use Prim.Native.Nat.{ℕ, _≤_}
 use Rattle.model.specs.Text.{sum}
 use Rattle.model.specs.MagicString.{MagicString, fragments, chunk-fragments}
+use Rattle.fragments.specs.Output.{most-output}
 use Rattle.measures.specs.declared.Measure.{Measure}
 use Rattle.measures.specs.Measures.{measureOf}
 
 -- over the whole output
 pub record Whole (m : Measure) (d : MagicString) (n : ℕ) : Type 0 where
   pub total : n ≡ sum (measureOf m) (fragments d)
-  pub short : n ≤ 8421376
+  pub short : n ≤ most-output
 
 -- over the chunks alone
 pub record OfChunks (m : Measure) (d : MagicString) (n : ℕ) : Type 0 where

@@ -6,6 +6,7 @@ use mathlib.Core.List.{List, [], _∷_, _++_, map, map-append, map-map, reverse,
 use Prim.Native.Nat.{ℕ, _+_, _*_, _≤_, _<_}
 use native.Mathlib.Omega.{arith}
 use lib.ListN.{length, length-reverse}
+use Rattle.layout.specs.Layout.{ROW, TRIM-STORE-LEN}
 use Rattle.utf8.specs.Chars.{All}
 use Rattle.table.specs.declared.Row.{Row}
 use Rattle.table.specs.Ring.{Each, each-append, each-left, each-right, each-map, Not, length-follow, Edge, Links, links-left, links-right}
@@ -423,7 +424,7 @@ module _ (front : Bool) (pattern : ℕ) (source p s : List ℕ) (top wide byte :
     ready-rest : Each (ReadyAt source p s top wide byte t) (i ∷ stop .bs)
     ready-rest = subst (Each (ReadyAt source p s top wide byte t)) (stop .rest-is) (each-right (ReadyAt source p s top wide byte t) us (w .at .rest) ready-way)
 
-    pub stop-row : i * 12 + 12 ≤ length t1
+    pub stop-row : i * ROW + ROW ≤ length t1
     stop-row = omega (arith, stop .stands .most, ready .linked .room, w .at .len)
 
     module _ (r : Row) (er : r ≡ rowAt t1 i) where
@@ -437,7 +438,7 @@ module _ (front : Bool) (pattern : ℕ) (source p s : List ℕ) (top wide byte :
 
       module _ (p' s' : List ℕ) (q : Row) (d : RowDone front pattern source p s r top byte p' s' q) where
         -- what is asked for the row and the byte behind it
-        pub ends-short : RunsTo 4294967295 (entryOf q) × TextLow 65536 (entryOf q .text)
+        pub ends-short : RunsTo 4294967295 (entryOf q) × TextLow TRIM-STORE-LEN (entryOf q .text)
         ends-short =
             let f = stop-ready .1 .0 in (
               runs-to p' byte (top + piecesOf (entryOf r)) (entryOf q) (d .trimmed .runs) 4294967295 (omega (arith, f .rows, f .narrow)),
@@ -516,7 +517,7 @@ module _ (front : Bool) (pattern : ℕ) (source p s : List ℕ) (top wide byte :
 
 -- ---- what the loop asks of the row that is next
 pub walk-ready : (front : Bool) (pattern : ℕ) (source p s : List ℕ) (t₀ t : List ℕ) (n k cur : ℕ) → Each (λ x. RowReady source p s (entryAt t₀ x)) (order t₀) → (l : Linked t₀)
-    → WalkAt front pattern source p s t₀ t n k cur → k < n → RowReady source p s (entryAt t cur) × (cur * 12 + 12 ≤ length t)
+    → WalkAt front pattern source p s t₀ t n k cur → k < n → RowReady source p s (entryAt t cur) × (cur * ROW + ROW ≤ length t)
 walk-ready front pattern source p s t₀ t n k cur h l w g =
     let x = next-row front pattern source p s t₀ t n k cur l w g in
     let P : ℕ → Type 0 = λ a. RowReady source p s (entryAt t₀ a) in

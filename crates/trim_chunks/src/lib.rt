@@ -63,7 +63,7 @@ pub fn trim_chunks(
         (now (p .exit)) (now (s .exit)) (now (t .exit)) (e .row) (e .byte) ⌝ }
 {
     let i = clear_blank(source, t, p, s, front, pattern);
-    if i == 0 {
+    if i == layout::LIST_END {
         return Ends { row: top, byte };
     }
     let r = table::get_row(t, i);

@@ -14,7 +14,7 @@ pub fn has_room(l: Used, n: usize, cp: usize, cs: usize) -> bool
     requires { ⌜ Small cp cs l ⌝ }
     ensures { λ r. ⌜ Decides r (TrimRoom cp cs l n) ⌝ }
 {
-    if l.row + l.pieces + l.pieces > cp / 2 {
+    if l.row + l.pieces + l.pieces > cp / layout::PIECE {
         return false;
     }
     if n > cs - l.byte {

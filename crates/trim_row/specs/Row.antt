@@ -11,6 +11,7 @@ use lib.Dec.{eqb}
 use lib.ListN.{length, take, drop, length-take, length-drop}
 use lib.Seq.{take-at, length-take-le}
 use borrow.Author.Tests.{eqb-true, eqb-false, eq-eqb, ne-eqb}
+use Rattle.layout.specs.Layout.{TRIM-STORE-LEN}
 use Rattle.utf8.specs.Rfc3629.{utf8}
 use Rattle.utf8.specs.Chars.{All, nil, cons}
 use Rattle.table.specs.declared.Piece.{Piece}
@@ -89,14 +90,14 @@ pub record RowFits (p s : List ℕ) (top byte : ℕ) (e : Entry) : Type 0 where
   pub rows : (top + piecesOf e) * 2 ≤ length p
   pub narrow : length p ≤ 4294967296
   pub bytes : byte + plainOf e ≤ length s
-  pub small : length s ≤ 65536
+  pub small : length s ≤ TRIM-STORE-LEN
 
 pub record ContentReady (source s : List ℕ) (e : Entry) (byte : ℕ) : Type 0 where
   pub span : SpanIn source e
   pub replacement : ReplacementIn s (e .text)
   pub valid : Valid (contentOf source s e)
   pub bytes : byte + plainOf e ≤ length s
-  pub small : length s ≤ 65536
+  pub small : length s ≤ TRIM-STORE-LEN
 
 -- ---- what they give
 -- where a trim stops
@@ -184,7 +185,7 @@ sides-spent false e byte n f x = spent-of e (withSides false e n f x) byte refl
 
 -- a run that is not blank has a piece, so its rows end below
 run-room : (pattern : ℕ) (p s : List ℕ) (top byte : ℕ) (r : Place) → Below p byte top r → all (blank pattern) (runOf p s r) ≡ false → (top + r .1) * 2 ≤ length p
-    → length p ≤ 4294967296 → length s ≤ 65536 → RowRoom p s (r .0) (r .1) top
+    → length p ≤ 4294967296 → length s ≤ TRIM-STORE-LEN → RowRoom p s (r .0) (r .1) top
 run-room pattern p s top byte r h b a n m = go (r .1) refl
   where
     go : (k : ℕ) → r .1 ≡ k → RowRoom p s (r .0) (r .1) top

@@ -3,6 +3,7 @@ ghost use mathlib.Core.Path.{_≡_};
 ghost use mathlib.Core.Bool.{Bool, true, false};
 ghost use Prim.Native.Nat.{_+_, _≤_};
 ghost use lib.ListN.{length};
+ghost use Rattle.layout.specs.Layout.{TRIM-STORE-LEN};
 ghost use Rattle.texts.specs.Over.{over};
 ghost use Rattle.table.specs.Order.{entryOf};
 ghost use Rattle.trim_text.specs.Sides.{blank};
@@ -60,7 +61,7 @@ fn cleared_text(r: Row) -> Piece
         at: r.text_at,
         n: r.text_n,
     };
-    if r.text_at == texts::NONE {
+    if r.text_at == layout::NONE {
         if r.end - r.start == 0 {
             return same;
         }
@@ -139,7 +140,7 @@ fn trim_content(source: &[u8], s: &mut [u8], r: Row, byte: u32, front: bool, pat
         at: r.text_at,
         n: r.text_n,
     };
-    if r.text_at != texts::NONE {
+    if r.text_at != layout::NONE {
         return trim_text::trim_place(s, old, front, pattern);
     }
     let n = r.end - r.start;
@@ -147,7 +148,7 @@ fn trim_content(source: &[u8], s: &mut [u8], r: Row, byte: u32, front: bool, pat
     let q = trim_text::trim_place(source, part, front, pattern);
     if q.n == n {
         return Piece {
-            at: texts::NONE,
+            at: layout::NONE,
             n: 0,
         };
     }
@@ -191,10 +192,10 @@ pub fn trim_row(
 
 // The byte behind `byte` and behind a row's replacement.
 fn text_behind(r: Row, byte: u32) -> u32
-    requires { ⌜ TextLow 65536 (entryOf r .text) ⌝ }
+    requires { ⌜ TextLow TRIM-STORE-LEN (entryOf r .text) ⌝ }
     ensures { λ b. ⌜ Behind byte (entryOf r .text) b ⌝ }
 {
-    if r.text_at == texts::NONE {
+    if r.text_at == layout::NONE {
         return byte;
     }
     let end = r.text_at + r.text_n;
@@ -231,7 +232,7 @@ pub fn runs_behind(r: Row, row: u32) -> u32
 // Both: what is in use ends behind `row` and `byte`, and behind a row's runs and its replacement.
 pub fn behind(r: Row, row: u32, byte: u32) -> Ends
     requires { ⌜ RunsTo 4294967295 (entryOf r) ⌝ }
-    requires { ⌜ TextLow 65536 (entryOf r .text) ⌝ }
+    requires { ⌜ TextLow TRIM-STORE-LEN (entryOf r .text) ⌝ }
     ensures { λ e. ⌜ RunsBehind row (entryOf r) (e .row) × Behind byte (entryOf r .text) (e .byte) ⌝ }
 {
     let row = runs_behind(r, row);

@@ -6,6 +6,7 @@ use mathlib.Core.List.{List, [], _++_}
 use Prim.Native.Nat.{ℕ, _+_, _*_, _≤_}
 use native.Mathlib.Omega.{arith}
 use lib.ListN.{length, drop, length-append, length-drop}
+use Rattle.layout.specs.Layout.{PIECES, PIECE-ROWS, STORE-LEN, TRIM-PIECES-LEN, TRIM-STORE-LEN}
 use Rattle.utf8.specs.Chars.{All, nil, cons}
 use Rattle.table.specs.Order.{Entry}
 use Rattle.model.specs.MagicString.{MagicString, ok}
@@ -29,8 +30,8 @@ use Rattle.trim_scratch.specs.Counts.{plain-small}
 
 -- scratch pieces and store with room behind the lent ones: for the rows of two trims, and for all of a source
 pub record Wide (p s : List ℕ) : Type 0 where
-  pub pieces : length p ≡ 8192
-  pub store : length s ≡ 49152
+  pub pieces : length p ≡ TRIM-PIECES-LEN
+  pub store : length s ≡ TRIM-STORE-LEN
 
 -- ---- what is read from the front of the tables lies below its end
 module _ (p s y : List ℕ) (row byte : ℕ) (lp : length p ≤ row * 2) (ls : length s ≤ byte) where
@@ -74,19 +75,21 @@ module _ {source t p s t₀ p₀ s₀ t1 p1 s1 : List ℕ} (w : WellFormed sourc
   loaded-is : magicStringOf source t1 p1 s1 ≡ magicStringOf source t p s
   loaded-is = with-scratch-desk w f d t1 (loaded-readable w f d) ∙ loaded-desk w f d
 
-  loaded-side : SideReady source t1 p1 s1 2048 1024 32768
+  loaded-side : SideReady source t1 p1 s1 PIECE-ROWS PIECES STORE-LEN
   loaded-side =
       record {
-        low = subst (λ (x : List ℕ). DeskLow t1 x 2048 32768) (sym (d .pieces)) (desk-low p s (drop (length p) p₀) 2048 32768 (w .sized .pieces) (w .sized .store) t1 (loaded-readable w f d));
+        low =
+            subst (λ (x : List ℕ). DeskLow t1 x PIECE-ROWS STORE-LEN) (sym (d .pieces))
+            (desk-low p s (drop (length p) p₀) PIECE-ROWS STORE-LEN (w .sized .pieces) (w .sized .store) t1 (loaded-readable w f d));
         formed = subst model.Formed (sym loaded-is) (w .desk .formed);
-        few = subst (λ (x : MagicString). piece-count x ≤ 1024) (sym loaded-is) (omega (arith, pieces-any source t p s, within-keeps full (magicStringOf source t p s) (desk-full w) .pieces));
+        few = subst (λ (x : MagicString). piece-count x ≤ PIECES) (sym loaded-is) (omega (arith, pieces-any source t p s, within-keeps full (magicStringOf source t p s) (desk-full w) .pieces));
         rows = omega (arith, wide .pieces);
         narrow = omega (arith, wide .pieces);
         bytes = omega (arith, ap plain-bytes loaded-is, plain-of w, short-source w, wide .store);
         small = omega (arith, wide .store);
       }
 
-  pub loaded-ready : SidesReady source t1 p1 s1 2048 32768
+  pub loaded-ready : SidesReady source t1 p1 s1 PIECE-ROWS STORE-LEN
   loaded-ready = sides-ready loaded-side (omega (arith, wide .pieces))
 
 -- ---- the call, for each of the trims

@@ -26,7 +26,7 @@ fn trim_by(
         × Above (now (chunks .exit)) (now (pieces .exit)) (now (store .exit)) (o .used) ⌝ }
 {
     frame::load(chunks, pieces, store, t, p, s);
-    trim_sides::trim_sides(source, t, p, s, 2048, 32768, both, front, pattern);
+    trim_sides::trim_sides(source, t, p, s, layout::NEW_ROW, layout::NEW_BYTE, both, front, pattern);
     on_top::finish(t, p, s, chunks, pieces, store, 0)
 }
 
@@ -45,12 +45,12 @@ pub fn trim_scratch(
         (now (chunks .exit)) (now (pieces .exit)) (now (store .exit)) (o .number)
         × Above (now (chunks .exit)) (now (pieces .exit)) (now (store .exit)) (o .used) ⌝ }
 {
-    let rows = 6192usize;
-    let words = 8192usize;
-    let size = 49152usize;
-    let mut t = [0u32; 6192];
-    let mut p = [0u32; 8192];
-    let mut s = [0u8; 49152];
+    let rows = layout::SCRATCH_LEN;
+    let words = layout::TRIM_PIECES_LEN;
+    let size = layout::TRIM_STORE_LEN;
+    let mut t = [0u32; layout::SCRATCH_LEN];
+    let mut p = [0u32; layout::TRIM_PIECES_LEN];
+    let mut s = [0u8; layout::TRIM_STORE_LEN];
     trim_by(
         source,
         chunks,

@@ -6,6 +6,7 @@ use mathlib.Core.List.{List, [], _∷_, map}
 use Prim.Native.Nat.{ℕ, zero, suc, _+_, _*_, _≤_, _<_}
 use native.Mathlib.Omega.{arith}
 use lib.ListN.{length}
+use Rattle.layout.specs.Layout.{TRIM-STORE-LEN}
 use Rattle.utf8.specs.Chars.{All, nil, cons}
 use Rattle.table.specs.declared.Row.{Row}
 use Rattle.table.specs.Ring.{Each}
@@ -52,7 +53,7 @@ pub record SideReady (source t p s : List ℕ) (top wide byte : ℕ) : Type 0 wh
   pub rows : (top + wide) * 2 ≤ length p
   pub narrow : length p ≤ 4294967296
   pub bytes : byte + plain-bytes (magicStringOf source t p s) ≤ length s
-  pub small : length s ≤ 65536
+  pub small : length s ≤ TRIM-STORE-LEN
 
 -- the row and the byte b are behind all that the desk uses; what b lies further on is no longer plain
 pub record SideTrimmed (front : Bool) (pattern : ℕ) (source t p s : List ℕ) (top wide byte : ℕ) (t' p' s' : List ℕ) (row b : ℕ) : Type 0 where
@@ -73,7 +74,7 @@ pub record OwnReady (front : Bool) (p s : List ℕ) (top : ℕ) (t : List ℕ) :
   pub below : (k : ℕ) → k < nearOf front (entryAt t 0) .1 → nearOf front (entryAt t 0) .0 + k < top
   pub rows : (top + nearOf front (entryAt t 0) .1) * 2 ≤ length p
   pub narrow : length p ≤ 4294967296
-  pub small : length s ≤ 65536
+  pub small : length s ≤ TRIM-STORE-LEN
 
 -- gone: nothing is left of it
 pub record OwnTrimmed (front : Bool) (pattern : ℕ) (p s : List ℕ) (top : ℕ) (t p' t' : List ℕ) (gone : Bool) : Type 0 where
@@ -180,7 +181,7 @@ module _ (source p s : List ℕ) (top byte : ℕ) where
   Fit : ℕ → Entry → Type 0
   Fit wide e = RowReady source p s e × (RowFits p s top byte e × (piecesOf e ≤ wide))
 
-  module _ (wide plain : ℕ) (v : Valid source) (rows : (top + wide) * 2 ≤ length p) (narrow : length p ≤ 4294967296) (bytes : byte + plain ≤ length s) (small : length s ≤ 65536) where
+  module _ (wide plain : ℕ) (v : Valid source) (rows : (top + wide) * 2 ≤ length p) (narrow : length p ≤ 4294967296) (bytes : byte + plain ≤ length s) (small : length s ≤ TRIM-STORE-LEN) where
     fit-one : (e : Entry) → EntryLow p top byte e → Inside source (chunkOf p s e) → ValidTexts (chunkOf p s e .texts) → piecesOf e ≤ wide → plainOf e ≤ plain → Fit wide e
     unfolding Fit
     fit-one e l i t n q = (

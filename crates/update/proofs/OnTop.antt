@@ -8,6 +8,7 @@ use native.Mathlib.Decide.{ℕ-discrete}
 use lib.Dec.{eqb}
 use lib.ListN.{length, take, drop, length-append, length-take, take-append-drop}
 use lib.Seq.{length-take-le, take-at}
+use Rattle.layout.specs.Layout.{ROW}
 use Rattle.table.specs.Order.{entries, countOf}
 use Rattle.model.specs.MagicString.{MagicString}
 use Rattle.model.specs.Limits.{within, piece-count, byte-count, replacement-bytes}
@@ -110,7 +111,7 @@ module _ {a b : ℕ} {text : List ℕ} {o : Bool} {n m : ℕ} {source t P S t' S
   few-pieces = omega (arith, replaced-pieces (x .replaced) P S', ap piece-count before, lv .pieces)
 
   -- all texts lie below the byte, and the new one from there on
-  replaced-within : countOf t' ≤ length t / 12 - 1 → within (limitsOf t P S) (magicStringOf [] t' P S') ≡ true
+  replaced-within : countOf t' ≤ length t / ROW - 1 → within (limitsOf t P S) (magicStringOf [] t' P S') ≡ true
   replaced-within few =
       let texts = bytes-below (w .disjoint) lv in
       keeps-within

@@ -8,6 +8,7 @@ use native.Mathlib.Omega.{arith}
 use lib.Dec.{eqb}
 use lib.ListN.{length, drop}
 use borrow.Author.Tests.{ne-eqb, le-ltb, lt-ltb}
+use Rattle.layout.specs.Layout.{STORE-LEN, UPDATE-STORE-LEN}
 use Rattle.table.specs.Order.{countOf}
 use Rattle.model.specs.MagicString.{MagicString, Result, ok, err, and-then, with-chunks, at-start}
 use Rattle.model.specs.Chunk.{edit}
@@ -47,7 +48,7 @@ pub record UpdateSteps (a b : ℕ) (text : List ℕ) (o : Bool) (n at : ℕ) (t 
   pub long : r ≡ 13 → (source p s : List ℕ) → length source ≡ n → Readable t p s → Spans source t p s
       → within full (update-past a b text o (magicStringOf source t p s) .desk) ≡ false
   pub writes : (r ≡ 13 → ⊥) → may-write (update-with a b text o) r ≡ true
-  pub short : length text ≤ 32768 → r ≡ 13 → ⊥
+  pub short : length text ≤ STORE-LEN → r ≡ 13 → ⊥
   pub replaced : Replaced t t' (at, length text)
   pub count : countOf t' ≤ countOf t + 2
   pub store : s1' ≡ over s1 at (stored r text)
@@ -133,7 +134,7 @@ module _ (a b : ℕ) (text : List ℕ) (o : Bool) (n at : ℕ) (t t1 s1 : List �
             → update-past a b text o (magicStringOf source t p s) ≡ ok (with-chunks (magicStringOf source t2 p s) (at-start a (edit text o) (magicStringOf source t2 p s .chunks)))
         came source p s ln rd sp = inside source p s ln rd sp ∙ walk-done a b text o source p s t1 t2 (c .readable p s rd) d (d .ended .0)
 
-        pub update-long : 32768 < length text → UpdateSteps a b text o n at t s1 t2 s1 13
+        pub update-long : STORE-LEN < length text → UpdateSteps a b text o n at t s1 t2 s1 13
         update-long l =
             record {
               leave = λ k. absurd (k refl);
@@ -147,7 +148,7 @@ module _ (a b : ℕ) (text : List ℕ) (o : Bool) (n at : ℕ) (t t1 s1 : List �
               store = over-nil s1 at;
             }
 
-        pub update-done : (t3 s3 : List ℕ) → at ≤ 32768 → FirstEdited o at text t2 s1 t3 s3 i → length t3 ≡ length t2 → UpdateSteps a b text o n at t s1 t3 s3 0
+        pub update-done : (t3 s3 : List ℕ) → at ≤ STORE-LEN → FirstEdited o at text t2 s1 t3 s3 i → length t3 ≡ length t2 → UpdateSteps a b text o n at t s1 t3 s3 0
         update-done t3 s3 few f len =
             record {
               leave = λ _ source p s y z ln rd sp ls.
@@ -183,7 +184,7 @@ pub record Settled (number : ℕ) (l : Used) (end : ℕ) (o : Outcome) : Type 0 
 
 pub record UpdateScratch (t p s : List ℕ) : Type 0 where
   pub scratch : Scratch t p s
-  pub store : length s ≡ 65536
+  pub store : length s ≡ UPDATE-STORE-LEN
 
 module _ {a b : ℕ} {text : List ℕ} {o : Bool} {n : ℕ} {source t p s t₀ p₀ s₀ t1 p1 s1 t2 s2 : List ℕ} {r : ℕ} (ab : a < b) (w : WellFormed source t p s)
     (h : refused-before (magicStringOf source t p s) (update-with a b text o) ≡ 0) (f : UpdateScratch t₀ p₀ s₀) (d : Loaded t p s t₀ p₀ s₀ t1 p1 s1) (x : UpdateSteps a b text o n (length s) t1 s1 t2 s2 r)

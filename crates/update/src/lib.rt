@@ -2,6 +2,7 @@
 ghost use mathlib.Core.Path.{_≡_};
 ghost use Prim.Native.Nat.{_+_, _≤_, _<_};
 ghost use lib.ListN.{length};
+ghost use Rattle.layout.specs.Layout.{STORE-LEN};
 ghost use Rattle.model.specs.Call.{update-with, refused-before};
 ghost use Rattle.memory.specs.Layout.{magicStringOf};
 ghost use Rattle.memory.specs.WellFormed.{WellFormed};
@@ -24,8 +25,8 @@ fn update_steps(
     byte: usize,
 ) -> u32
     requires { ⌜ Roomy 2 (now t) ⌝ }
-    requires { ⌜ byte ≤ 32768 ⌝ }
-    requires { ⌜ (length (now text) ≤ 32768 → byte + length (now text) ≤ length (now s)) ⌝ }
+    requires { ⌜ byte ≤ STORE-LEN ⌝ }
+    requires { ⌜ (length (now text) ≤ STORE-LEN → byte + length (now text) ≤ length (now s)) ⌝ }
     ensures { λ r. ⌜ UpdateSteps start end (now (text .entry)) overwrite len byte (now (t .entry)) (now (s .entry)) (now (t .exit)) (now (s .exit)) r ⌝ }
 {
     let r = split::split_both(t, start, end);
@@ -38,7 +39,7 @@ fn update_steps(
     let Found::At(i) = update_rows::update_walk(t, start, end) else {
         return 7;
     };
-    if text.len() > 32768 {
+    if text.len() > layout::STORE_LEN {
         return 13;
     }
     update_rows::edit_first(text, t, s, i, overwrite, byte);
@@ -91,12 +92,12 @@ fn update_scratch(
     ensures { λ o. ⌜ Leaves (update-with start end (now (text .entry)) overwrite) (now (source .entry)) (now (chunks .entry)) (now (pieces .entry)) (now (store .entry))
         (now (chunks .exit)) (now (pieces .exit)) (now (store .exit)) o ⌝ }
 {
-    let rows = 6192usize;
-    let words = 4096usize;
-    let size = 65536usize;
-    let mut t = [0u32; 6192];
-    let mut p = [0u32; 4096];
-    let mut s = [0u8; 65536];
+    let rows = layout::SCRATCH_LEN;
+    let words = layout::PIECES_LEN;
+    let size = layout::UPDATE_STORE_LEN;
+    let mut t = [0u32; layout::SCRATCH_LEN];
+    let mut p = [0u32; layout::PIECES_LEN];
+    let mut s = [0u8; layout::UPDATE_STORE_LEN];
     update_by(
         source,
         chunks,

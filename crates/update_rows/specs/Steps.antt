@@ -10,6 +10,7 @@ use lib.Dec.{ltb, eqb}
 use lib.ListN.{length, take, length-append}
 use lib.Seq.{take-at, drop-at}
 use borrow.Author.Tests.{eq-eqb, ne-eqb, le-ltb, lt-ltb}
+use Rattle.layout.specs.Layout.{STORE-LEN}
 use Rattle.utf8.specs.Chars.{All, nil, cons}
 use Rattle.utf8.specs.CharLaws.{all-front, all-back}
 use Rattle.table.specs.declared.Row.{Row}
@@ -146,11 +147,11 @@ pub record FirstEdited (o : Bool) (at : ℕ) (text t s t' s' : List ℕ) (i : �
   pub put : Put t t' i row
   pub store : s' ≡ over s at text
 
-behind-is : (at : ℕ) (s text z : List ℕ) → at ≤ 32768 → length s ≡ at → replacementOf (s ++ (text ++ z)) (at, length text) ≡ some text
+behind-is : (at : ℕ) (s text z : List ℕ) → at ≤ STORE-LEN → length s ≡ at → replacementOf (s ++ (text ++ z)) (at, length text) ≡ some text
 unfolding replacementOf
 behind-is at s text z few h = rw (ne-eqb at NONE (λ e. omega arith)) (ap some (ap (take (length text)) (drop-at s (text ++ z) at h) ∙ take-at text z (length text) refl))
 
-module _ (o : Bool) (at : ℕ) (text p s y z : List ℕ) (few : at ≤ 32768) (ls : length s ≡ at) (e : Entry) (h : EntryIn p s e) where
+module _ (o : Bool) (at : ℕ) (text p s y z : List ℕ) (few : at ≤ STORE-LEN) (ls : length s ≡ at) (e : Entry) (h : EntryIn p s e) where
   lift-edit : chunkOf (p ++ y) (s ++ (text ++ z)) (editedEntry o at (length text) e) ≡ with-texts (edit text o) (chunkOf p s e)
   lift-edit = go o
     where
@@ -177,7 +178,7 @@ none-start : (p s : List ℕ) (q : ℕ) (t xs : List ℕ) → Each (λ x. meets 
 none-start p s q t [] h = nil
 none-start p s q t (x ∷ xs) h = cons {x = chunkOf p s (entryAt t x)} (h .0) (none-start p s q t xs (h .1))
 
-module _ (a : ℕ) (o : Bool) (at : ℕ) (text p s y z t t' : List ℕ) (i : ℕ) (row : Row) (w : First (meets Start a) t i) (h : Readable t p s) (few : at ≤ 32768) (ls : length s ≡ at)
+module _ (a : ℕ) (o : Bool) (at : ℕ) (text p s y z t t' : List ℕ) (i : ℕ) (row : Row) (w : First (meets Start a) t i) (h : Readable t p s) (few : at ≤ STORE-LEN) (ls : length s ≡ at)
     (ed : EditedRow o at (length text) (rowAt t i) row) (pt : Put t t' i row) (len : length t' ≡ length t) where
   set : RowSet t t' i (entryOf row)
   set = row-set t t' i row (h .linked) (record { us = w .us; bs = w .bs; place = w .place }) pt (ed .next) (ed .prev) len

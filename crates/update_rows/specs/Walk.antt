@@ -8,6 +8,7 @@ use native.Mathlib.Omega.{arith}
 use lib.Dec.{eqb}
 use lib.ListN.{length, length-append, length-map}
 use borrow.Author.Tests.{eq-eqb, ne-eqb}
+use Rattle.layout.specs.Layout.{ROW}
 use Rattle.table.specs.declared.Row.{Row}
 use Rattle.table.specs.Ring.{Each, each-map, each-right, Not, Edge, Links, links-right}
 use Rattle.table.specs.Table.{rowAt, Put}
@@ -125,10 +126,10 @@ module _ {t₀ t : List ℕ} {cur at end k : ℕ} {goal : List Entry} {fin : Boo
       go [] o c d = (entries-at t (h .pre) cur [] o ∙ c, sym d ∙ ne-eqb at end n)
       go (x ∷ rest) o c d = let s = next-some t (h .pre) cur x rest (h .linked) o in absurd (omega (arith, s .0, s .1))
 
-  pub run-inside : (nextOf t cur ≡ 0 → ⊥) → nextOf t cur * 12 + 12 ≤ length t
+  pub run-inside : (nextOf t cur ≡ 0 → ⊥) → nextOf t cur * ROW + ROW ≤ length t
   run-inside n = go (h .rest) (h .place)
     where
-      go : (rest : List ℕ) → order t ≡ h .pre ++ cur ∷ rest → nextOf t cur * 12 + 12 ≤ length t
+      go : (rest : List ℕ) → order t ≡ h .pre ++ cur ∷ rest → nextOf t cur * ROW + ROW ≤ length t
       go [] o = absurd (n (next-none t (h .pre) cur (h .linked) o))
       go (x ∷ rest) o = let s = next-some t (h .pre) cur x rest (h .linked) o in omega (arith, s .0, s .2, h .linked .room)
 
@@ -290,7 +291,7 @@ module _ {t₀ t : List ℕ} {cur at end k : ℕ} {goal : List Entry} {fin : Boo
   pub step-ends : (at ≡ end → ⊥) → nx ≡ 0 → (entries t ≡ goal) × (fin ≡ false)
   step-ends n z = run-ends h n (sym e ∙ z)
 
-  pub step-inside : (nx ≡ 0 → ⊥) → nx * 12 + 12 ≤ length t
+  pub step-inside : (nx ≡ 0 → ⊥) → nx * ROW + ROW ≤ length t
   step-inside n = rw e (run-inside h (λ z. n (e ∙ z)))
 
   pub step-breaks : (at ≡ end → ⊥) → (nx ≡ 0 → ⊥) → (d : Row) → d ≡ rowAt t nx → (d .start ≡ at → ⊥) → (entries t ≡ goal) × (fin ≡ false)

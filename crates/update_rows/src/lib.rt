@@ -2,6 +2,7 @@
 ghost use mathlib.Core.Path.{_≡_};
 ghost use Prim.Native.Nat.{_+_, _*_, _≤_};
 ghost use lib.ListN.{length};
+ghost use Rattle.layout.specs.Layout.{ROW, STORE-LEN};
 ghost use Rattle.table.specs.Order.{Linked};
 ghost use Rattle.rows.specs.Insert.{Placed};
 ghost use Rattle.update_rows.specs.Walk.{Emptied, RunCleared, Walked};
@@ -39,7 +40,7 @@ fn clear_run(t: &mut [u32], i: u32, end: u32) -> bool
         if at == end {
             return true;
         }
-        if next == 0 {
+        if next == layout::LIST_END {
             return false;
         }
         let d = table::get_row(t, next);
@@ -87,9 +88,9 @@ fn edited(c: table::Row, at: u32, n: u32, overwrite: bool) -> table::Row
 
 // The first chunk of the range is edited: the text goes to `byte`, above all texts in use.
 pub fn edit_first(text: &[u8], t: &mut [u32], s: &mut [u8], i: u32, overwrite: bool, byte: usize)
-    requires { ⌜ i * 12 + 12 ≤ length (now t) ⌝ }
-    requires { ⌜ length (now text) ≤ 32768 ⌝ }
-    requires { ⌜ byte ≤ 32768 ⌝ }
+    requires { ⌜ i * ROW + ROW ≤ length (now t) ⌝ }
+    requires { ⌜ length (now text) ≤ STORE-LEN ⌝ }
+    requires { ⌜ byte ≤ STORE-LEN ⌝ }
     requires { ⌜ byte + length (now text) ≤ length (now s) ⌝ }
     ensures { λ _. ⌜ FirstEdited overwrite byte (now (text .entry)) (now (t .entry)) (now (s .entry)) (now (t .exit)) (now (s .exit)) i ⌝ }
 {

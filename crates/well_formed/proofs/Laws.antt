@@ -5,6 +5,7 @@ use mathlib.Core.List.{List, []}
 use Prim.Native.Nat.{ℕ, _+_, _*_, _/_, _≤_, _<_}
 use native.Mathlib.Omega.{arith}
 use lib.ListN.{length}
+use Rattle.layout.specs.Layout.{ROW, PIECE-ROOM}
 use Rattle.utf8.specs.Rfc3629.{utf8}
 use Rattle.table.specs.Order.{entryAt, countOf, Linked}
 use Rattle.memory.specs.WellFormed.{Full, WellFormed, Taken}
@@ -25,7 +26,7 @@ use Rattle.well_formed.specs.Rows.{Shaped, Chunked, Pieced}
 use Rattle.well_formed.specs.Bridge.{count-is, rows-formed, formed-rows}
 
 -- n is the count that was read
-pub chunked-by : {q : Bool} (source t : List ℕ) (n : ℕ) → n ≡ countOf t → n * 12 + 12 ≤ length t → Decides q (Listed source t n) → Decides q (Chunked source t)
+pub chunked-by : {q : Bool} (source t : List ℕ) (n : ℕ) → n ≡ countOf t → n * ROW + ROW ≤ length t → Decides q (Listed source t n) → Decides q (Chunked source t)
 chunked-by source t n e h d =
     decides-by (λ l. record { linked = record { ring = rw e at (l .ring); room = omega arith }; spans = rw e at (l .spans); edges = rw e at (l .edges) })
     (λ c. record { ring = rw e (c .linked .ring); spans = rw e (c .spans); edges = rw e (c .edges) }) d
@@ -44,7 +45,7 @@ module _ (t p s : List ℕ) where
   sees-no {P} e x = is-no (subst (Sees P t p s) e x)
 
   -- a bound above runs and texts is one of what the desk uses
-  pub above-is : {n : ℕ} {u : Used} → Linked t → n ≡ countOf t → Counted t p n (length s) u → u .pieces ≤ length p / 4 → Above t p s u
+  pub above-is : {n : ℕ} {u : Used} → Linked t → n ≡ countOf t → Counted t p n (length s) u → u .pieces ≤ length p / PIECE-ROOM → Above t p s u
   above-is {n} {u} l e c few =
       let hr : u .row * 2 ≤ length p = omega (arith, c .row) in
       let b = rw e at (c .below) in
@@ -63,7 +64,7 @@ module _ (t p s : List ℕ) where
         byte = c .byte;
       }
 
-  pub pieced-yes : {n : ℕ} {u : Used} → Linked t → n ≡ countOf t → Placed t p n (length s) → Counted t p n (length s) u → u .pieces ≤ length p / 4 → TextsValid t p s n
+  pub pieced-yes : {n : ℕ} {u : Used} → Linked t → n ≡ countOf t → Placed t p n (length s) → Counted t p n (length s) u → u .pieces ≤ length p / PIECE-ROOM → TextsValid t p s n
       → Pieced t p s × Above t p s u
   pieced-yes l e x c few v = (record { count = rw (sym e) (omega (arith, c .pieces)); placed = rw e at x; texts = rw e at v }, above-is l e c few)
 

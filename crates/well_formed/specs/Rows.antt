@@ -4,6 +4,7 @@ use mathlib.Core.Bool.{true}
 use mathlib.Core.List.{List}
 use Prim.Native.Nat.{ℕ, _/_, _≤_}
 use lib.ListN.{length}
+use Rattle.layout.specs.Layout.{SOURCE-BYTES, PIECE-ROOM}
 use Rattle.utf8.specs.Rfc3629.{utf8}
 use Rattle.table.specs.Order.{countOf, Linked}
 use Rattle.memory.specs.WellFormed.{Sized}
@@ -15,7 +16,7 @@ use Rattle.texts_valid.specs.Valid.{TextsValid}
 -- tables of a desk's lengths, and a source that is short enough
 pub record Shaped (source t p s : List ℕ) : Type 0 where
   pub sized : Sized t p s
-  pub fits : length source ≤ 16384
+  pub fits : length source ≤ SOURCE-BYTES
 
 -- one list, and spans that cover the source
 pub record Chunked (source t : List ℕ) : Type 0 where
@@ -25,7 +26,7 @@ pub record Chunked (source t : List ℕ) : Type 0 where
 
 -- runs and texts
 pub record Pieced (t p s : List ℕ) : Type 0 where
-  pub count : pieceTotal t (countOf t) ≤ length p / 4
+  pub count : pieceTotal t (countOf t) ≤ length p / PIECE-ROOM
   pub placed : Placed t p (countOf t) (length s)
   pub texts : TextsValid t p s (countOf t)
 

@@ -3,6 +3,7 @@ ghost use mathlib.Core.Path.{_≡_};
 ghost use mathlib.Core.Bool.{true};
 ghost use Prim.Native.Nat.{_+_, _*_, _≤_};
 ghost use lib.ListN.{length};
+ghost use Rattle.layout.specs.Layout.{ROW, SOURCE-BYTES};
 ghost use Rattle.utf8.specs.Rfc3629.{utf8 as isText};
 ghost use Rattle.table.specs.Order.{countOf, Linked};
 ghost use Rattle.memory.specs.WellFormed.{Sized, Full, WellFormed, Taken};
@@ -21,22 +22,22 @@ pub enum Seen {
 pub fn sized(chunks: &[u32], pieces: &[u32], store: &[u8]) -> bool
     ensures { λ r. ⌜ Decides r (Sized (now (chunks .entry)) (now (pieces .entry)) (now (store .entry))) ⌝ }
 {
-    if chunks.len() % 12 != 0 {
+    if chunks.len() % layout::ROW != 0 {
         return false;
     }
-    if pieces.len() % 2 != 0 {
+    if pieces.len() % layout::PIECE != 0 {
         return false;
     }
-    if chunks.len() < 24 {
+    if chunks.len() < layout::CHUNKS_LEAST {
         return false;
     }
-    if chunks.len() > 6156 {
+    if chunks.len() > layout::CHUNKS_LEN {
         return false;
     }
-    if pieces.len() > 4096 {
+    if pieces.len() > layout::PIECES_LEN {
         return false;
     }
-    if store.len() > 32768 {
+    if store.len() > layout::STORE_LEN {
         return false;
     }
     true
@@ -46,13 +47,13 @@ pub fn sized(chunks: &[u32], pieces: &[u32], store: &[u8]) -> bool
 fn full_size(chunks: &[u32], pieces: &[u32], store: &[u8]) -> bool
     ensures { λ r. ⌜ Decides r (Full (now (chunks .entry)) (now (pieces .entry)) (now (store .entry))) ⌝ }
 {
-    if chunks.len() != 6156 {
+    if chunks.len() != layout::CHUNKS_LEN {
         return false;
     }
-    if pieces.len() != 4096 {
+    if pieces.len() != layout::PIECES_LEN {
         return false;
     }
-    if store.len() != 32768 {
+    if store.len() != layout::STORE_LEN {
         return false;
     }
     true
@@ -62,7 +63,7 @@ fn full_size(chunks: &[u32], pieces: &[u32], store: &[u8]) -> bool
 fn shaped(source: &[u8], chunks: &[u32], pieces: &[u32], store: &[u8]) -> bool
     ensures { λ r. ⌜ Decides r (Shaped (now (source .entry)) (now (chunks .entry)) (now (pieces .entry)) (now (store .entry))) ⌝ }
 {
-    if source.len() > 16384 {
+    if source.len() > layout::SOURCE_BYTES {
         return false;
     }
     sized(chunks, pieces, store)
@@ -70,23 +71,23 @@ fn shaped(source: &[u8], chunks: &[u32], pieces: &[u32], store: &[u8]) -> bool
 
 // The count of chunks, the first word of row 0.
 fn count(chunks: &[u32]) -> u32
-    requires { ⌜ 12 ≤ length (now chunks) ⌝ }
+    requires { ⌜ ROW ≤ length (now chunks) ⌝ }
     ensures { λ r. ⌜ r ≡ countOf (now (chunks .entry)) ⌝ }
 {
-    chunks[0]
+    chunks[layout::START]
 }
 
 // Whether the chunks stand in one list, linked both ways, and their spans cover the source with ends between characters.
 fn chunked(source: &[u8], chunks: &[u32]) -> bool
     requires { ⌜ isText (now source) ≡ true ⌝ }
-    requires { ⌜ length (now source) ≤ 16384 ⌝ }
+    requires { ⌜ length (now source) ≤ SOURCE-BYTES ⌝ }
     ensures { λ r. ⌜ Decides r (Chunked (now (source .entry)) (now (chunks .entry))) ⌝ }
 {
-    if chunks.len() < 12 {
+    if chunks.len() < layout::ROW {
         return false;
     }
     let n = count(chunks);
-    if chunks.len() < n as usize * 12 + 12 {
+    if chunks.len() < n as usize * layout::ROW + layout::ROW {
         return false;
     }
     links::listed(source, chunks, n)
@@ -103,7 +104,7 @@ fn pieced(chunks: &[u32], pieces: &[u32], store: &[u8]) -> Seen
     let a = texts_apart::places_apart(chunks, n, pieces, store.len());
     let used = a.used;
     if a.ok {
-        if used.pieces <= pieces.len() / 4 {
+        if used.pieces <= pieces.len() / layout::PIECE_ROOM {
             if texts_valid::texts_valid(chunks, n, pieces, store, used) {
                 return Seen::Desk(used);
             }

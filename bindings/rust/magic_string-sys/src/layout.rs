@@ -12,27 +12,23 @@ pub const STORE_BYTES: usize = 32_768;
 
 /// Length of the table of chunks, in words: the desk's own row and [`CHUNKS`] rows.
 pub const CHUNKS_LEN: usize = (1 + CHUNKS) * ROW;
-/// Length of the table of pieces, in words.
-pub const PIECES_LEN: usize = 2_048 * PIECE;
+/// Length of the table of pieces, in words: two rows for each of [`PIECES`].
+pub const PIECES_LEN: usize = 2 * PIECES * PIECE;
 /// Length of the store, in bytes.
-pub const STORE_LEN: usize = 32_768;
+pub const STORE_LEN: usize = STORE_BYTES;
 
 /// Words in a row of chunks.
 pub const ROW: usize = 12;
 /// Words in a row of pieces.
 pub const PIECE: usize = 2;
-/// Word of a row of pieces: where its text begins in the store.
-pub const AT: usize = 0;
-/// How many bytes its text has.
-pub const N: usize = 1;
 
 /// Word of a row of chunks: first byte of the span. In row 0, how many chunks.
 pub const START: usize = 0;
 /// First byte behind the span.
 pub const END: usize = 1;
-/// Next chunk of the list, 0 at the last. In row 0, the first chunk.
+/// Next chunk of the list, [`LIST_END`] at the last. In row 0, the first chunk.
 pub const NEXT: usize = 2;
-/// Chunk before it, 0 at the first. In row 0, the last chunk.
+/// Chunk before it, [`LIST_END`] at the first. In row 0, the last chunk.
 pub const PREV: usize = 3;
 /// First piece of the intro. In row 0, of the whole's.
 pub const INTRO_AT: usize = 4;
@@ -47,6 +43,14 @@ pub const TEXT_AT: usize = 8;
 /// How many bytes the replacement has.
 pub const TEXT_N: usize = 9;
 
+/// Word of a row of pieces: where its text begins in the store.
+pub const PIECE_AT: usize = 0;
+/// How many bytes the text has.
+pub const PIECE_N: usize = 1;
+
+/// In [`NEXT`] and [`PREV`]: the list ends. It is row 0, the desk's own, whose
+/// [`NEXT`] and [`PREV`] are the first chunk and the last.
+pub const LIST_END: u32 = 0;
 /// In [`TEXT_AT`]: the chunk has no replacement.
 pub const NONE: u32 = 0xFFFF_FFFF;
 

@@ -56,8 +56,7 @@ impl<'a> Iterator for Chunks<'a> {
 
   fn next(&mut self) -> Option<Chunk<'a>> {
     let (memory, row) = (self.memory, self.next);
-    // Row 0 is the named end mark of the list.
-    if row == 0 {
+    if row == LIST_END as usize {
       return None;
     }
     self.next = memory.word(row, NEXT) as usize;

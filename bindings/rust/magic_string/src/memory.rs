@@ -39,7 +39,7 @@ impl Memory {
     let at = if n == 0 { 0 } else { self.word(row, at) as usize };
     self.pieces[at * PIECE..][..n * PIECE]
       .chunks_exact(PIECE)
-      .map(|piece| self.text(piece[AT], piece[N]))
+      .map(|piece| self.text(piece[PIECE_AT], piece[PIECE_N]))
       .collect()
   }
 

@@ -1,5 +1,6 @@
 use mathlib.Core.Path.{_≡_, refl, sym, ap, _∙_}
 use native.Mathlib.Omega.{arith}
+use Rattle.layout.specs.Layout.{PIECES-PAST, BYTES-PAST}
 use Rattle.table.specs.Order.{entryOf}
 use Rattle.frame.proofs.Counting.{pieces-of, text-bytes, no-bytes, two-counts, three-counts}
 use borrow.Author.Needs.{needs}
@@ -38,8 +39,8 @@ returns c =
     let if1 = c .if1 in
     let a = start .args in
     let e = entryOf (a .r) in (
-      two-counts 1025 _ _ _ _ _ _ (add-capped .ensures) (add-capped2 .ensures) (pieces-of (a .p .now) (a .s .now) e),
-      three-counts 32769 _ _ _ 0 _ _ (run-bytes2 .result) _ (run-bytes .ensures) (run-bytes2 .ensures) (omega (arith, run-bytes2 .ensures)) (no-bytes (a .s .now) (e .text) (if1 .taken)),
+      two-counts PIECES-PAST _ _ _ _ _ _ (add-capped .ensures) (add-capped2 .ensures) (pieces-of (a .p .now) (a .s .now) e),
+      three-counts BYTES-PAST _ _ _ 0 _ _ (run-bytes2 .result) _ (run-bytes .ensures) (run-bytes2 .ensures) (omega (arith, run-bytes2 .ensures)) (no-bytes (a .s .now) (e .text) (if1 .taken)),
     )
 
 cast-add-capped-3 : tie.Need-cast-add-capped-3
@@ -59,8 +60,8 @@ returns-2 c =
     let if1 = c .before .before .if1 in
     let a = start .args in
     let e = entryOf (a .r) in (
-      two-counts 1025 _ _ _ _ _ _ (add-capped .ensures) (add-capped2 .ensures) (pieces-of (a .p .now) (a .s .now) e),
-      three-counts 32769 _ _ _ _ _ _ _ _ (run-bytes .ensures) (run-bytes2 .ensures) (add-capped3 .ensures) (text-bytes (a .s .now) (e .text) (start .pre .0 .replacement) (if1 .left)),
+      two-counts PIECES-PAST _ _ _ _ _ _ (add-capped .ensures) (add-capped2 .ensures) (pieces-of (a .p .now) (a .s .now) e),
+      three-counts BYTES-PAST _ _ _ _ _ _ _ _ (run-bytes .ensures) (run-bytes2 .ensures) (add-capped3 .ensures) (text-bytes (a .s .now) (e .text) (start .pre .0 .replacement) (if1 .left)),
     )
 
 pub count-row-spec : {M : Type 1} → statement M

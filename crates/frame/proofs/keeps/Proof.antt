@@ -16,10 +16,10 @@ use Rattle.frame.proofs.count_row.Reads as count-row-reads
 use Rattle.table.proofs.get_row.Reads as get-row-reads
 
 abbrev Inv-loop : tie.InvT-loop
-Inv-loop t p s cmax pmax bmax n pieces₀ bytes₀ cur₀ k₀ pieces bytes cur k = (n ≡ countOf t) × Loop t p s n k cur pieces bytes
+Inv-loop t p s most-chunks most-pieces most-bytes n pieces₀ bytes₀ cur₀ k₀ pieces bytes cur k = (n ≡ countOf t) × Loop t p s n k cur pieces bytes
 
 abbrev μ-loop : tie.MeasureT-loop
-μ-loop t p s cmax pmax bmax n pieces₀ bytes₀ cur₀ k₀ pieces bytes cur k = n - k
+μ-loop t p s most-chunks most-pieces most-bytes n pieces₀ bytes₀ cur₀ k₀ pieces bytes cur k = n - k
 
 get-row-requires : tie.Need-get-row-requires Inv-loop μ-loop
 get-row-requires c κs =
@@ -31,7 +31,7 @@ returns c =
     let get-row = c .before .get-row in
     let if1 = c .if1 in
     let a = start .args in
-    too-many (a .t .now) (a .p .now) (a .s .now) (a .cmax) _ _ (omega (arith, ap (λ (r : Row). r .start) (get-row .ensures), if1 .taken))
+    too-many (a .t .now) (a .p .now) (a .s .now) (a .most-chunks) _ _ (omega (arith, ap (λ (r : Row). r .start) (get-row .ensures), if1 .taken))
 
 own-row-requires : tie.Need-own-row-requires Inv-loop μ-loop
 own-row-requires c κs = search needs

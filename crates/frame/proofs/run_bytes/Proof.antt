@@ -2,6 +2,7 @@ use mathlib.Core.Path.{_≡_, refl, sym, ap, _∙_}
 use Prim.Native.Nat.{_+_, _-_, _≤_, min}
 use native.Mathlib.Omega.{arith}
 use lib.ListN.{length}
+use Rattle.layout.specs.Layout.{BYTES-PAST}
 use Rattle.memory.specs.Layout.{bytesAt, pieceAt}
 use Rattle.texts.specs.Texts.{run-piece}
 use Rattle.frame.proofs.Counting.{firstBytes, bytes-none, bytes-more, capped-more}
@@ -14,7 +15,7 @@ use Rattle.frame.proofs.add_capped.Reads as add-capped-reads
 use Rattle.texts.proofs.text_of.Reads as text-of-reads
 
 abbrev Inv-loop : tie.InvT-loop
-Inv-loop p s at n total first count sum₀ i₀ sum i = (first ≡ at) × (count ≡ n) × (i ≤ n) × (sum ≡ min (total + firstBytes p s at i) 32769)
+Inv-loop p s at n total first count sum₀ i₀ sum i = (first ≡ at) × (count ≡ n) × (i ≤ n) × (sum ≡ min (total + firstBytes p s at i) BYTES-PAST)
 
 abbrev μ-loop : tie.MeasureT-loop
 μ-loop p s at n total first count sum₀ i₀ sum i = n - i
@@ -66,9 +67,9 @@ loop-again c =
       refl,
       refl,
       omega (arith, loop-test .taken, loop .inv .1),
-      capped-more 32769 (a .total + firstBytes (a .p .now) (a .s .now) (a .at) (loop .i)) x (loop .sum) (add-capped .result) (loop .inv .3)
-          (add-capped .ensures ∙ ap (λ y. min (loop .sum + y) 32769) e)
-          ∙ ap (λ y. min y 32769) (omega (arith, bytes-more (a .p .now) (a .s .now) (a .at) (loop .i))),
+      capped-more BYTES-PAST (a .total + firstBytes (a .p .now) (a .s .now) (a .at) (loop .i)) x (loop .sum) (add-capped .result) (loop .inv .3)
+          (add-capped .ensures ∙ ap (λ y. min (loop .sum + y) BYTES-PAST) e)
+          ∙ ap (λ y. min y BYTES-PAST) (omega (arith, bytes-more (a .p .now) (a .s .now) (a .at) (loop .i))),
     )
 
 returns : tie.Need-returns Inv-loop μ-loop
@@ -78,7 +79,7 @@ returns c =
     let loop-test = c .loop-test in
     let a = start .args in
     let e : loop .i ≡ a .n = omega (arith, loop .inv .1, loop .inv .2, loop-test .left) in
-    loop .inv .3 ∙ ap (λ y. min (a .total + firstBytes (a .p .now) (a .s .now) (a .at) y) 32769) e
+    loop .inv .3 ∙ ap (λ y. min (a .total + firstBytes (a .p .now) (a .s .now) (a .at) y) BYTES-PAST) e
 
 pub run-bytes-spec : {M : Type 1} → statement M
 run-bytes-spec =

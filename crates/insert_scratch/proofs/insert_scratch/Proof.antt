@@ -1,6 +1,7 @@
 -- `insert_scratch::insert_scratch` meets its contract: its own tables are clear and long enough.
 use mathlib.Core.Path.{sym}
 use native.Mathlib.Omega.{arith}
+use Rattle.layout.specs.Layout.{SCRATCH-LEN, INSERT-PIECES-LEN, INSERT-STORE-LEN}
 use Rattle.frame.specs.Frame.{zeros-length, zeros-at}
 use borrow.Author.Needs.{needs}
 use Rattle.insert_scratch.proofs.insert_scratch.Statement.{statement}
@@ -10,19 +11,19 @@ array-borrow-prefix-t : tie.Need-array-borrow-prefix-t
 array-borrow-prefix-t c = search needs
 
 slice-aggregate-insert-by : tie.Need-slice-aggregate-insert-by
-slice-aggregate-insert-by c = sym (zeros-length 6192 6192 (omega arith))
+slice-aggregate-insert-by c = sym (zeros-length SCRATCH-LEN SCRATCH-LEN (omega arith))
 
 array-borrow-prefix-p : tie.Need-array-borrow-prefix-p
 array-borrow-prefix-p c = search needs
 
 slice-aggregate-insert-by-2 : tie.Need-slice-aggregate-insert-by-2
-slice-aggregate-insert-by-2 c = sym (zeros-length 6146 6146 (omega arith))
+slice-aggregate-insert-by-2 c = sym (zeros-length INSERT-PIECES-LEN INSERT-PIECES-LEN (omega arith))
 
 array-borrow-prefix-s : tie.Need-array-borrow-prefix-s
 array-borrow-prefix-s c = search needs
 
 slice-aggregate-insert-by-3 : tie.Need-slice-aggregate-insert-by-3
-slice-aggregate-insert-by-3 c = sym (zeros-length 65536 65536 (omega arith))
+slice-aggregate-insert-by-3 c = sym (zeros-length INSERT-STORE-LEN INSERT-STORE-LEN (omega arith))
 
 insert-by-requires : tie.Need-insert-by-requires
 insert-by-requires c κs = (
@@ -30,13 +31,13 @@ insert-by-requires c κs = (
   record {
     scratch =
         record {
-          chunks = zeros-length 6192 6192 (omega arith);
-          clear = zeros-at 6192 6192;
-          pieces = rw (zeros-length 6146 6146 (omega arith)) (omega arith);
-          store = rw (zeros-length 65536 65536 (omega arith)) (omega arith);
+          chunks = zeros-length SCRATCH-LEN SCRATCH-LEN (omega arith);
+          clear = zeros-at SCRATCH-LEN SCRATCH-LEN;
+          pieces = rw (zeros-length INSERT-PIECES-LEN INSERT-PIECES-LEN (omega arith)) (omega arith);
+          store = rw (zeros-length INSERT-STORE-LEN INSERT-STORE-LEN (omega arith)) (omega arith);
         };
-    pieces = zeros-length 6146 6146 (omega arith);
-    store = zeros-length 65536 65536 (omega arith);
+    pieces = zeros-length INSERT-PIECES-LEN INSERT-PIECES-LEN (omega arith);
+    store = zeros-length INSERT-STORE-LEN INSERT-STORE-LEN (omega arith);
   },
 )
 

@@ -1,6 +1,7 @@
 -- `insert_scratch::whole_scratch` meets its contract: a text longer than the store passes the limits, and its own tables are clear and long enough.
 use mathlib.Core.Path.{sym}
 use native.Mathlib.Omega.{arith}
+use Rattle.layout.specs.Layout.{SCRATCH-LEN, INSERT-PIECES-LEN, INSERT-STORE-LEN}
 use Rattle.frame.specs.Frame.{zeros-length, zeros-at}
 use Rattle.on_top.proofs.Finishing.{formed-usable}
 use Rattle.insert_row.specs.Calls.{whole-long}
@@ -30,19 +31,19 @@ array-borrow-prefix-t : tie.Need-array-borrow-prefix-t
 array-borrow-prefix-t c = search needs
 
 slice-aggregate-whole-by : tie.Need-slice-aggregate-whole-by
-slice-aggregate-whole-by c = sym (zeros-length 6192 6192 (omega arith))
+slice-aggregate-whole-by c = sym (zeros-length SCRATCH-LEN SCRATCH-LEN (omega arith))
 
 array-borrow-prefix-p : tie.Need-array-borrow-prefix-p
 array-borrow-prefix-p c = search needs
 
 slice-aggregate-whole-by-2 : tie.Need-slice-aggregate-whole-by-2
-slice-aggregate-whole-by-2 c = sym (zeros-length 6146 6146 (omega arith))
+slice-aggregate-whole-by-2 c = sym (zeros-length INSERT-PIECES-LEN INSERT-PIECES-LEN (omega arith))
 
 array-borrow-prefix-s : tie.Need-array-borrow-prefix-s
 array-borrow-prefix-s c = search needs
 
 slice-aggregate-whole-by-3 : tie.Need-slice-aggregate-whole-by-3
-slice-aggregate-whole-by-3 c = sym (zeros-length 65536 65536 (omega arith))
+slice-aggregate-whole-by-3 c = sym (zeros-length INSERT-STORE-LEN INSERT-STORE-LEN (omega arith))
 
 whole-by-requires : tie.Need-whole-by-requires
 whole-by-requires c κs = (
@@ -51,13 +52,13 @@ whole-by-requires c κs = (
     record {
       scratch =
           record {
-            chunks = zeros-length 6192 6192 (omega arith);
-            clear = zeros-at 6192 6192;
-            pieces = rw (zeros-length 6146 6146 (omega arith)) (omega arith);
-            store = rw (zeros-length 65536 65536 (omega arith)) (omega arith);
+            chunks = zeros-length SCRATCH-LEN SCRATCH-LEN (omega arith);
+            clear = zeros-at SCRATCH-LEN SCRATCH-LEN;
+            pieces = rw (zeros-length INSERT-PIECES-LEN INSERT-PIECES-LEN (omega arith)) (omega arith);
+            store = rw (zeros-length INSERT-STORE-LEN INSERT-STORE-LEN (omega arith)) (omega arith);
           };
-      pieces = zeros-length 6146 6146 (omega arith);
-      store = zeros-length 65536 65536 (omega arith);
+      pieces = zeros-length INSERT-PIECES-LEN INSERT-PIECES-LEN (omega arith);
+      store = zeros-length INSERT-STORE-LEN INSERT-STORE-LEN (omega arith);
     },
     c .before .before .before .before .before .before .if1 .left,
   ),

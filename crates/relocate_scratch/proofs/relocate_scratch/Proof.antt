@@ -1,6 +1,8 @@
-use mathlib.Core.Path.{sym}
+use mathlib.Core.Path.{sym, refl}
 use native.Mathlib.Omega.{arith}
-use Rattle.memory.specs.Laws.{zeros-length, zeros-at}
+use Rattle.layout.specs.Layout.{PIECES-LEN, STORE-LEN, SCRATCH-LEN}
+use Rattle.memory.specs.Laws.{zeros-length}
+use Rattle.frame.specs.Frame.{zeros-scratch}
 use borrow.Author.Needs.{needs}
 use Rattle.relocate_scratch.proofs.relocate_scratch.Statement.{statement}
 use Rattle.relocate_scratch.proofs.relocate_scratch.Tie as tie
@@ -13,26 +15,26 @@ array-borrow-prefix-t c = search needs
 
 slice-aggregate-relocate-by : tie.Need-slice-aggregate-relocate-by
 slice-aggregate-relocate-by c =
-    sym (zeros-length 6192 6192 (omega arith))
+    sym (zeros-length SCRATCH-LEN SCRATCH-LEN (omega arith))
 
 array-borrow-prefix-p : tie.Need-array-borrow-prefix-p
 array-borrow-prefix-p c = search needs
 
 slice-aggregate-relocate-by-2 : tie.Need-slice-aggregate-relocate-by-2
 slice-aggregate-relocate-by-2 c =
-    sym (zeros-length 4096 4096 (omega arith))
+    sym (zeros-length PIECES-LEN PIECES-LEN (omega arith))
 
 array-borrow-prefix-s : tie.Need-array-borrow-prefix-s
 array-borrow-prefix-s c = search needs
 
 slice-aggregate-relocate-by-3 : tie.Need-slice-aggregate-relocate-by-3
 slice-aggregate-relocate-by-3 c =
-    sym (zeros-length 32768 32768 (omega arith))
+    sym (zeros-length STORE-LEN STORE-LEN (omega arith))
 
 relocate-by-requires : tie.Need-relocate-by-requires
 relocate-by-requires c κs =
     let start = c .before .before .before .before .before .before .before .before .before .before in
-    (start .pre .0, (record { chunks = zeros-length 6192 6192 (omega arith); clear = zeros-at 6192 6192; pieces = rw (zeros-length 4096 4096 (omega arith)) (omega arith); store = rw (zeros-length 32768 32768 (omega arith)) (omega arith) }, start .pre .1))
+    (start .pre .0, (zeros-scratch SCRATCH-LEN PIECES-LEN STORE-LEN refl (omega arith) (omega arith), start .pre .1))
 
 same-length : tie.Need-same-length
 same-length c = search needs

@@ -44,7 +44,7 @@ part-result-end : tie.Need-part-result-end
 part-result-end c = search needs
 
 returns : tie.Need-returns
-returns c = rw (add-sub-cancel-left, c .before .before .before .wide .ensures, c .before .wide2 .ensures)
+returns c = rw (add-sub-cancel-left, c .before .before .before .wide .ensures .0, c .before .wide2 .ensures .0)
 
 pub text-of-spec : {M : Type 1} → statement M
 text-of-spec =

@@ -11,9 +11,6 @@ text-start-requires c κs = search needs
 returns : tie.Need-returns
 returns c = replacement-none _ _ (marks-bits _) (sym (c .before .text-start .ensures .0) ∙ c .if1 .taken)
 
-add-word : tie.Need-add-word
-add-word c = search needs
-
 word-requires : tie.Need-word-requires
 word-requires c κs = search needs
 
@@ -33,7 +30,6 @@ mark-replacement-spec =
     (tie.spec
     text-start-requires
     returns
-    add-word
     word-requires
     mark-text-requires
     same-length

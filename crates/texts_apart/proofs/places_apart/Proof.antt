@@ -2,6 +2,7 @@ use mathlib.Core.Path.{refl, sym}
 use Prim.Native.Nat.{_/_}
 use native.Mathlib.Omega.{arith}
 use lib.ListN.{length}
+use Rattle.layout.specs.Layout.{PIECE-ROWS}
 use Rattle.counts.specs.Sums.{zeros-length}
 use Rattle.texts_apart.proofs.Places.{fresh-marks, fresh-clear}
 use borrow.Author.Needs.{needs}
@@ -14,7 +15,7 @@ array-borrow-prefix-rows c = search needs
 slice-aggregate-places-by : tie.Need-slice-aggregate-places-by
 slice-aggregate-places-by c =
     let start = c .before .before .before in
-    sym (zeros-length 2048 _ (omega (arith, start .pre .1 .0)))
+    sym (zeros-length PIECE-ROWS _ (omega (arith, start .pre .1 .0)))
 
 slice-aggregate-places-by-2 : tie.Need-slice-aggregate-places-by-2
 slice-aggregate-places-by-2 c = search needs

@@ -1,6 +1,8 @@
-use mathlib.Core.Path.{sym}
+use mathlib.Core.Path.{sym, refl}
 use native.Mathlib.Omega.{arith}
-use Rattle.memory.specs.Laws.{zeros-length, zeros-at}
+use Rattle.layout.specs.Layout.{SCRATCH-LEN, TRIM-PIECES-LEN, TRIM-STORE-LEN}
+use Rattle.memory.specs.Laws.{zeros-length}
+use Rattle.frame.specs.Frame.{zeros-scratch}
 use borrow.Author.Needs.{needs}
 use Rattle.trim_scratch.proofs.trim_scratch.Statement.{statement}
 use Rattle.trim_scratch.proofs.trim_scratch.Tie as tie
@@ -9,27 +11,27 @@ array-borrow-prefix-t : tie.Need-array-borrow-prefix-t
 array-borrow-prefix-t c = search needs
 
 slice-aggregate-trim-by : tie.Need-slice-aggregate-trim-by
-slice-aggregate-trim-by c = sym (zeros-length 6192 6192 (omega arith))
+slice-aggregate-trim-by c = sym (zeros-length SCRATCH-LEN SCRATCH-LEN (omega arith))
 
 array-borrow-prefix-p : tie.Need-array-borrow-prefix-p
 array-borrow-prefix-p c = search needs
 
 slice-aggregate-trim-by-2 : tie.Need-slice-aggregate-trim-by-2
-slice-aggregate-trim-by-2 c = sym (zeros-length 8192 8192 (omega arith))
+slice-aggregate-trim-by-2 c = sym (zeros-length TRIM-PIECES-LEN TRIM-PIECES-LEN (omega arith))
 
 array-borrow-prefix-s : tie.Need-array-borrow-prefix-s
 array-borrow-prefix-s c = search needs
 
 slice-aggregate-trim-by-3 : tie.Need-slice-aggregate-trim-by-3
-slice-aggregate-trim-by-3 c = sym (zeros-length 49152 49152 (omega arith))
+slice-aggregate-trim-by-3 c = sym (zeros-length TRIM-STORE-LEN TRIM-STORE-LEN (omega arith))
 
 trim-by-requires : tie.Need-trim-by-requires
 trim-by-requires c κs =
     let start = c .before .before .before .before .before .before .before .before .before .before in (
       start .pre,
       (
-        record { chunks = zeros-length 6192 6192 (omega arith); clear = zeros-at 6192 6192; pieces = rw (zeros-length 8192 8192 (omega arith)) (omega arith); store = rw (zeros-length 49152 49152 (omega arith)) (omega arith) },
-        record { pieces = zeros-length 8192 8192 (omega arith); store = zeros-length 49152 49152 (omega arith) },
+        zeros-scratch SCRATCH-LEN TRIM-PIECES-LEN TRIM-STORE-LEN refl (omega arith) (omega arith),
+        record { pieces = zeros-length TRIM-PIECES-LEN TRIM-PIECES-LEN (omega arith); store = zeros-length TRIM-STORE-LEN TRIM-STORE-LEN (omega arith) },
       ),
     )
 

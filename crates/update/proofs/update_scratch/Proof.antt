@@ -1,6 +1,7 @@
-use mathlib.Core.Path.{sym}
+use mathlib.Core.Path.{sym, refl}
 use native.Mathlib.Omega.{arith}
-use Rattle.frame.specs.Frame.{zeros-length, zeros-at}
+use Rattle.layout.specs.Layout.{PIECES-LEN, SCRATCH-LEN, UPDATE-STORE-LEN}
+use Rattle.frame.specs.Frame.{zeros-length, zeros-scratch}
 use borrow.Author.Needs.{needs}
 use Rattle.update.proofs.update_scratch.Statement.{statement}
 use Rattle.update.proofs.update_scratch.Tie as tie
@@ -10,26 +11,27 @@ array-borrow-prefix-t c = search needs
 
 slice-aggregate-update-by : tie.Need-slice-aggregate-update-by
 slice-aggregate-update-by c =
-    sym (zeros-length 6192 6192 (omega arith))
+    sym (zeros-length SCRATCH-LEN SCRATCH-LEN (omega arith))
 
 array-borrow-prefix-p : tie.Need-array-borrow-prefix-p
 array-borrow-prefix-p c = search needs
 
 slice-aggregate-update-by-2 : tie.Need-slice-aggregate-update-by-2
 slice-aggregate-update-by-2 c =
-    sym (zeros-length 4096 4096 (omega arith))
+    sym (zeros-length PIECES-LEN PIECES-LEN (omega arith))
 
 array-borrow-prefix-s : tie.Need-array-borrow-prefix-s
 array-borrow-prefix-s c = search needs
 
 slice-aggregate-update-by-3 : tie.Need-slice-aggregate-update-by-3
 slice-aggregate-update-by-3 c =
-    sym (zeros-length 65536 65536 (omega arith))
+    sym (zeros-length UPDATE-STORE-LEN UPDATE-STORE-LEN (omega arith))
 
 update-by-requires : tie.Need-update-by-requires
 update-by-requires c κs =
     let start = c .before .before .before .before .before .before .before .before .before .before .before in
-    (start .pre .0, (record { scratch = record { chunks = zeros-length 6192 6192 (omega arith); clear = zeros-at 6192 6192; pieces = rw (zeros-length 4096 4096 (omega arith)) (omega arith); store = rw (zeros-length 65536 65536 (omega arith)) (omega arith) }; store = zeros-length 65536 65536 (omega arith) }, start .pre .1))
+    let long = zeros-length UPDATE-STORE-LEN UPDATE-STORE-LEN (omega arith) in
+    (start .pre .0, (record { scratch = zeros-scratch SCRATCH-LEN PIECES-LEN UPDATE-STORE-LEN refl (omega arith) (omega arith); store = long }, start .pre .1))
 
 same-length : tie.Need-same-length
 same-length c = search needs

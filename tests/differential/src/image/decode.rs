@@ -22,7 +22,7 @@ pub fn decode(source: &[u8], chunks: &[u32], pieces: &[u32], store: &[u8]) -> De
     chunks: Vec::with_capacity(word(0, START)),
   };
   let mut row = word(0, NEXT);
-  while row != 0 {
+  while row != LIST_END as usize {
     let replaced = chunks[row * ROW + TEXT_AT] != NONE;
     desk.chunks.push(ChunkData {
       start: word(row, START) as u32,
