@@ -9,9 +9,9 @@ use Rattle.utf8.specs.Chars.{All}
 use Rattle.model.specs.Text.{sum}
 use Rattle.model.specs.MagicString.{MagicString, to-string}
 use Rattle.model.specs.Limits.{Limits, piece-count, byte-count}
-use Rattle.model.specs.Call.{Edit, remove, update-with, reset, append-left, append-right, prepend-left, prepend-right, append, prepend, relocate, trim, trim-start, trim-end, trim-lines, indent-with, texts, positions, run, Call, Shown, perform}
+use Rattle.model.specs.Call.{Edit, remove, update-with, reset, append-left, append-right, prepend-left, prepend-right, append, prepend, relocate, trim, trim-start, trim-end}
+use Rattle.model.specs.Call.{trim-lines, indent-with, texts, positions, run, Call, Shown, perform, listed}
 use Rattle.model.specs.WellFormed.{WellFormed}
-use Rattle.closed_forms.specs.Plan.{listed}
 
 -- ── lists ──
 module _ {A : Type 0} where
@@ -148,9 +148,9 @@ new-bytes e = sum length (texts e)
 
 -- "Space for L: D's chunks + 3 × calls ≤ 512; D's pieces + insertions .. ≤ 1,024; D's store bytes + all texts in L ≤ 32,768"
 pub record Space (k : Limits) (m : MagicString) (L : List Edit) : Type 0 where
-  pub chunks : length (m .chunks) + most-cuts L ≤ k .chunks
-  pub pieces : piece-count m + sum new-pieces L ≤ k .pieces
-  pub bytes : byte-count m + sum new-bytes L ≤ k .bytes
+  pub chunks : length (m .chunks) + most-cuts L ≤ k .most-chunks
+  pub pieces : piece-count m + sum new-pieces L ≤ k .most-pieces
+  pub bytes : byte-count m + sum new-bytes L ≤ k .most-bytes
 
 -- ── the premises ──
 -- no byte, nor head nor tail, is reached by both

@@ -1,12 +1,4 @@
 pub mod Claim
-pub mod Acts
-pub mod Moves
-pub mod Pair
-pub mod SpaceLaws
-pub mod Bridge
-pub mod Kept
-pub mod Run
-pub mod Theorem
 pub mod Tests
 pub mod Decide
 pub mod Example

@@ -1,25 +1,13 @@
 -- What each premise is for: a list of two edits that breaks it, and what the list's two orders then do. By computation. docs/ANY-ORDER.md has the same table in words.
 use Prim.Native.Nat.{ℕ, suc}
-use mathlib.Core.Path.{_≡_, refl}
 use mathlib.Core.Bool.{Bool, true, cond}
-use mathlib.Core.List.{List, [], _∷_, _++_, map, flatten, reverse}
+use mathlib.Core.List.{List, [], _∷_, _++_, reverse}
 use lib.Dec.{ltb}
 use lib.ListN.{length, replicate}
-use Rattle.utf8.specs.Rfc3629.{scalar, sequence, decodeAt, wholeFrom, utf8, between}
-use Rattle.utf8.specs.Chars.{toFirst, chars, code}
-use Rattle.utf8.specs.WhiteSpace.{whiteSpace}
-use Rattle.model.specs.Text.{Text, all, trim-start-matches, trim-end-matches}
-use Rattle.model.specs.Chunk.{contains}
-use Rattle.model.specs.MagicString.{MagicString, new, split-at, by-end-mut, by-start-mut, to-string}
-use Rattle.model.specs.Update.{update-chunks}
-use Rattle.model.specs.Update as update-rs
-use Rattle.model.specs.Movement.{change-range}
-use Rattle.model.specs.Movement as movement-rs
-use Rattle.model.specs.Trim.{trim-chunk-start, trim-chunk-end}
-use Rattle.model.specs.Trim as trim-rs
-use Rattle.model.specs.Limits.{full, within}
-use Rattle.model.specs.Call.{Edit, remove, update-with, append-left, append-right, append, prepend, relocate, trim, refused-before, run, judged}
-use Rattle.closed_forms.specs.Plan.{listed}
+use Rattle.model.specs.Text.{Text, all}
+use Rattle.model.specs.MagicString.{MagicString, new, to-string}
+use Rattle.model.specs.Limits.{full}
+use Rattle.model.specs.Call.{Edit, remove, update-with, append-left, append-right, append, prepend, relocate, trim, run, listed}
 use Rattle.any_order.specs.Claim.{after}
 use Rattle.any_order.specs.Tests.{is-wide, all-within, all-apart, one-move, moves-free, each-alone, has-space}
 
@@ -132,7 +120,3 @@ rows =
     row (a ∷ []) [] (prepend many ∷ append many ∷ []) (9 ∷ [])
     (left (0 ∷ 13 ∷ []) (many ++ (a ∷ [])))
     (left (0 ∷ 13 ∷ []) (a ∷ many)) ∷ []
-
-pub needed : map computed rows ≡ rows
-unfolding flatten scalar sequence decodeAt wholeFrom utf8 between toFirst chars code whiteSpace trim-start-matches trim-end-matches contains split-at by-end-mut by-start-mut to-string update-chunks update-rs.update-with change-range movement-rs.remove movement-rs.relocate trim-chunk-start trim-chunk-end trim-rs.trim-start trim-rs.trim-end within judged refused-before run each-alone has-space rows
-needed = refl

@@ -1,4 +1,4 @@
--- The premises on a list of edits as computed tests. specs/Decide.antt has the law that they are exactly the premises of specs/Claim.antt.
+-- The premises on a list of edits as computed tests. proofs/Decide.antt has the law that they are exactly the premises of Claim.antt.
 use Prim.Native.Nat.{ℕ, zero, suc, _+_}
 use mathlib.Core.Bool.{Bool, true, false, _&&_, _||_, not, cond}
 use mathlib.Core.List.{List, [], _∷_}
@@ -7,8 +7,8 @@ use lib.ListN.{length}
 use Rattle.model.specs.Text.{all, sum}
 use Rattle.model.specs.MagicString.{MagicString}
 use Rattle.model.specs.Limits.{Limits, piece-count, byte-count}
-use Rattle.model.specs.Call.{Edit, remove, update-with, reset, append-left, append-right, prepend-left, prepend-right, append, prepend, relocate, trim, trim-start, trim-end, trim-lines, indent-with, positions, run}
-use Rattle.closed_forms.specs.Plan.{listed}
+use Rattle.model.specs.Call.{Edit, remove, update-with, reset, append-left, append-right, prepend-left, prepend-right, append, prepend, relocate, trim, trim-start, trim-end}
+use Rattle.model.specs.Call.{trim-lines, indent-with, positions, run, listed}
 use Rattle.any_order.specs.Claim.{most-cuts, new-pieces, new-bytes}
 
 -- every two elements, the earlier one first
@@ -140,8 +140,8 @@ each-alone k m L = all (λ e. eqb (run k e m .number) 0) L
 
 unfoldable pub has-space : Limits → MagicString → List Edit → Bool
 has-space k m L =
-    leb (length (m .chunks) + most-cuts L) (k .chunks)
-    && (leb (piece-count m + sum new-pieces L) (k .pieces) && leb (byte-count m + sum new-bytes L) (k .bytes))
+    leb (length (m .chunks) + most-cuts L) (k .most-chunks)
+    && (leb (piece-count m + sum new-pieces L) (k .most-pieces) && leb (byte-count m + sum new-bytes L) (k .most-bytes))
 
 -- all premises but that the desk is well formed
 unfoldable pub any-order-holds : Limits → MagicString → List Edit → Bool

@@ -1,1 +1,1 @@
-// The any-order rule of document 01: its premises, its statement and its proof, in specs/.
+// The any-order rule of document 01: its premises and its statement in specs/, its proof in proofs/.

@@ -10,7 +10,7 @@ use Rattle.model.specs.MagicString.{MagicString, Result, to-string}
 use Rattle.model.specs.Limits.{Limits}
 use Rattle.model.specs.Call.{Edit, Report, DeskCall, on-desk, Shown, run, show, perform}
 use Rattle.model.specs.Call as call
-use Rattle.memory.specs.Laws.{full-as, limits-as}
+use Rattle.memory.proofs.Desks.{full-as, limits-as}
 use Rattle.memory.specs.Calls.{Ran, Told}
 use Rattle.any_order.specs.Claim.{AllAccepted, after, shown}
 use Rattle.any_order_exported.specs.Runs.{Tables, Holds, deskOf, limits, Answer, EditRun, Seen, LaterRun}

@@ -1,13 +1,13 @@
--- The any-order rule of the exported functions. Assumes nothing.
+-- The any-order rule of the exported functions.
 use mathlib.Core.Path.{_≡_, refl, sym, ap, _∙_, subst}
 use mathlib.Core.List.{List, _++_, map}
 use lib.ListN.{length, drop}
 use Rattle.model.specs.MagicString.{MagicString, to-string}
 use Rattle.model.specs.Limits.{Limits}
 use Rattle.model.specs.Call.{on-desk, Shown}
-use Rattle.memory.specs.Laws.{limits-full}
+use Rattle.memory.proofs.Desks.{limits-full}
 use Rattle.any_order.specs.Claim.{AllAccepted, after}
-use Rattle.any_order.specs.Theorem.{any-order}
+use Rattle.any_order.proofs.Theorem.{any-order}
 use Rattle.any_order_exported.specs.Runs.{deskOf, limits, Seen}
 use Rattle.any_order_exported.specs.Claim.{Gave, AllGave, nil, cons, FinalText, AnyOrderExported}
 use Rattle.any_order_exported.proofs.Follow.{expected, follows, gives, final-text}

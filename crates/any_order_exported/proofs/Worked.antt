@@ -4,10 +4,11 @@ use mathlib.Core.List.{List, reverse}
 use Rattle.model.specs.MagicString.{MagicString, to-string}
 use Rattle.model.specs.Limits.{Limits, full}
 use Rattle.model.specs.Call.{Edit}
-use Rattle.memory.specs.Laws.{limits-full}
+use Rattle.memory.proofs.Desks.{limits-full}
 use Rattle.any_order.specs.Claim.{Order, same, Premises, after}
-use Rattle.any_order.specs.Theorem.{order-reverse}
-use Rattle.any_order.specs.Example.{source, prepared, desk, edits, text, prepared-desk, worked, every-text}
+use Rattle.any_order.proofs.Theorem.{order-reverse}
+use Rattle.any_order.specs.Example.{source, prepared, desk, edits, text}
+use Rattle.any_order.proofs.Example.{prepared-desk, worked, every-text}
 use Rattle.any_order_exported.specs.Runs.{Holds, deskOf, limits}
 use Rattle.any_order_exported.specs.Claim.{FinalText}
 use Rattle.any_order_exported.specs.Worked.{Sitting, WorkedAlike}

@@ -1,1 +1,1 @@
-// The any-order rule for runs of the exported functions: laws, in specs/.
+// The any-order rule for runs of the exported functions: its statement in specs/, its proof in proofs/.

@@ -8,7 +8,8 @@ ghost use Rattle.utf8.specs.Rfc3629.{utf8, between};
 ghost use Rattle.model.specs.Text.{all};
 ghost use Rattle.model.specs.Call.{indent-with, options-valid};
 ghost use Rattle.memory_used.specs.Above.{Above, Desk, Leaves};
-ghost use Rattle.indent.specs.Call.{indentor-of, IndentScratch, IndentRan};
+ghost use Rattle.memory.specs.Calls.{indentor-of};
+ghost use Rattle.indent.specs.Call.{IndentScratch, IndentRan};
 use memory_used::Outcome;
 use memory_used::Used;
 
@@ -46,12 +47,12 @@ fn indent_by(
         (now (chunks .exit)) (now (pieces .exit)) (now (store .exit)) (o .number)
         × Above (now (chunks .exit)) (now (pieces .exit)) (now (store .exit)) (o .used) ⌝ }
 {
-    frame::load(chunks, pieces, store, t, p, s);
+    edit_scratch::load(chunks, pieces, store, t, p, s);
     let r = indent_steps::indent_steps(source, pieces, store, t, p, s, indentor, exclude);
     if r == 13 {
         return Outcome { number: 13, used };
     }
-    on_top::finish(t, p, s, chunks, pieces, store, r)
+    edit_room_above::finish(t, p, s, chunks, pieces, store, r)
 }
 
 // The call past its tests, by an indentor.
@@ -106,9 +107,9 @@ fn guessed_in(
     ensures { λ o. ⌜ Leaves (indent-with none (now (exclude .entry))) (now (source .entry)) (now (chunks .entry)) (now (pieces .entry)) (now (store .entry))
         (now (chunks .exit)) (now (pieces .exit)) (now (store .exit)) o ⌝ }
 {
-    let g = indent_string::guess_indentor(source);
-    let n = indent_string::indentor_len(g) as usize;
-    indent_string::put_indentor(out, g);
+    let g = report_indent_string::guess_indentor(source);
+    let n = report_indent_string::indentor_len(g) as usize;
+    report_indent_string::put_indentor(out, g);
     indent_tables(source, chunks, pieces, store, &out[..n], exclude, used)
 }
 
@@ -179,7 +180,8 @@ pub fn indent_with(
     used: Used,
 ) -> Outcome
     requires { ⌜ Desk (now source) (now chunks) (now pieces) (now store) used ⌝ }
-    ensures { λ o. ⌜ Leaves (indent-with (indentor-of «has_indentor» (now (indentor .entry))) (now (exclude .entry))) (now (source .entry)) (now (chunks .entry)) (now (pieces .entry)) (now (store .entry))
+    ensures { λ o. ⌜ Leaves (indent-with (indentor-of «has_indentor» (now (indentor .entry))) (now (exclude .entry))) (now (source .entry))
+        (now (chunks .entry)) (now (pieces .entry)) (now (store .entry))
         (now (chunks .exit)) (now (pieces .exit)) (now (store .exit)) o ⌝ }
 {
     if exclude.len() % 2 != 0 {

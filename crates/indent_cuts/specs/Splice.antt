@@ -1,18 +1,16 @@
 -- Row i of the list replaced by rows with other entries, at its place: a row written anew, a row cut in two, and cuts one after another.
--- Assumes nothing.
-use mathlib.Core.Path.{_≡_, refl, sym, ap, ap₂, _∙_, subst}
-use mathlib.Core.List.{List, [], _∷_, _++_, map, append-assoc}
+use mathlib.Core.Path.{_≡_}
+use mathlib.Core.List.{List, _∷_, _++_, map}
 use Prim.Native.Nat.{ℕ, _+_, _≤_, _<_}
-use native.Mathlib.Omega.{arith}
-use lib.ListN.{length, length-append}
-use Rattle.layout.specs.Layout.{PIECE-ROWS}
-use Rattle.table.specs.declared.Row.{Row}
-use Rattle.table.specs.Ring.{Each, each-map, each-both, Not}
-use Rattle.table.specs.Table.{rowAt, Put}
-use Rattle.table.specs.Order.{Entry, entryOf, entryAt, order, countOf, Linked, inside-at, others, ranges}
+use lib.ListN.{length}
+use Rattle.memory_layout.specs.Layout.{PIECE-ROWS}
+use Rattle.memory_table.specs.declared.Row.{Row}
+use Rattle.memory_table.specs.Ring.{Not}
+use Rattle.memory_table.specs.Table.{rowAt}
+use Rattle.memory_table.specs.Order.{Entry, entryOf, entryAt, order, countOf, Linked}
 use Rattle.memory.specs.Layout.{Place}
-use Rattle.rows.specs.Insert.{Placed, runsOf}
-use Rattle.rows.specs.Split.{first, second, map-same, map-append, RowSet, row-set, SplitRow}
+use Rattle.memory_list.specs.Insert.{runsOf}
+use Rattle.memory_list.specs.Split.{first, second}
 
 abbrev pub withIntro : Place → Entry → Entry
 withIntro r e = record { start = e .start; end = e .end; intro = r; outro = e .outro; text = e .text }
@@ -30,12 +28,6 @@ pub record Rewritten (r q : Row) (e : Entry) : Type 0 where
   pub next : q .next ≡ r .next
   pub prev : q .prev ≡ r .prev
 
--- written in its place
-pub rewritten-set : {t t' : List ℕ} {i : ℕ} {r q : Row} {e : Entry} → Linked t → Placed t i → r ≡ rowAt t i → Rewritten r q e → Put t t' i q → length t' ≡ length t → RowSet t t' i e
-rewritten-set {t} {t'} {i} {r} {q} l w er c u m =
-    subst (RowSet t t' i) (c .entry-is)
-    (row-set t t' i q l w u (c .next ∙ ap (λ (x : Row). x .next) er) (c .prev ∙ ap (λ (x : Row). x .prev) er) m)
-
 -- row i's place in the list holds the entries es
 pub record SplicedAt (t' us bs : List ℕ) (es : List Entry) : Type 0 where
   pub vs : List ℕ
@@ -50,57 +42,8 @@ pub record Spliced (t t' : List ℕ) (i : ℕ) (es : List Entry) : Type 0 where
   pub count : countOf t' + 1 ≡ countOf t + length es
   pub len : length t' ≡ length t
 
--- ---- the other rows
-kept : (t t' xs : List ℕ) (i : ℕ) → ((a : ℕ) → 0 < a → a ≤ countOf t → Not i a → entryAt t' a ≡ entryAt t a) → Each (Not i) xs → Each (λ x. (0 < x) × (x ≤ countOf t)) xs
-    → map (entryAt t') xs ≡ map (entryAt t) xs
-kept t t' xs i f n r =
-    map-same (entryAt t') (entryAt t) xs
-    (each-map (λ x. Not i x × ((0 < x) × (x ≤ countOf t))) (λ x. entryAt t' x ≡ entryAt t x) (λ x h. f x (h .1 .0) (h .1 .1) (h .0)) xs (each-both (Not i) (λ x. (0 < x) × (x ≤ countOf t)) xs n r))
-
-module _ {t t' : List ℕ} {i : ℕ} {es : List Entry} (l : Linked t) (d : Spliced t t' i es) (us bs : List ℕ) (o : order t ≡ us ++ i ∷ bs) where
-  pub spliced-before : map (entryAt t') us ≡ map (entryAt t) us
-  spliced-before = kept t t' us i (d .off) (others t us i bs l o .0) (ranges t us i bs l o .0)
-
-  pub spliced-behind : map (entryAt t') bs ≡ map (entryAt t) bs
-  spliced-behind = kept t t' bs i (d .off) (others t us i bs l o .1) (ranges t us i bs l o .1)
-
--- ---- nothing done
-pub spliced-same : (t : List ℕ) (i : ℕ) → Linked t → Spliced t t i (entryAt t i ∷ [])
-spliced-same t i l =
-    record {
-      linked = l;
-      place = λ us bs o. record { vs = i ∷ []; order-is = o; here = refl };
-      off = λ a h k n. refl;
-      desk = refl;
-      count = refl;
-      len = refl;
-    }
-
--- ---- the row written anew
-pub spliced-set : {t t' : List ℕ} {i : ℕ} {e : Entry} → RowSet t t' i e → length t' ≡ length t → Spliced t t' i (e ∷ [])
-spliced-set {t} {t'} {i} {e} r m =
-    record {
-      linked = r .linked;
-      place = λ us bs o. record { vs = i ∷ []; order-is = r .order-is ∙ o; here = ap (λ (x : Entry). x ∷ []) (r .here) };
-      off = λ a h k n. ap entryOf (r .off a n);
-      desk = r .desk;
-      count = omega (arith, r .count);
-      len = m;
-    }
-
--- and then replaced
-pub set-then : {t t1 t2 : List ℕ} {i : ℕ} {e : Entry} {es : List Entry} → RowSet t t1 i e → length t1 ≡ length t → Spliced t1 t2 i es → Spliced t t2 i es
-set-then {t} {t1} {t2} {i} r m d =
-    record {
-      linked = d .linked;
-      place = λ us bs o. d .place us bs (r .order-is ∙ o);
-      off = λ a h k n. d .off a h (omega (arith, r .count)) n ∙ ap entryOf (r .off a n);
-      desk = d .desk ∙ r .desk;
-      count = omega (arith, d .count, r .count);
-      len = d .len ∙ m;
-    }
-
 -- ---- the row cut at q: row n, behind it, begins with the indentor
+
 pub record CutPart (t t' : List ℕ) (i n q : ℕ) : Type 0 where
   pub linked : Linked t'
   pub number : n ≡ countOf t + 1
@@ -111,135 +54,3 @@ pub record CutPart (t t' : List ℕ) (i n q : ℕ) : Type 0 where
   pub desk : runsOf (rowAt t' 0) ≡ runsOf (rowAt t 0)
   pub count : countOf t' ≡ countOf t + 1
   pub len : length t' ≡ length t
-
-pub cut-part : {t t1 t2 : List ℕ} {i n q : ℕ} → Linked t → Placed t i → n ≡ countOf t + 1 → SplitRow t t1 i q → length t1 ≡ length t → RowSet t1 t2 n (begun (entryAt t1 n)) → length t2 ≡ length t1
-    → CutPart t t2 i n q
-cut-part {t} {t1} {t2} {i} {n} {q} l w en d m r k =
-    let b = inside-at t (w .us) i (w .bs) l (w .place) in
-    record {
-      linked = r .linked;
-      number = en;
-      order-is = λ us bs o. r .order-is ∙ d .order-is us bs o ∙ ap (λ (x : ℕ). us ++ i ∷ x ∷ bs) (sym en);
-      here = ap entryOf (r .off i (λ e. omega arith)) ∙ d .here;
-      new = r .here ∙ ap begun (ap (entryAt t1) en ∙ d .new);
-      off = λ a h c x. ap entryOf (r .off a (λ e. omega arith)) ∙ d .off a (λ e. omega arith) (λ e. omega arith) x;
-      desk = r .desk ∙ d .desk;
-      count = omega (arith, r .count, d .count);
-      len = k ∙ m;
-    }
-
--- the writes that cut it
-pub cut-made : {t t1 t2 : List ℕ} {i q : ℕ} {z r x : Row} → Linked t → Placed t i → z ≡ rowAt t 0 → SplitRow t t1 i q → length t1 ≡ length t → r ≡ rowAt t1 (z .start + 1) → Rewritten r x (begun (entryOf r))
-    → Put t1 t2 (z .start + 1) x → length t2 ≡ length t1 → CutPart t t2 i (z .start + 1) q
-cut-made {t} {t1} {t2} {i} {q} {z} {r} {x} l w ez d m er c u k =
-    let en : z .start + 1 ≡ countOf t + 1 = ap (λ (y : Row). y .start + 1) ez in
-    let p : Placed t1 (z .start + 1) =
-    record {
-      us = w .us ++ i ∷ [];
-      bs = w .bs;
-      place = d .order-is (w .us) (w .bs) (w .place) ∙ ap (λ (y : ℕ). w .us ++ i ∷ y ∷ w .bs) (sym en) ∙ sym (append-assoc (w .us) (i ∷ []) ((z .start + 1) ∷ w .bs));
-    } in
-    cut-part l w en d m (rewritten-set (d .linked) p er (subst (λ (y : Entry). Rewritten r x (begun y)) (ap entryOf er) c) u k) k
-
--- the new row stands in the list
-pub cut-placed : {t t' : List ℕ} {i n q : ℕ} → CutPart t t' i n q → Placed t i → Placed t' n
-cut-placed {t} {t'} {i} {n} c w =
-    record { us = w .us ++ i ∷ []; bs = w .bs; place = c .order-is (w .us) (w .bs) (w .place) ∙ sym (append-assoc (w .us) (i ∷ []) (n ∷ w .bs)) }
-
--- and then row n replaced
-pub cut-then : {t t1 t2 : List ℕ} {i n q : ℕ} {es : List Entry} → Linked t → Placed t i → CutPart t t1 i n q → Spliced t1 t2 n es → Spliced t t2 i (first q (entryAt t i) ∷ es)
-cut-then {t} {t1} {t2} {i} {n} {q} {es} l w c d =
-    let b = inside-at t (w .us) i (w .bs) l (w .place) in
-    let e : entryAt t2 i ≡ first q (entryAt t i) = d .off i (b .0) (omega (arith, c .count)) (λ z. omega (arith, c .number)) ∙ c .here in
-    record {
-      linked = d .linked;
-      place = λ us bs o.
-          let k = d .place (us ++ i ∷ []) bs (c .order-is us bs o ∙ sym (append-assoc us (i ∷ []) (n ∷ bs))) in
-          record {
-            vs = i ∷ k .vs;
-            order-is = k .order-is ∙ append-assoc us (i ∷ []) (k .vs ++ bs);
-            here = ap₂ (λ (x : Entry) (xs : List Entry). x ∷ xs) e (k .here);
-          };
-      off = λ a h x y. d .off a h (omega (arith, c .count)) (λ z. omega (arith, c .number)) ∙ c .off a h x y;
-      desk = d .desk ∙ c .desk;
-      count = omega (arith, d .count, c .count);
-      len = d .len ∙ c .len;
-    }
-
--- ---- cuts one after another: the parts ds are done, row cur is the last part
-pub record CuttingAt (t us bs : List ℕ) (cur : ℕ) (ds : List Entry) : Type 0 where
-  pub ws : List ℕ
-  pub order-is : order t ≡ us ++ (ws ++ cur ∷ bs)
-  pub here : map (entryAt t) ws ≡ ds
-
-pub record Cutting (t₀ t : List ℕ) (i cur : ℕ) (ds : List Entry) : Type 0 where
-  pub linked : Linked t
-  pub place : (us bs : List ℕ) → order t₀ ≡ us ++ i ∷ bs → CuttingAt t us bs cur ds
-  pub off : (a : ℕ) → 0 < a → a ≤ countOf t₀ → Not i a → entryAt t a ≡ entryAt t₀ a
-  pub apart : (a : ℕ) → a ≤ countOf t₀ → Not i a → Not cur a
-  pub desk : runsOf (rowAt t 0) ≡ runsOf (rowAt t₀ 0)
-  pub count : countOf t ≡ countOf t₀ + length ds
-  pub len : length t ≡ length t₀
-
-pub cutting-none : (t : List ℕ) (i : ℕ) → Linked t → Cutting t t i i []
-cutting-none t i l =
-    record {
-      linked = l;
-      place = λ us bs o. record { ws = []; order-is = o; here = refl };
-      off = λ a h k n. refl;
-      apart = λ a k n. n;
-      desk = refl;
-      count = omega arith;
-      len = refl;
-    }
-
-pub cutting-placed : {t₀ t : List ℕ} {i cur : ℕ} {ds : List Entry} → Cutting t₀ t i cur ds → Placed t₀ i → Placed t cur
-cutting-placed {t₀} {t} {i} {cur} c w =
-    let k = c .place (w .us) (w .bs) (w .place) in
-    record { us = w .us ++ k .ws; bs = w .bs; place = k .order-is ∙ sym (append-assoc (w .us) (k .ws) (cur ∷ w .bs)) }
-
-pub cutting-more : {t₀ t t' : List ℕ} {i cur n q : ℕ} {ds : List Entry} → Cutting t₀ t i cur ds → CutPart t t' cur n q → Cutting t₀ t' i n (ds ++ first q (entryAt t cur) ∷ [])
-cutting-more {t₀} {t} {t'} {i} {cur} {n} {q} {ds} c d =
-    record {
-      linked = d .linked;
-      place = λ us bs o.
-          let k = c .place us bs o in
-          let ws = k .ws in
-          let o1 : order t ≡ (us ++ ws) ++ cur ∷ bs = k .order-is ∙ sym (append-assoc us ws (cur ∷ bs)) in
-          let h : map (entryAt t') (us ++ ws) ≡ map (entryAt t) (us ++ ws) = kept t t' (us ++ ws) cur (d .off) (others t (us ++ ws) cur bs (c .linked) o1 .0) (ranges t (us ++ ws) cur bs (c .linked) o1 .0) in
-          record {
-            ws = ws ++ cur ∷ [];
-            order-is = d .order-is (us ++ ws) bs o1 ∙ append-assoc us ws (cur ∷ n ∷ bs) ∙ ap (λ (l : List ℕ). us ++ l) (sym (append-assoc ws (cur ∷ []) (n ∷ bs)));
-            here = map-append (entryAt t') ws (cur ∷ []) ∙ ap₂ (λ (xs ys : List Entry). xs ++ ys) (right us ws h ∙ k .here) (ap (λ (x : Entry). x ∷ []) (d .here));
-          };
-      off = λ a h k x. d .off a h (omega (arith, c .count)) (c .apart a k x) ∙ c .off a h k x;
-      apart = λ a k x z. omega (arith, d .number, c .count);
-      desk = d .desk ∙ c .desk;
-      count = omega (arith, d .count, c .count, length-append ds (first q (entryAt t cur) ∷ []));
-      len = d .len ∙ c .len;
-    }
-  where
-    right : (us ws : List ℕ) → map (entryAt t') (us ++ ws) ≡ map (entryAt t) (us ++ ws) → map (entryAt t') ws ≡ map (entryAt t) ws
-    right [] ws h = h
-    right (x ∷ us) ws h = right us ws (ap rest h)
-      where
-        rest : List Entry → List Entry
-        rest [] = []
-        rest (y ∷ l) = l
-
-pub cutting-end : {t₀ t : List ℕ} {i cur : ℕ} {ds : List Entry} → Cutting t₀ t i cur ds → Spliced t₀ t i (ds ++ entryAt t cur ∷ [])
-cutting-end {t₀} {t} {i} {cur} {ds} c =
-    record {
-      linked = c .linked;
-      place = λ us bs o.
-          let k = c .place us bs o in
-          record {
-            vs = k .ws ++ cur ∷ [];
-            order-is = k .order-is ∙ ap (λ (l : List ℕ). us ++ l) (sym (append-assoc (k .ws) (cur ∷ []) bs));
-            here = map-append (entryAt t) (k .ws) (cur ∷ []) ∙ ap (λ (l : List Entry). l ++ entryAt t cur ∷ []) (k .here);
-          };
-      off = c .off;
-      desk = c .desk;
-      count = omega (arith, c .count, length-append ds (entryAt t cur ∷ []));
-      len = c .len;
-    }

@@ -4,12 +4,12 @@ ghost use mathlib.Core.Bool.{false};
 ghost use Prim.Native.Nat.{_+_, _*_, _≤_, _<_};
 ghost use lib.Dec.{leb};
 ghost use lib.ListN.{length};
-ghost use Rattle.layout.specs.Layout.{ROW, CHUNKS};
-ghost use Rattle.table.specs.Order.{Linked, entryOf, countOf};
-ghost use Rattle.rows.specs.Insert.{Placed};
+ghost use Rattle.memory_layout.specs.Layout.{ROW, CHUNKS};
+ghost use Rattle.memory_table.specs.Order.{Linked, entryOf, countOf};
+ghost use Rattle.memory_list.specs.Insert.{Placed};
 ghost use Rattle.indent_cuts.specs.Splice.{withIntro, Rewritten, CutPart};
 ghost use Rattle.indent_cuts.specs.Lines.{LinesReady, LinesDone};
-use table::Row;
+use memory_table::Row;
 
 // The row with another intro.
 pub fn with_intro(r: Row, at: u32, n: u32) -> Row
@@ -28,11 +28,11 @@ pub fn cut_part(t: &mut [u32], i: u32, q: u32) -> u32
     requires { ⌜ ((countOf (now t) + 1) * ROW + ROW ≤ length (now t)) × (length (now t) ≤ 4294967296) ⌝ }
     ensures { λ n. ⌜ CutPart (now (t .entry)) (now (t .exit)) i n q ⌝ }
 {
-    let z = table::get_row(t, 0);
+    let z = memory_table::get_row(t, 0);
     let n = z.start + 1;
-    rows::split_row(t, i, q);
-    let r = table::get_row(t, n);
-    table::put_row(t, n, with_intro(r, layout::NEW_ROW, 1));
+    memory_list::split_row(t, i, q);
+    let r = memory_table::get_row(t, n);
+    memory_table::put_row(t, n, with_intro(r, memory_layout::NEW_ROW, 1));
     n
 }
 
@@ -41,8 +41,8 @@ pub fn is_full(t: &[u32]) -> bool
     requires { ⌜ ROW ≤ length (now t) ⌝ }
     ensures { λ r. ⌜ r ≡ leb CHUNKS (countOf (now (t .entry))) ⌝ }
 {
-    let z = table::get_row(t, 0);
-    layout::LAST_ROW <= z.start
+    let z = memory_table::get_row(t, 0);
+    memory_layout::LAST_ROW <= z.start
 }
 
 // What cuts leave: 0, or 13 where there would be too many chunks; and the mark behind the chunk.
@@ -68,7 +68,7 @@ pub fn cut_lines(
     let mut at = from;
     let mut m = mark;
     while at < end {
-        let q = next_start::next_start(source, at, end, exclude, m);
+        let q = indent_line_starts::next_start(source, at, end, exclude, m);
         let x = q.at;
         if x == end {
             return Cut {

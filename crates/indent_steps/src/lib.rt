@@ -3,7 +3,7 @@ ghost use mathlib.Core.Path.{_≡_};
 ghost use mathlib.Core.Bool.{true};
 ghost use Prim.Native.Nat.{_+_, _≤_};
 ghost use lib.ListN.{length};
-ghost use Rattle.table.specs.Order.{entryAt};
+ghost use Rattle.memory_table.specs.Order.{entryAt};
 ghost use Rattle.indent_steps.specs.Rest.{RestReady, RestDone};
 ghost use Rattle.indent_steps.specs.Steps.{StepsReady, IndentSteps};
 
@@ -25,11 +25,11 @@ fn indent_rest(
     ensures { λ r. ⌜ RestDone (now (indentor .entry)) (now (exclude .entry)) (now (source .entry)) (now (pieces .entry)) (now (store .entry))
         (now (t .entry)) (now (p .entry)) (now (s .entry)) mark byte (now (t .exit)) (now (p .exit)) (now (s .exit)) r ⌝ }
 {
-    let w = indent_rows::indent_chunks(source, store, indentor, exclude, t, p, s, mark, top, byte);
+    let w = indent_chunks::indent_chunks(source, store, indentor, exclude, t, p, s, mark, top, byte);
     if w.number != 0 {
         return 13;
     }
-    let r = indent_run::indent_own(
+    let r = indent_head_tail::indent_own(
         pieces,
         store,
         t,
@@ -52,7 +52,7 @@ fn head_end(t: &[u32]) -> u32
     requires { ⌜ (12 ≤ length (now t)) × (entryAt (now t) 0 .intro .1 ≤ 1024) ⌝ }
     ensures { λ r. ⌜ r ≡ 2049 + entryAt (now (t .entry)) 0 .intro .1 ⌝ }
 {
-    let z = table::get_row(t, 0);
+    let z = memory_table::get_row(t, 0);
     2049 + z.intro_n
 }
 
@@ -72,8 +72,8 @@ pub fn indent_steps(
         (now (t .exit)) (now (p .exit)) (now (s .exit)) r ⌝ }
 {
     let top = head_end(t);
-    indent_run::lay_indentor(p, s, indentor);
-    let h = indent_run::indent_own(pieces, store, t, p, s, false, 2049, 65536, true, indentor);
+    indent_head_tail::lay_indentor(p, s, indentor);
+    let h = indent_head_tail::indent_own(pieces, store, t, p, s, false, 2049, 65536, true, indentor);
     if !h.fits {
         return 13;
     }

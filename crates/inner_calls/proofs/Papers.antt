@@ -5,9 +5,9 @@ use mathlib.Core.List.{List}
 use Rattle.memory.specs.WellFormed.{WellFormed}
 use Rattle.memory_used.specs.declared.Used.{Used}
 use Rattle.memory_used.specs.Above.{Above, Desk}
-use Rattle.well_formed.specs.declared.Seen.{Seen}
-use Rattle.well_formed.specs.declared.Seen.the-variants.{NoDesk, Desk as SeenDesk}
-use Rattle.well_formed.specs.Seen.{Sees}
+use Rattle.check_well_formed.specs.declared.Seen.{Seen}
+use Rattle.check_well_formed.specs.declared.Seen.the-variants.{NoDesk, Desk as SeenDesk}
+use Rattle.check_well_formed.specs.Seen.{Sees}
 use Rattle.inner_calls.specs.Paper.{PaperMade}
 
 -- what the check has seen

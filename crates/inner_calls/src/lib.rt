@@ -9,7 +9,7 @@ ghost use Rattle.inner_calls.specs.Paper.{PaperMade};
 use memory_used::Outcome;
 use memory_used::Used;
 use memory::Answer;
-use well_formed::Seen;
+use check_well_formed::Seen;
 
 // A call of a paper: its kind, up to three numbers, and where its text lies among the texts.
 struct Call {
@@ -41,9 +41,9 @@ fn edit_range(
 {
     let kind = k.kind;
     match kind {
-        1 => movement::remove(source, chunks, pieces, store, k.a, k.b, used),
-        2 => reset::reset(source, chunks, pieces, store, k.a, k.b, used),
-        _ => relocate::relocate(source, chunks, pieces, store, k.a, k.b, k.c, used),
+        1 => edit_remove::remove(source, chunks, pieces, store, k.a, k.b, used),
+        2 => edit_reset::reset(source, chunks, pieces, store, k.a, k.b, used),
+        _ => edit_relocate::relocate(source, chunks, pieces, store, k.a, k.b, k.c, used),
     }
 }
 
@@ -62,10 +62,10 @@ fn edit_at(
 {
     let kind = k.kind;
     match kind {
-        4 => append::append_left(source, chunks, pieces, store, k.a, text, used),
-        5 => append::append_right(source, chunks, pieces, store, k.a, text, used),
-        6 => prepend::prepend_left(source, chunks, pieces, store, k.a, text, used),
-        _ => prepend::prepend_right(source, chunks, pieces, store, k.a, text, used),
+        4 => edit_append::append_left(source, chunks, pieces, store, k.a, text, used),
+        5 => edit_append::append_right(source, chunks, pieces, store, k.a, text, used),
+        6 => edit_prepend::prepend_left(source, chunks, pieces, store, k.a, text, used),
+        _ => edit_prepend::prepend_right(source, chunks, pieces, store, k.a, text, used),
     }
 }
 
@@ -84,9 +84,9 @@ fn edit_text(
 {
     let kind = k.kind;
     match kind {
-        8 => append::append(source, chunks, pieces, store, text, used),
-        9 => prepend::prepend(source, chunks, pieces, store, text, used),
-        _ => update::update_with(
+        8 => edit_append::append(source, chunks, pieces, store, text, used),
+        9 => edit_prepend::prepend(source, chunks, pieces, store, text, used),
+        _ => edit_update::update_with(
             source,
             chunks,
             pieces,
@@ -248,8 +248,8 @@ pub extern "C" fn inner_open(
 ) -> Answer
     ensures { λ r. ⌜ (r .number ≡ 0 → WellFormed (now (source .entry)) (now (chunks .exit)) (now (pieces .exit)) (now (store .exit))) ⌝ }
 {
-    if well_formed::sized(chunks, pieces, store) {
-        let o = opening::open_with(source, chunks, pieces, store);
+    if check_well_formed::sized(chunks, pieces, store) {
+        let o = open::open_with(source, chunks, pieces, store);
         return Answer {
             number: o.number,
             value: 0,
@@ -276,7 +276,7 @@ pub extern "C" fn inner_paper(
     ensures { λ r. ⌜ PaperMade (now (source .entry)) (now (chunks .entry)) (now (pieces .entry)) (now (store .entry)) (now (numbers .entry))
         (now (chunks .exit)) (now (pieces .exit)) (now (store .exit)) (now (numbers .exit)) r ⌝ }
 {
-    let Seen::Desk(used) = well_formed::holds_desk(source, chunks, pieces, store) else {
+    let Seen::Desk(used) = check_well_formed::holds_desk(source, chunks, pieces, store) else {
         return Answer {
             number: 2,
             value: 0,

@@ -1,7 +1,7 @@
 // Opening, and the check by itself.
 ghost use mathlib.Core.Path.{_≡_};
 ghost use Rattle.memory.specs.Calls.{Opened};
-ghost use Rattle.magic_string.specs.Exported.{Checked};
+ghost use Rattle.memory.specs.Calls.{Checked};
 use memory::Answer;
 
 #[no_mangle]
@@ -14,7 +14,7 @@ pub extern "C" fn magic_string_open(
     ensures { λ r. ⌜ Opened (now (source .entry)) (now (chunks .entry)) (now (pieces .entry)) (now (store .entry))
         (now (chunks .exit)) (now (pieces .exit)) (now (store .exit)) (r .number) × (r .value ≡ 0) ⌝ }
 {
-    let number = opening::open(source, chunks, pieces, store);
+    let number = open::open(source, chunks, pieces, store);
     Answer { number, value: 0 }
 }
 
@@ -27,7 +27,7 @@ pub extern "C" fn magic_string_well_formed(
 ) -> Answer
     ensures { λ r. ⌜ Checked (now (source .entry)) (now (chunks .entry)) (now (pieces .entry)) (now (store .entry)) (r .number) × (r .value ≡ 0) ⌝ }
 {
-    if well_formed::well_formed(source, chunks, pieces, store) {
+    if check_well_formed::well_formed(source, chunks, pieces, store) {
         return Answer {
             number: 0,
             value: 0,

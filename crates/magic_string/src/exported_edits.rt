@@ -1,11 +1,12 @@
 // The calls that change a desk.
 ghost use mathlib.Core.Path.{_≡_};
-ghost use Rattle.model.specs.Call.{remove, update-with, reset, append-left, append-right, prepend-left, prepend-right, append, prepend, relocate, trim, trim-start, trim-end, trim-lines, indent-with};
+ghost use Rattle.model.specs.Call.{remove, update-with, reset, append-left, append-right, prepend-left, prepend-right, append, prepend, relocate, trim, trim-start, trim-end};
+ghost use Rattle.model.specs.Call.{trim-lines, indent-with};
 ghost use Rattle.memory.specs.Calls.{Edited};
-ghost use Rattle.indent.specs.Call.{indentor-of};
-ghost use Rattle.magic_string.specs.Exported.{flag};
+ghost use Rattle.memory.specs.Calls.{indentor-of};
+ghost use Rattle.memory.specs.Calls.{flag};
 use memory::Answer;
-use well_formed::Seen;
+use check_well_formed::Seen;
 
 // The answer for memory that holds no well-formed desk.
 const NO_DESK: u32 = 2;
@@ -22,13 +23,13 @@ pub extern "C" fn magic_string_remove(
     ensures { λ r. ⌜ Edited (remove start end) (now (source .entry)) (now (chunks .entry)) (now (pieces .entry)) (now (store .entry))
         (now (chunks .exit)) (now (pieces .exit)) (now (store .exit)) (r .number) × (r .value ≡ 0) ⌝ }
 {
-    let Seen::Desk(used) = well_formed::taken(source, chunks, pieces, store) else {
+    let Seen::Desk(used) = check_well_formed::taken(source, chunks, pieces, store) else {
         return Answer {
             number: NO_DESK,
             value: 0,
         };
     };
-    let o = movement::remove(source, chunks, pieces, store, start, end, used);
+    let o = edit_remove::remove(source, chunks, pieces, store, start, end, used);
     Answer {
         number: o.number,
         value: 0,
@@ -49,13 +50,13 @@ pub extern "C" fn magic_string_update_with(
     ensures { λ r. ⌜ Edited (update-with start end (now (text .entry)) (flag overwrite)) (now (source .entry)) (now (chunks .entry)) (now (pieces .entry)) (now (store .entry))
         (now (chunks .exit)) (now (pieces .exit)) (now (store .exit)) (r .number) × (r .value ≡ 0) ⌝ }
 {
-    let Seen::Desk(used) = well_formed::taken(source, chunks, pieces, store) else {
+    let Seen::Desk(used) = check_well_formed::taken(source, chunks, pieces, store) else {
         return Answer {
             number: NO_DESK,
             value: 0,
         };
     };
-    let o = update::update_with(
+    let o = edit_update::update_with(
         source,
         chunks,
         pieces,
@@ -84,13 +85,13 @@ pub extern "C" fn magic_string_reset(
     ensures { λ r. ⌜ Edited (reset start end) (now (source .entry)) (now (chunks .entry)) (now (pieces .entry)) (now (store .entry))
         (now (chunks .exit)) (now (pieces .exit)) (now (store .exit)) (r .number) × (r .value ≡ 0) ⌝ }
 {
-    let Seen::Desk(used) = well_formed::taken(source, chunks, pieces, store) else {
+    let Seen::Desk(used) = check_well_formed::taken(source, chunks, pieces, store) else {
         return Answer {
             number: NO_DESK,
             value: 0,
         };
     };
-    let o = reset::reset(source, chunks, pieces, store, start, end, used);
+    let o = edit_reset::reset(source, chunks, pieces, store, start, end, used);
     Answer {
         number: o.number,
         value: 0,
@@ -109,13 +110,13 @@ pub extern "C" fn magic_string_append_left(
     ensures { λ r. ⌜ Edited (append-left at (now (text .entry))) (now (source .entry)) (now (chunks .entry)) (now (pieces .entry)) (now (store .entry))
         (now (chunks .exit)) (now (pieces .exit)) (now (store .exit)) (r .number) × (r .value ≡ 0) ⌝ }
 {
-    let Seen::Desk(used) = well_formed::taken(source, chunks, pieces, store) else {
+    let Seen::Desk(used) = check_well_formed::taken(source, chunks, pieces, store) else {
         return Answer {
             number: NO_DESK,
             value: 0,
         };
     };
-    let o = append::append_left(source, chunks, pieces, store, at, text, used);
+    let o = edit_append::append_left(source, chunks, pieces, store, at, text, used);
     Answer {
         number: o.number,
         value: 0,
@@ -134,13 +135,13 @@ pub extern "C" fn magic_string_append_right(
     ensures { λ r. ⌜ Edited (append-right at (now (text .entry))) (now (source .entry)) (now (chunks .entry)) (now (pieces .entry)) (now (store .entry))
         (now (chunks .exit)) (now (pieces .exit)) (now (store .exit)) (r .number) × (r .value ≡ 0) ⌝ }
 {
-    let Seen::Desk(used) = well_formed::taken(source, chunks, pieces, store) else {
+    let Seen::Desk(used) = check_well_formed::taken(source, chunks, pieces, store) else {
         return Answer {
             number: NO_DESK,
             value: 0,
         };
     };
-    let o = append::append_right(source, chunks, pieces, store, at, text, used);
+    let o = edit_append::append_right(source, chunks, pieces, store, at, text, used);
     Answer {
         number: o.number,
         value: 0,
@@ -159,13 +160,13 @@ pub extern "C" fn magic_string_prepend_left(
     ensures { λ r. ⌜ Edited (prepend-left at (now (text .entry))) (now (source .entry)) (now (chunks .entry)) (now (pieces .entry)) (now (store .entry))
         (now (chunks .exit)) (now (pieces .exit)) (now (store .exit)) (r .number) × (r .value ≡ 0) ⌝ }
 {
-    let Seen::Desk(used) = well_formed::taken(source, chunks, pieces, store) else {
+    let Seen::Desk(used) = check_well_formed::taken(source, chunks, pieces, store) else {
         return Answer {
             number: NO_DESK,
             value: 0,
         };
     };
-    let o = prepend::prepend_left(source, chunks, pieces, store, at, text, used);
+    let o = edit_prepend::prepend_left(source, chunks, pieces, store, at, text, used);
     Answer {
         number: o.number,
         value: 0,
@@ -184,13 +185,13 @@ pub extern "C" fn magic_string_prepend_right(
     ensures { λ r. ⌜ Edited (prepend-right at (now (text .entry))) (now (source .entry)) (now (chunks .entry)) (now (pieces .entry)) (now (store .entry))
         (now (chunks .exit)) (now (pieces .exit)) (now (store .exit)) (r .number) × (r .value ≡ 0) ⌝ }
 {
-    let Seen::Desk(used) = well_formed::taken(source, chunks, pieces, store) else {
+    let Seen::Desk(used) = check_well_formed::taken(source, chunks, pieces, store) else {
         return Answer {
             number: NO_DESK,
             value: 0,
         };
     };
-    let o = prepend::prepend_right(source, chunks, pieces, store, at, text, used);
+    let o = edit_prepend::prepend_right(source, chunks, pieces, store, at, text, used);
     Answer {
         number: o.number,
         value: 0,
@@ -208,13 +209,13 @@ pub extern "C" fn magic_string_append(
     ensures { λ r. ⌜ Edited (append (now (text .entry))) (now (source .entry)) (now (chunks .entry)) (now (pieces .entry)) (now (store .entry))
         (now (chunks .exit)) (now (pieces .exit)) (now (store .exit)) (r .number) × (r .value ≡ 0) ⌝ }
 {
-    let Seen::Desk(used) = well_formed::taken(source, chunks, pieces, store) else {
+    let Seen::Desk(used) = check_well_formed::taken(source, chunks, pieces, store) else {
         return Answer {
             number: NO_DESK,
             value: 0,
         };
     };
-    let o = append::append(source, chunks, pieces, store, text, used);
+    let o = edit_append::append(source, chunks, pieces, store, text, used);
     Answer {
         number: o.number,
         value: 0,
@@ -232,13 +233,13 @@ pub extern "C" fn magic_string_prepend(
     ensures { λ r. ⌜ Edited (prepend (now (text .entry))) (now (source .entry)) (now (chunks .entry)) (now (pieces .entry)) (now (store .entry))
         (now (chunks .exit)) (now (pieces .exit)) (now (store .exit)) (r .number) × (r .value ≡ 0) ⌝ }
 {
-    let Seen::Desk(used) = well_formed::taken(source, chunks, pieces, store) else {
+    let Seen::Desk(used) = check_well_formed::taken(source, chunks, pieces, store) else {
         return Answer {
             number: NO_DESK,
             value: 0,
         };
     };
-    let o = prepend::prepend(source, chunks, pieces, store, text, used);
+    let o = edit_prepend::prepend(source, chunks, pieces, store, text, used);
     Answer {
         number: o.number,
         value: 0,
@@ -258,13 +259,13 @@ pub extern "C" fn magic_string_relocate(
     ensures { λ r. ⌜ Edited (relocate start end to) (now (source .entry)) (now (chunks .entry)) (now (pieces .entry)) (now (store .entry))
         (now (chunks .exit)) (now (pieces .exit)) (now (store .exit)) (r .number) × (r .value ≡ 0) ⌝ }
 {
-    let Seen::Desk(used) = well_formed::taken(source, chunks, pieces, store) else {
+    let Seen::Desk(used) = check_well_formed::taken(source, chunks, pieces, store) else {
         return Answer {
             number: NO_DESK,
             value: 0,
         };
     };
-    let o = relocate::relocate(source, chunks, pieces, store, start, end, to, used);
+    let o = edit_relocate::relocate(source, chunks, pieces, store, start, end, to, used);
     Answer {
         number: o.number,
         value: 0,
@@ -282,7 +283,7 @@ pub extern "C" fn magic_string_trim(
     ensures { λ r. ⌜ Edited (trim pattern) (now (source .entry)) (now (chunks .entry)) (now (pieces .entry)) (now (store .entry))
         (now (chunks .exit)) (now (pieces .exit)) (now (store .exit)) (r .number) × (r .value ≡ 0) ⌝ }
 {
-    let Seen::Desk(used) = well_formed::taken(source, chunks, pieces, store) else {
+    let Seen::Desk(used) = check_well_formed::taken(source, chunks, pieces, store) else {
         return Answer {
             number: NO_DESK,
             value: 0,
@@ -306,7 +307,7 @@ pub extern "C" fn magic_string_trim_start(
     ensures { λ r. ⌜ Edited (trim-start pattern) (now (source .entry)) (now (chunks .entry)) (now (pieces .entry)) (now (store .entry))
         (now (chunks .exit)) (now (pieces .exit)) (now (store .exit)) (r .number) × (r .value ≡ 0) ⌝ }
 {
-    let Seen::Desk(used) = well_formed::taken(source, chunks, pieces, store) else {
+    let Seen::Desk(used) = check_well_formed::taken(source, chunks, pieces, store) else {
         return Answer {
             number: NO_DESK,
             value: 0,
@@ -330,7 +331,7 @@ pub extern "C" fn magic_string_trim_end(
     ensures { λ r. ⌜ Edited (trim-end pattern) (now (source .entry)) (now (chunks .entry)) (now (pieces .entry)) (now (store .entry))
         (now (chunks .exit)) (now (pieces .exit)) (now (store .exit)) (r .number) × (r .value ≡ 0) ⌝ }
 {
-    let Seen::Desk(used) = well_formed::taken(source, chunks, pieces, store) else {
+    let Seen::Desk(used) = check_well_formed::taken(source, chunks, pieces, store) else {
         return Answer {
             number: NO_DESK,
             value: 0,
@@ -353,7 +354,7 @@ pub extern "C" fn magic_string_trim_lines(
     ensures { λ r. ⌜ Edited (trim-lines) (now (source .entry)) (now (chunks .entry)) (now (pieces .entry)) (now (store .entry))
         (now (chunks .exit)) (now (pieces .exit)) (now (store .exit)) (r .number) × (r .value ≡ 0) ⌝ }
 {
-    let Seen::Desk(used) = well_formed::taken(source, chunks, pieces, store) else {
+    let Seen::Desk(used) = check_well_formed::taken(source, chunks, pieces, store) else {
         return Answer {
             number: NO_DESK,
             value: 0,
@@ -376,10 +377,11 @@ pub extern "C" fn magic_string_indent_with(
     indentor: &[u8],
     exclude: &[u32],
 ) -> Answer
-    ensures { λ r. ⌜ Edited (indent-with (indentor-of (flag «has_indentor») (now (indentor .entry))) (now (exclude .entry))) (now (source .entry)) (now (chunks .entry)) (now (pieces .entry)) (now (store .entry))
+    ensures { λ r. ⌜ Edited (indent-with (indentor-of (flag «has_indentor») (now (indentor .entry))) (now (exclude .entry))) (now (source .entry))
+        (now (chunks .entry)) (now (pieces .entry)) (now (store .entry))
         (now (chunks .exit)) (now (pieces .exit)) (now (store .exit)) (r .number) × (r .value ≡ 0) ⌝ }
 {
-    let Seen::Desk(used) = well_formed::taken(source, chunks, pieces, store) else {
+    let Seen::Desk(used) = check_well_formed::taken(source, chunks, pieces, store) else {
         return Answer {
             number: NO_DESK,
             value: 0,

@@ -1,10 +1,12 @@
 // The calls that report on a desk.
 ghost use mathlib.Core.List.{[]};
 ghost use lib.ListN.{length};
-ghost use Rattle.model.specs.Call.{to-string as ToString, slice as Slice, last-line as LastLine, get-indent-string as GetIndentString, len as Len, len-utf16 as LenUtf16, line-count as LineCount, is-empty as IsEmpty, has-changed as HasChanged, is-range-within-edited-chunk as IsRangeWithinEditedChunk, last-char as LastChar};
+ghost use Rattle.model.specs.Call.{to-string as ToString, slice as Slice, last-line as LastLine, get-indent-string as GetIndentString, len as Len, len-utf16 as LenUtf16};
+ghost use Rattle.model.specs.Call.{line-count as LineCount, is-empty as IsEmpty, has-changed as HasChanged, is-range-within-edited-chunk as IsRangeWithinEditedChunk};
+ghost use Rattle.model.specs.Call.{last-char as LastChar};
 ghost use Rattle.memory.specs.Calls.{Reported};
-ghost use Rattle.slice.specs.Walk.{endOf};
-ghost use Rattle.magic_string.specs.Exported.{flag};
+ghost use Rattle.memory.specs.Calls.{endOf};
+ghost use Rattle.memory.specs.Calls.{flag};
 use memory::Answer;
 
 #[no_mangle]
@@ -15,10 +17,11 @@ pub extern "C" fn magic_string_to_string<'a>(
     store: &'a [u8],
     out: &mut [u8],
 ) -> Answer
-    ensures { λ r. ⌜ Reported (ToString (length (now (out .entry)))) (now (source .entry)) (now (chunks .entry)) (now (pieces .entry)) (now (store .entry)) (now (out .entry)) (now (out .exit)) (r .number) (r .value) ⌝ }
+    ensures { λ r. ⌜ Reported (ToString (length (now (out .entry)))) (now (source .entry)) (now (chunks .entry)) (now (pieces .entry)) (now (store .entry))
+        (now (out .entry)) (now (out .exit)) (r .number) (r .value) ⌝ }
 {
-    if well_formed::well_formed(source, chunks, pieces, store) {
-        return reports::to_string(source, chunks, pieces, store, out);
+    if check_well_formed::well_formed(source, chunks, pieces, store) {
+        return report_output::to_string(source, chunks, pieces, store, out);
     }
     Answer {
         number: 2,
@@ -37,10 +40,11 @@ pub extern "C" fn magic_string_slice<'a>(
     end: u32,
     out: &mut [u8],
 ) -> Answer
-    ensures { λ r. ⌜ Reported (Slice start (endOf (flag «has_end») end) (length (now (out .entry)))) (now (source .entry)) (now (chunks .entry)) (now (pieces .entry)) (now (store .entry)) (now (out .entry)) (now (out .exit)) (r .number) (r .value) ⌝ }
+    ensures { λ r. ⌜ Reported (Slice start (endOf (flag «has_end») end) (length (now (out .entry)))) (now (source .entry)) (now (chunks .entry))
+        (now (pieces .entry)) (now (store .entry)) (now (out .entry)) (now (out .exit)) (r .number) (r .value) ⌝ }
 {
-    if well_formed::well_formed(source, chunks, pieces, store) {
-        return slice::slice(source, chunks, pieces, store, start, has_end != 0, end, out);
+    if check_well_formed::well_formed(source, chunks, pieces, store) {
+        return report_slice::slice(source, chunks, pieces, store, start, has_end != 0, end, out);
     }
     Answer {
         number: 2,
@@ -56,10 +60,11 @@ pub extern "C" fn magic_string_last_line<'a>(
     store: &'a [u8],
     out: &mut [u8],
 ) -> Answer
-    ensures { λ r. ⌜ Reported (LastLine (length (now (out .entry)))) (now (source .entry)) (now (chunks .entry)) (now (pieces .entry)) (now (store .entry)) (now (out .entry)) (now (out .exit)) (r .number) (r .value) ⌝ }
+    ensures { λ r. ⌜ Reported (LastLine (length (now (out .entry)))) (now (source .entry)) (now (chunks .entry)) (now (pieces .entry)) (now (store .entry))
+        (now (out .entry)) (now (out .exit)) (r .number) (r .value) ⌝ }
 {
-    if well_formed::well_formed(source, chunks, pieces, store) {
-        return last_line::last_line(source, chunks, pieces, store, out);
+    if check_well_formed::well_formed(source, chunks, pieces, store) {
+        return report_last_line::last_line(source, chunks, pieces, store, out);
     }
     Answer {
         number: 2,
@@ -75,10 +80,11 @@ pub extern "C" fn magic_string_get_indent_string<'a>(
     store: &'a [u8],
     out: &mut [u8],
 ) -> Answer
-    ensures { λ r. ⌜ Reported (GetIndentString (length (now (out .entry)))) (now (source .entry)) (now (chunks .entry)) (now (pieces .entry)) (now (store .entry)) (now (out .entry)) (now (out .exit)) (r .number) (r .value) ⌝ }
+    ensures { λ r. ⌜ Reported (GetIndentString (length (now (out .entry)))) (now (source .entry)) (now (chunks .entry)) (now (pieces .entry))
+        (now (store .entry)) (now (out .entry)) (now (out .exit)) (r .number) (r .value) ⌝ }
 {
-    if well_formed::well_formed(source, chunks, pieces, store) {
-        return indent_string::get_indent_string(source, chunks, pieces, store, out);
+    if check_well_formed::well_formed(source, chunks, pieces, store) {
+        return report_indent_string::get_indent_string(source, chunks, pieces, store, out);
     }
     Answer {
         number: 2,
@@ -95,8 +101,8 @@ pub extern "C" fn magic_string_len<'a>(
 ) -> Answer
     ensures { λ r. ⌜ Reported (Len) (now (source .entry)) (now (chunks .entry)) (now (pieces .entry)) (now (store .entry)) [] [] (r .number) (r .value) ⌝ }
 {
-    if well_formed::well_formed(source, chunks, pieces, store) {
-        return reports::len(source, chunks, pieces, store);
+    if check_well_formed::well_formed(source, chunks, pieces, store) {
+        return report_output::len(source, chunks, pieces, store);
     }
     Answer {
         number: 2,
@@ -113,8 +119,8 @@ pub extern "C" fn magic_string_len_utf16<'a>(
 ) -> Answer
     ensures { λ r. ⌜ Reported (LenUtf16) (now (source .entry)) (now (chunks .entry)) (now (pieces .entry)) (now (store .entry)) [] [] (r .number) (r .value) ⌝ }
 {
-    if well_formed::well_formed(source, chunks, pieces, store) {
-        return reports::len_utf16(source, chunks, pieces, store);
+    if check_well_formed::well_formed(source, chunks, pieces, store) {
+        return report_output::len_utf16(source, chunks, pieces, store);
     }
     Answer {
         number: 2,
@@ -131,8 +137,8 @@ pub extern "C" fn magic_string_line_count<'a>(
 ) -> Answer
     ensures { λ r. ⌜ Reported (LineCount) (now (source .entry)) (now (chunks .entry)) (now (pieces .entry)) (now (store .entry)) [] [] (r .number) (r .value) ⌝ }
 {
-    if well_formed::well_formed(source, chunks, pieces, store) {
-        return reports::line_count(source, chunks, pieces, store);
+    if check_well_formed::well_formed(source, chunks, pieces, store) {
+        return report_output::line_count(source, chunks, pieces, store);
     }
     Answer {
         number: 2,
@@ -149,8 +155,8 @@ pub extern "C" fn magic_string_is_empty<'a>(
 ) -> Answer
     ensures { λ r. ⌜ Reported (IsEmpty) (now (source .entry)) (now (chunks .entry)) (now (pieces .entry)) (now (store .entry)) [] [] (r .number) (r .value) ⌝ }
 {
-    if well_formed::well_formed(source, chunks, pieces, store) {
-        return is_empty::is_empty(source, chunks, pieces, store);
+    if check_well_formed::well_formed(source, chunks, pieces, store) {
+        return report_is_empty::is_empty(source, chunks, pieces, store);
     }
     Answer {
         number: 2,
@@ -167,8 +173,8 @@ pub extern "C" fn magic_string_has_changed<'a>(
 ) -> Answer
     ensures { λ r. ⌜ Reported (HasChanged) (now (source .entry)) (now (chunks .entry)) (now (pieces .entry)) (now (store .entry)) [] [] (r .number) (r .value) ⌝ }
 {
-    if well_formed::well_formed(source, chunks, pieces, store) {
-        return has_changed::has_changed(source, chunks, pieces, store);
+    if check_well_formed::well_formed(source, chunks, pieces, store) {
+        return report_has_changed::has_changed(source, chunks, pieces, store);
     }
     Answer {
         number: 2,
@@ -187,8 +193,8 @@ pub extern "C" fn magic_string_is_range_within_edited_chunk<'a>(
 ) -> Answer
     ensures { λ r. ⌜ Reported (IsRangeWithinEditedChunk start end) (now (source .entry)) (now (chunks .entry)) (now (pieces .entry)) (now (store .entry)) [] [] (r .number) (r .value) ⌝ }
 {
-    if well_formed::well_formed(source, chunks, pieces, store) {
-        return edited_range::is_range_within_edited_chunk(
+    if check_well_formed::well_formed(source, chunks, pieces, store) {
+        return report_edited_range::is_range_within_edited_chunk(
             source,
             chunks,
             pieces,
@@ -212,8 +218,8 @@ pub extern "C" fn magic_string_last_char<'a>(
 ) -> Answer
     ensures { λ r. ⌜ Reported (LastChar) (now (source .entry)) (now (chunks .entry)) (now (pieces .entry)) (now (store .entry)) [] [] (r .number) (r .value) ⌝ }
 {
-    if well_formed::well_formed(source, chunks, pieces, store) {
-        return last_char::last_char(source, chunks, pieces, store);
+    if check_well_formed::well_formed(source, chunks, pieces, store) {
+        return report_last_char::last_char(source, chunks, pieces, store);
     }
     Answer {
         number: 2,

@@ -1,15 +1,16 @@
 -- What an exported call promises of every input. `Edited` for the calls that change a desk, `Reported` for the reports, `Opened` for the opening.
 use Prim.Native.Nat.{ℕ}
 use mathlib.Core.Path.{_≡_}
-use mathlib.Core.Bool.{Bool, false, _&&_, not}
+use mathlib.Core.Bool.{Bool, false, _&&_, not, true, cond}
 use mathlib.Core.List.{List, [], _++_}
 use lib.Dec.{eqb}
 use lib.ListN.{length, drop}
-use Rattle.model.specs.MagicString.{MagicString, Result, new}
-use Rattle.model.specs.Call.{Edit, Report, Shown, may-change, run, show, opened}
-pub use Rattle.model.specs.Call.{idle}
+use Rattle.model.specs.MagicString.{MagicString, new}
+use Rattle.model.specs.Call.{Edit, Report, may-change, run, show, opened, idle}
 use Rattle.memory.specs.Layout.{magicStringOf}
 use Rattle.memory.specs.WellFormed.{limitsOf, Full, Lengths, WellFormed, Taken}
+use mathlib.Core.Option.{Option, none, some}
+use Rattle.model.specs.Text.{Text}
 
 -- every byte of the lent tables is as it was
 pub record Same (t p s t′ p′ s′ : List ℕ) : Type 0 where
@@ -53,3 +54,21 @@ pub record Opened (source t p s t′ p′ s′ : List ℕ) (number : ℕ) : Type
   pub desk-is : number ≡ 0 → magicStringOf source t′ p′ s′ ≡ new source
   pub well-formed : number ≡ 0 → WellFormed source t′ p′ s′
   pub refused : (number ≡ 0 → ⊥) → Same t p s t′ p′ s′
+
+-- the indentor, if one is given
+abbrev pub indentor-of : Bool → Text → Option Text
+indentor-of has t = cond has (some t) none
+
+-- an option: any number but 0 is yes
+abbrev pub flag : ℕ → Bool
+flag n = not (eqb n 0)
+
+-- the check as a call: 0 exactly if the memory holds a well-formed desk, else 2
+pub record Checked (source t p s : List ℕ) (number : ℕ) : Type 0 where
+  pub well-formed : Taken source t p s → number ≡ 0
+  pub not-well-formed : (Taken source t p s → ⊥) → number ≡ 2
+
+-- the end of a slice, given or absent
+abbrev pub endOf : Bool → ℕ → Option ℕ
+endOf true e = some e
+endOf false e = none

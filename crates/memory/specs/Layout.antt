@@ -6,9 +6,8 @@ use mathlib.Core.List.{List, [], _∷_, _++_, map}
 use mathlib.Core.Option.{Option, none, some}
 use lib.Dec.{eqb}
 use lib.ListN.{getD, take, drop}
-pub use Rattle.layout.specs.Layout.{NONE}
-use Rattle.layout.specs.Layout.{PIECE, PIECE-N}
-use Rattle.table.specs.Order.{Entry, entryAt, entries}
+use Rattle.memory_layout.specs.Layout.{NONE, PIECE, PIECE-N}
+use Rattle.memory_table.specs.Order.{Entry, entryAt, entries}
 use Rattle.model.specs.Text.{Text}
 use Rattle.model.specs.Chunk.{Chunk, Texts, chunk-of}
 use Rattle.model.specs.MagicString.{MagicString}

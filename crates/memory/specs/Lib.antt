@@ -1,4 +1,3 @@
 pub mod Layout
 pub mod WellFormed
 pub mod Calls
-pub mod Laws

@@ -2,23 +2,23 @@
 -- characters and no empty span (but one span 0 to 0 for an empty source), one list, linked both ways, holds every chunk once, no piece stands in two lists or twice
 -- in one, every text lies inside the store, and no store byte belongs to two texts."
 -- A word that means nothing is not looked at: the first row of an empty piece list, `text_n` beside NONE, row 0's end and replacement, spare words, rows past the count.
-use Prim.Native.Nat.{ℕ, zero, suc, _+_, _-_, _*_, _/_, _%_, _≤_, _<_}
+use Prim.Native.Nat.{ℕ, _+_, _-_, _*_, _/_, _%_, _≤_, _<_}
 use mathlib.Core.Path.{_≡_}
 use mathlib.Core.Bool.{_&&_, cond}
-use mathlib.Core.List.{List, [], _∷_}
+use mathlib.Core.List.{List}
 use lib.Dec.{ltb, leb, eqb}
 use lib.ListN.{length}
-use Rattle.layout.specs.Layout.{ROW, PIECE, CHUNKS-LEN, CHUNKS-LEAST, PIECE-ROOM, PIECES-LEN, STORE-LEN}
+use Rattle.memory_layout.specs.Layout.{ROW, PIECE, CHUNKS-LEN, CHUNKS-LEAST, PIECE-ROOM, PIECES-LEN, STORE-LEN, NONE}
 use Rattle.utf8.specs.Chars.{All}
-use Rattle.table.specs.Order.{Entry, entryAt, entries, order, countOf, Linked}
+use Rattle.memory_table.specs.Order.{Entry, entryAt, entries, order, countOf, Linked}
 use Rattle.model.specs.Text.{sum}
 use Rattle.model.specs.Limits.{Limits, full}
 use Rattle.model.specs.WellFormed as model
-use Rattle.memory.specs.Layout.{NONE, Place, pieceAt, tabulate, magicStringOf}
+use Rattle.memory.specs.Layout.{Place, pieceAt, tabulate, magicStringOf}
 
 -- the limits of a desk in tables of these lengths: a chunk for each row but the first, a piece for each two rows, a byte for each of the store
 abbrev pub limitsBy : ℕ → ℕ → ℕ → Limits
-limitsBy c p b = record { source = full .source; chunks = c; pieces = p; bytes = b }
+limitsBy c p b = record { most-source = full .most-source; most-chunks = c; most-pieces = p; most-bytes = b }
 
 abbrev pub limitsOf : List ℕ → List ℕ → List ℕ → Limits
 limitsOf t p s = limitsBy (length t / ROW - 1) (length p / PIECE-ROOM) (length s)

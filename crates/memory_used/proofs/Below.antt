@@ -6,8 +6,9 @@ use native.Mathlib.Omega.{arith}
 use lib.ListN.{length, getD, take}
 use lib.Seq.{length-take-le, getD-take}
 use Rattle.utf8.specs.Chars.{All, nil, cons}
-use Rattle.table.specs.Order.{Entry}
-use Rattle.memory.specs.Layout.{NONE, Place, pieceAt}
+use Rattle.memory_table.specs.Order.{Entry}
+use Rattle.memory_layout.specs.Layout.{NONE}
+use Rattle.memory.specs.Layout.{Place, pieceAt}
 use Rattle.memory.specs.WellFormed.{RunIn, ReplacementIn, EntryIn}
 use Rattle.memory_used.specs.Below.{Below, EntryBelow}
 

@@ -2,7 +2,7 @@
 use Prim.Native.Nat.{ℕ, _*_, _/_, _≤_}
 use mathlib.Core.List.{List, []}
 use lib.ListN.{length, take}
-use Rattle.layout.specs.Layout.{PIECE-ROOM}
+use Rattle.memory_layout.specs.Layout.{PIECE-ROOM}
 use Rattle.model.specs.Limits.{piece-count}
 use Rattle.model.specs.Call.{Edit}
 use Rattle.memory.specs.Layout.{magicStringOf}

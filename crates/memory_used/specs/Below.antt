@@ -2,8 +2,9 @@
 use mathlib.Core.Path.{_≡_}
 use mathlib.Core.List.{List}
 use Prim.Native.Nat.{ℕ, _+_, _≤_, _<_}
-use Rattle.table.specs.Order.{Entry}
-use Rattle.memory.specs.Layout.{NONE, Place, pieceAt}
+use Rattle.memory_table.specs.Order.{Entry}
+use Rattle.memory_layout.specs.Layout.{NONE}
+use Rattle.memory.specs.Layout.{Place, pieceAt}
 
 -- a run of rows below a row, whose texts end at or before a byte
 abbrev pub Below : List ℕ → ℕ → ℕ → Place → Type 0

@@ -260,7 +260,7 @@ report-numbers last-char = []
 -- ── opening: "13 for the source's length, then 1" ──
 unfoldable pub opened : Limits → Text → MagicString → Result
 opened k source before =
-    cond (not (leb (length source) (k .source))) (err 13 before)
+    cond (not (leb (length source) (k .most-source))) (err 13 before)
     (cond (not (utf8 source)) (err 1 before)
     (ok (new source)))
 
@@ -283,3 +283,21 @@ unfoldable pub perform : Limits → Call → MagicString → Outcome
 perform k («open» source) m = changed (opened k source m)
 perform k (on-desk (change e)) m = changed (run k e m)
 perform k (on-desk (report q)) m = record { shown = show q m; desk = m }
+
+-- "The edits of L are `remove`, `update_with`, `reset`, the left and right insertions at front or back, `prepend`, `append` and `relocate`"
+abbrev pub listed : Edit → Bool
+listed (remove a b) = true
+listed (update-with a b t o) = true
+listed (reset a b) = true
+listed (append-left p t) = true
+listed (append-right p t) = true
+listed (prepend-left p t) = true
+listed (prepend-right p t) = true
+listed (append t) = true
+listed (prepend t) = true
+listed (relocate a b to) = true
+listed (trim p) = false
+listed (trim-start p) = false
+listed (trim-end p) = false
+listed trim-lines = false
+listed (indent-with i l) = false

@@ -5,7 +5,7 @@ use mathlib.Core.List.{List, [], _∷_, _++_}
 use mathlib.Core.Option.{Option, none, some}
 use lib.Dec.{ltb, leb, eqb}
 use lib.ListN.{length, getD, replicate}
-use Rattle.utf8.specs.Chars.{chars, concat}
+use Rattle.utf8.specs.Chars.{chars}
 use Rattle.model.specs.Text.{Text, TAB, LF, CR, SPACE, is-nil, unwrap-or, same, lines}
 use Rattle.model.specs.Chunk.{Chunk, start-of, span-text, edit}
 use Rattle.model.specs.MagicString.{MagicString, Result, ok, and-then, with-chunks, with-intro, with-outro, at-start}

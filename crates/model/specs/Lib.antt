@@ -12,5 +12,3 @@ pub mod Indent
 pub mod Limits
 pub mod Call
 pub mod WellFormed
-pub mod Lists
-pub mod Spans

@@ -1,7 +1,6 @@
 -- Document 01's desk limits, and what of a desk they count.
 use Prim.Native.Nat.{ℕ, _+_}
-use mathlib.Core.Bool.{Bool, _&&_, cond}
-use mathlib.Core.List.{List, [], _∷_}
+use mathlib.Core.Bool.{Bool, _&&_}
 use mathlib.Core.Option.{Option, none, some}
 use lib.Dec.{leb}
 use lib.ListN.{length}
@@ -11,14 +10,14 @@ use Rattle.model.specs.MagicString.{MagicString}
 
 -- a parameter everywhere
 pub record Limits : Type 0 where
-  pub source : ℕ
-  pub chunks : ℕ
-  pub pieces : ℕ
-  pub bytes : ℕ
+  pub most-source : ℕ
+  pub most-chunks : ℕ
+  pub most-pieces : ℕ
+  pub most-bytes : ℕ
 
 -- "source 16,384; chunks 512; head, tail, intro and outro pieces together 1,024, empty ones counted; bytes in pieces and replacements together 32,768 (the store)"
 abbrev pub full : Limits
-full = record { source = 16384; chunks = 512; pieces = 1024; bytes = 32768 }
+full = record { most-source = 16384; most-chunks = 512; most-pieces = 1024; most-bytes = 32768 }
 
 abbrev pub chunk-pieces : Chunk → ℕ
 chunk-pieces c = length (c .texts .intro) + length (c .texts .outro)
@@ -40,5 +39,5 @@ byte-count m = (sum length (m .intro) + sum length (m .outro)) + sum chunk-bytes
 -- "These are counts of what the desk now holds"
 unfoldable pub within : Limits → MagicString → Bool
 within k m =
-    leb (length (m .source)) (k .source)
-    && (leb (length (m .chunks)) (k .chunks) && (leb (piece-count m) (k .pieces) && leb (byte-count m) (k .bytes)))
+    leb (length (m .source)) (k .most-source)
+    && (leb (length (m .chunks)) (k .most-chunks) && (leb (piece-count m) (k .most-pieces) && leb (byte-count m) (k .most-bytes)))

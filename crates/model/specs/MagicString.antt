@@ -1,9 +1,9 @@
 -- mod.rs: a desk, what it shows, and `split_at`.
 use Prim.Native.Nat.{ℕ, zero, suc, _+_}
 use mathlib.Core.Bool.{Bool, true, false, _&&_, _||_, not, cond}
-use mathlib.Core.List.{List, [], _∷_, _++_, map, reverse}
+use mathlib.Core.List.{List, [], _∷_, _++_, reverse}
 use mathlib.Core.Option.{Option, none, some}
-use lib.Dec.{ltb, leb, eqb}
+use lib.Dec.{leb, eqb}
 use lib.ListN.{length}
 use Rattle.utf8.specs.Chars.{chars, concat, code, utf16Width}
 use Rattle.model.specs.Text.{Text, same, is-nil, is-some, back, any, all, sum, trim-white-space, behind-last-line-feed, line-feeds}

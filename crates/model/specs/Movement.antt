@@ -5,7 +5,6 @@ use mathlib.Core.List.{List, [], _∷_, _++_}
 use mathlib.Core.Option.{Option, none, some}
 use lib.Dec.{ltb, leb, eqb}
 use lib.ListN.{length}
-use Rattle.model.specs.Text.{Text}
 use Rattle.model.specs.Chunk.{Chunk, Texts, start-of, end-of, edit}
 use Rattle.model.specs.MagicString.{MagicString, Result, ok, err, and-then, with-chunks, by-start, at-start, split-at}
 

@@ -1,6 +1,6 @@
 -- prepend.rs: as append.rs, at the front of the piece lists.
 use Prim.Native.Nat.{ℕ}
-use mathlib.Core.List.{List, [], _∷_}
+use mathlib.Core.List.{List, _∷_}
 use Rattle.model.specs.Text.{Text}
 use Rattle.model.specs.Chunk.{prepend-intro, prepend-outro}
 use Rattle.model.specs.MagicString.{MagicString, Result, ok, with-intro, by-start-mut, by-end-mut}

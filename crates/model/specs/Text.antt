@@ -1,10 +1,10 @@
 -- Texts, and what the crate uses of Rust's `str` and `VecDeque`. A name that Rust writes with `_` has `-` here.
-use Prim.Native.Nat.{ℕ, zero, suc, _+_, _-_}
+use Prim.Native.Nat.{ℕ, _+_, _-_}
 use mathlib.Core.Bool.{Bool, true, false, _&&_, _||_, cond}
-use mathlib.Core.List.{List, [], _∷_, _++_, map, reverse}
+use mathlib.Core.List.{List, [], _∷_, _++_, reverse}
 use mathlib.Core.Option.{Option, none, some}
 use lib.Dec.{eqb}
-use lib.ListN.{length, getD, take, drop}
+use lib.ListN.{getD, take, drop}
 use Rattle.utf8.specs.WhiteSpace.{whiteSpace}
 use Rattle.utf8.specs.Chars.{chars, concat, code}
 

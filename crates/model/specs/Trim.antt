@@ -1,13 +1,13 @@
 -- trim.rs: white space, or line ends, taken off piece by piece.
 use Prim.Native.Nat.{ℕ, zero, suc}
 use mathlib.Core.Bool.{Bool, true, false, _||_, cond}
-use mathlib.Core.List.{List, [], _∷_, _++_, reverse}
-use mathlib.Core.Option.{Option, none, some}
+use mathlib.Core.List.{List, [], _∷_, reverse}
+use mathlib.Core.Option.{Option, some}
 use lib.Dec.{eqb}
 use lib.ListN.{length}
 use Rattle.utf8.specs.WhiteSpace.{whiteSpace}
 use Rattle.model.specs.Text.{Text, LF, CR, is-nil, trim-start-matches, trim-end-matches}
-use Rattle.model.specs.Chunk.{Chunk, Texts, content}
+use Rattle.model.specs.Chunk.{Chunk, content}
 use Rattle.model.specs.MagicString.{MagicString, with-chunks, with-intro, with-outro}
 
 -- the patterns of document 01: 0 for `\s`, 1 for `[\r\n]`

@@ -11,7 +11,7 @@ use lib.ListN.{length}
 use Rattle.utf8.specs.Rfc3629.{utf8, between}
 use Rattle.utf8.specs.Chars.{All}
 use Rattle.model.specs.Text.{Text, sum}
-use Rattle.model.specs.Chunk.{Chunk, Span, Texts, start-of, end-of}
+use Rattle.model.specs.Chunk.{Chunk, Texts, start-of, end-of}
 use Rattle.model.specs.MagicString.{MagicString}
 use Rattle.model.specs.Limits.{Limits, within}
 

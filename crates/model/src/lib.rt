@@ -1,1 +1,1 @@
-// What a desk of document 01 is and what each call does to it: definitions and laws, in specs/.
+// What a desk of document 01 is and what each call does to it: definitions in specs/, laws that many crates cite in proofs/.

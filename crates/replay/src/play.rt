@@ -1,6 +1,6 @@
 // A call made and judged: whether its answer, its buffer and the tables are as the file says.
 ghost use mathlib.Core.Path.{_≡_};
-ghost use mathlib.Core.Bool.{true, false};
+ghost use mathlib.Core.Bool.{true};
 ghost use Rattle.replay_judge.specs.Agreed.{Agreed};
 use replay_record::Call;
 use replay_record::Expected;

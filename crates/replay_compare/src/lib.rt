@@ -1,7 +1,7 @@
 // What is compared: two lists are the same exactly if the test says so.
 ghost use mathlib.Core.Path.{_≡_};
 ghost use lib.ListN.{length};
-ghost use Rattle.counts.specs.Counts.{Decides};
+ghost use Rattle.memory_counting.specs.Counts.{Decides};
 ghost use Rattle.replay_compare.specs.Compare.{filled, Written, Kept};
 
 // What a lent buffer holds before a call.
@@ -99,12 +99,12 @@ pub fn kept(
 // Copies into a table of the same length; `kept` then says whether they are the same.
 pub fn copy_words(words: &[u32], to: &mut [u32]) {
     if words.len() == to.len() {
-        texts::put_words(to, words);
+        memory_texts::put_words(to, words);
     }
 }
 
 pub fn copy(bytes: &[u8], to: &mut [u8]) {
     if bytes.len() == to.len() {
-        texts::put(to, bytes);
+        memory_texts::put(to, bytes);
     }
 }

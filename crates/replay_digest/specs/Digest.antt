@@ -1,12 +1,12 @@
 -- The digest of a desk that the file has for an edit: of the span, the counts and the replacement of each section (head, chunks in list order, tail),
 -- and then of every text in output order. tests/oracle/src/replay computes the same.
-use Prim.Native.Nat.{ℕ, zero, suc, _+_, _*_, _%_}
+use Prim.Native.Nat.{ℕ, _+_, _*_, _%_}
 use mathlib.Core.Bool.{cond}
-use mathlib.Core.List.{List, [], _∷_, _++_, map}
+use mathlib.Core.List.{List, [], _∷_, _++_}
 use mathlib.Core.Option.{Option, none, some}
 use lib.Dec.{eqb}
 use lib.ListN.{length}
-use Rattle.table.specs.Order.{Entry}
+use Rattle.memory_table.specs.Order.{Entry}
 use Rattle.model.specs.Text.{Text}
 use Rattle.model.specs.Chunk.{Chunk}
 use Rattle.model.specs.MagicString.{MagicString, chunk-fragments}
@@ -50,6 +50,7 @@ digest-of m =
     ((m .intro ++ ([] ∷ [])) ++ (chunk-fragments (m .source) (m .chunks) ++ ([] ∷ m .outro)))
 
 -- ---- the same, of the rows of a table
+
 abbrev pub mixed-entry : ℕ → Entry → ℕ
 mixed-entry h e = mixed-section h (e .start) (e .end) (e .intro .1) (e .outro .1) (cond (eqb (e .text .0) 0xFFFF_FFFF) 0 1)
 

@@ -1,12 +1,12 @@
 // A digest of a desk: of its sections' spans and counts, and of all its texts in output order.
 ghost use mathlib.Core.Path.{_≡_};
-ghost use Rattle.table.specs.Order.{entryOf};
+ghost use Rattle.memory_table.specs.Order.{entryOf};
 ghost use Rattle.memory.specs.Layout.{magicStringOf};
 ghost use Rattle.memory.specs.WellFormed.{WellFormed};
-ghost use Rattle.fragments.specs.Sections.{sections, fragmentsAll};
+ghost use Rattle.memory_fragments.specs.Sections.{sections, fragmentsAll};
 ghost use Rattle.replay_digest.specs.Digest.{mixed, mixed-text, mixed-texts, mixed-entry, mixed-entries, digest-of};
-use fragments::Cursor;
-use table::Row;
+use memory_fragments::Cursor;
+use memory_table::Row;
 
 fn mix(h: u32, x: u32) -> u32
     ensures { λ r. ⌜ r ≡ mixed h x ⌝ }
@@ -36,7 +36,7 @@ fn mix_row(h: u32, r: Row) -> u32
     let b = mix(a, r.end);
     let c = mix(b, r.intro_n);
     let d = mix(c, r.outro_n);
-    if r.text_at == layout::NONE {
+    if r.text_at == memory_layout::NONE {
         return mix(d, 0);
     }
     mix(d, 1)
@@ -46,13 +46,13 @@ fn mix_rows(h: u32, source: &[u8], chunks: &[u32], pieces: &[u32], store: &[u8])
     requires { ⌜ WellFormed (now source) (now chunks) (now pieces) (now store) ⌝ }
     ensures { λ r. ⌜ r ≡ mixed-entries h (sections (now (chunks .entry))) ⌝ }
 {
-    let z = table::get_row(chunks, 0);
+    let z = memory_table::get_row(chunks, 0);
     let stop = z.start + 2;
     let mut d = h;
     let mut section: u32 = 0;
     let mut row: u32 = 0;
     while section < stop {
-        let r = fragments::section_row(chunks, section, row);
+        let r = memory_fragments::section_row(chunks, section, row);
         d = mix_row(d, r);
         row = r.next;
         section += 1;
@@ -64,7 +64,7 @@ fn mix_texts<'a>(h: u32, source: &'a [u8], chunks: &[u32], pieces: &[u32], store
     requires { ⌜ WellFormed (now source) (now chunks) (now pieces) (now store) ⌝ }
     ensures { λ r. ⌜ r ≡ mixed-texts h (fragmentsAll (now (source .entry)) (now (pieces .entry)) (now (store .entry)) (sections (now (chunks .entry)))) ⌝ }
 {
-    let z = table::get_row(chunks, 0);
+    let z = memory_table::get_row(chunks, 0);
     let stop = z.start + 2;
     let mut d = h;
     let mut c = Cursor {
@@ -73,9 +73,9 @@ fn mix_texts<'a>(h: u32, source: &'a [u8], chunks: &[u32], pieces: &[u32], store
         item: 0,
     };
     while c.section < stop {
-        let t = fragments::fragment(source, chunks, pieces, store, c);
+        let t = memory_fragments::fragment(source, chunks, pieces, store, c);
         d = mix_text(d, t);
-        c = fragments::next(chunks, c);
+        c = memory_fragments::next(chunks, c);
     }
     d
 }

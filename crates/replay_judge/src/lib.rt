@@ -1,7 +1,7 @@
 // A call judged: whether its answer, its buffer and the tables are as the file says.
 ghost use mathlib.Core.Path.{_≡_};
 ghost use mathlib.Core.Bool.{true, false};
-ghost use Rattle.counts.specs.Counts.{Decides};
+ghost use Rattle.memory_counting.specs.Counts.{Decides};
 ghost use Rattle.replay_compare.specs.Compare.{Kept};
 ghost use Rattle.replay_judge.specs.Agreed.{Answered, HasDigest, TablesAre, Agreed};
 use replay_record::Expected;
@@ -19,7 +19,7 @@ fn answered(got: Answer, e: Expected) -> bool
 fn has_digest<'a>(d: u32, source: &'a [u8], chunks: &[u32], pieces: &[u32], store: &'a [u8]) -> bool
     ensures { λ r. ⌜ Decides r (HasDigest d (now (source .entry)) (now (chunks .entry)) (now (pieces .entry)) (now (store .entry))) ⌝ }
 {
-    if well_formed::well_formed(source, chunks, pieces, store) {
+    if check_well_formed::well_formed(source, chunks, pieces, store) {
         return replay_digest::digest(source, chunks, pieces, store) == d;
     }
     false
@@ -35,7 +35,8 @@ fn tables_are<'a>(
     was_pieces: &[u32],
     was_store: &[u8],
 ) -> bool
-    ensures { λ r. ⌜ Decides r (TablesAre (e .mode) (e .digest) (now (source .entry)) (now (chunks .entry)) (now (pieces .entry)) (now (store .entry)) (now («was_chunks» .entry)) (now («was_pieces» .entry)) (now («was_store» .entry))) ⌝ }
+    ensures { λ r. ⌜ Decides r (TablesAre (e .mode) (e .digest) (now (source .entry)) (now (chunks .entry)) (now (pieces .entry)) (now (store .entry))
+        (now («was_chunks» .entry)) (now («was_pieces» .entry)) (now («was_store» .entry))) ⌝ }
 {
     if e.mode == 0 {
         return replay_compare::kept(chunks, pieces, store, was_chunks, was_pieces, was_store);

@@ -184,7 +184,7 @@ pub fn use_source(kind: u32, text: &[u8], source: &mut [u8], n: usize) -> usize
     if source.len() < text.len() {
         return 0;
     }
-    texts::put(source, text);
+    memory_texts::put(source, text);
     text.len()
 }
 

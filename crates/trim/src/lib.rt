@@ -23,7 +23,7 @@ pub fn trim_start(
     if pattern > LAST_PATTERN {
         return Outcome { number: 15, used };
     }
-    trim_call::trim_with(source, chunks, pieces, store, false, true, pattern, used)
+    trim_either::trim_either(source, chunks, pieces, store, false, true, pattern, used)
 }
 
 // `trim_end`: 15 for a pattern above 1; the tail, then the chunks from the last on.
@@ -42,7 +42,7 @@ pub fn trim_end(
     if pattern > LAST_PATTERN {
         return Outcome { number: 15, used };
     }
-    trim_call::trim_with(source, chunks, pieces, store, false, false, pattern, used)
+    trim_either::trim_either(source, chunks, pieces, store, false, false, pattern, used)
 }
 
 // `trim`: 15 for a pattern above 1; the start, then the end.
@@ -61,7 +61,7 @@ pub fn trim(
     if pattern > LAST_PATTERN {
         return Outcome { number: 15, used };
     }
-    trim_call::trim_with(source, chunks, pieces, store, true, true, pattern, used)
+    trim_either::trim_either(source, chunks, pieces, store, true, true, pattern, used)
 }
 
 // `trim_lines`: line ends, from both sides.
@@ -76,5 +76,5 @@ pub fn trim_lines(
     ensures { λ o. ⌜ Leaves trim-lines (now (source .entry)) (now (chunks .entry)) (now (pieces .entry)) (now (store .entry))
         (now (chunks .exit)) (now (pieces .exit)) (now (store .exit)) o ⌝ }
 {
-    trim_call::trim_with(source, chunks, pieces, store, true, true, 1, used)
+    trim_either::trim_either(source, chunks, pieces, store, true, true, 1, used)
 }

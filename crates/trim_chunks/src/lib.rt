@@ -1,12 +1,11 @@
 // trim.rs along the chunk list: the loops of `trim_start_aborted` and `trim_end_aborted`.
 ghost use mathlib.Core.Path.{_≡_};
-ghost use mathlib.Core.Bool.{Bool};
-ghost use Rattle.table.specs.Ring.{Each};
-ghost use Rattle.table.specs.Order.{Linked, entryAt, order};
-ghost use Rattle.trim_row.specs.Row.{RowReady};
+ghost use Rattle.memory_table.specs.Ring.{Each};
+ghost use Rattle.memory_table.specs.Order.{Linked, entryAt, order};
+ghost use Rattle.trim_chunk.specs.Row.{RowReady};
 ghost use Rattle.trim_chunks.specs.Walk.{stepOf, Walked, ChunksReady, ChunksTrimmed, chunkRows};
-use table::Row;
-use trim_row::Ends;
+use memory_table::Row;
+use trim_chunk::Ends;
 
 // The next row in the direction of the trim.
 fn step(r: Row, front: bool) -> u32
@@ -31,16 +30,16 @@ fn clear_blank<'a>(
     requires { ⌜ Each (λ x. RowReady (now source) (now p) (now s) (entryAt (now t) x)) (order (now t)) ⌝ }
     ensures { λ i. ⌜ Walked front pattern (now (source .entry)) (now (p .entry)) (now (s .entry)) (now (t .entry)) (now (t .exit)) i ⌝ }
 {
-    let z = table::get_row(t, 0);
+    let z = memory_table::get_row(t, 0);
     let n = z.start;
     let mut cur = step(z, front);
     let mut k = 0;
     while k < n {
-        let r = table::get_row(t, cur);
-        if !trim_row::is_blank(source, p, s, r, pattern) {
+        let r = memory_table::get_row(t, cur);
+        if !trim_chunk::is_blank(source, p, s, r, pattern) {
             return cur;
         }
-        table::put_row(t, cur, trim_row::cleared(r));
+        memory_table::put_row(t, cur, trim_chunk::cleared(r));
         cur = step(r, front);
         k += 1;
     }
@@ -63,11 +62,11 @@ pub fn trim_chunks(
         (now (p .exit)) (now (s .exit)) (now (t .exit)) (e .row) (e .byte) ⌝ }
 {
     let i = clear_blank(source, t, p, s, front, pattern);
-    if i == layout::LIST_END {
+    if i == memory_layout::LIST_END {
         return Ends { row: top, byte };
     }
-    let r = table::get_row(t, i);
-    let q = trim_row::trim_row(source, p, s, r, top, byte, front, pattern);
-    table::put_row(t, i, q);
-    trim_row::behind(q, top, byte)
+    let r = memory_table::get_row(t, i);
+    let q = trim_chunk::trim_chunk(source, p, s, r, top, byte, front, pattern);
+    memory_table::put_row(t, i, q);
+    trim_chunk::behind(q, top, byte)
 }

@@ -1,3 +1,2 @@
 pub mod Deque
-pub mod Low
 pub mod Run

@@ -1,13 +1,13 @@
 // trim.rs on a piece list: `trim_deque_start` and `trim_deque_end`. What is left of the list is written as a new run of rows, behind those that are in use.
 ghost use mathlib.Core.Path.{_≡_};
-ghost use mathlib.Core.Bool.{Bool, true, false};
+ghost use mathlib.Core.Bool.{false};
 ghost use Prim.Native.Nat.{_+_, _*_, _≤_, _<_};
 ghost use lib.ListN.{length};
 ghost use Rattle.model.specs.Text.{all};
 ghost use Rattle.memory.specs.Layout.{runOf};
 ghost use Rattle.trim_text.specs.Sides.{blank};
 ghost use Rattle.trim_run.specs.Run.{RunReady, BlankFront, BlankBack, RowRoom, Copied, PutTrimmed, RunTrimmed};
-use table::Piece;
+use memory_table::Piece;
 
 // How many pieces at the front are blank.
 fn blank_front(p: &[u32], s: &[u8], at: u32, n: u32, pattern: u32) -> u32
@@ -18,7 +18,7 @@ fn blank_front(p: &[u32], s: &[u8], at: u32, n: u32, pattern: u32) -> u32
     let count = n as usize;
     let mut k: usize = 0;
     while k < count {
-        if !trim_text::is_blank(texts::text_of(p, s, first + k), pattern) {
+        if !trim_text::is_blank(memory_texts::text_of(p, s, first + k), pattern) {
             return k as u32;
         }
         k += 1;
@@ -34,7 +34,7 @@ fn blank_back(p: &[u32], s: &[u8], at: u32, n: u32, pattern: u32) -> u32
     let first = at as usize;
     let mut k = n as usize;
     while k > 0 {
-        if !trim_text::is_blank(texts::text_of(p, s, first + (k - 1)), pattern) {
+        if !trim_text::is_blank(memory_texts::text_of(p, s, first + (k - 1)), pattern) {
             return k as u32;
         }
         k -= 1;
@@ -57,8 +57,8 @@ pub fn copy_rows(p: &mut [u32], at: u32, n: u32, top: u32)
 {
     let mut k = 0;
     while k < n {
-        let r = table::get_piece(p, at + k);
-        table::put_piece(p, top + k, r);
+        let r = memory_table::get_piece(p, at + k);
+        memory_table::put_piece(p, top + k, r);
         k += 1;
     }
 }
@@ -79,10 +79,10 @@ fn put_trimmed(
     requires { ⌜ k < n ⌝ }
     ensures { λ _. ⌜ PutTrimmed front pattern (now (p .entry)) (now (s .entry)) at n k top (now (p .exit)) ⌝ }
 {
-    let old = table::get_piece(p, at + k);
+    let old = memory_table::get_piece(p, at + k);
     let new = trim_text::trim_place(s, old, front, pattern);
     copy_rows(p, at, n, top);
-    table::put_piece(p, top + k, new);
+    memory_table::put_piece(p, top + k, new);
 }
 
 // What is left of a list that is not blank, as a new run from row top on.

@@ -1,7 +1,7 @@
 // The trims past their test of the pattern, on scratch tables: new rows and bytes stand behind the loaded ones. What the desk uses is counted where it is written back.
 ghost use Rattle.memory.specs.WellFormed.{WellFormed};
 ghost use Rattle.memory_used.specs.Above.{Above};
-ghost use Rattle.frame.specs.Frame.{Scratch};
+ghost use Rattle.edit_scratch.specs.Tables.{Scratch};
 ghost use Rattle.trim_scratch.specs.Call.{Wide, TrimRan};
 use memory_used::Outcome;
 
@@ -25,9 +25,9 @@ fn trim_by(
         (now (chunks .exit)) (now (pieces .exit)) (now (store .exit)) (o .number)
         × Above (now (chunks .exit)) (now (pieces .exit)) (now (store .exit)) (o .used) ⌝ }
 {
-    frame::load(chunks, pieces, store, t, p, s);
-    trim_sides::trim_sides(source, t, p, s, layout::NEW_ROW, layout::NEW_BYTE, both, front, pattern);
-    on_top::finish(t, p, s, chunks, pieces, store, 0)
+    edit_scratch::load(chunks, pieces, store, t, p, s);
+    trim_steps::trim_steps(source, t, p, s, memory_layout::NEW_ROW, memory_layout::NEW_BYTE, both, front, pattern);
+    edit_room_above::finish(t, p, s, chunks, pieces, store, 0)
 }
 
 // The same with scratch tables of its own.
@@ -45,12 +45,12 @@ pub fn trim_scratch(
         (now (chunks .exit)) (now (pieces .exit)) (now (store .exit)) (o .number)
         × Above (now (chunks .exit)) (now (pieces .exit)) (now (store .exit)) (o .used) ⌝ }
 {
-    let rows = layout::SCRATCH_LEN;
-    let words = layout::TRIM_PIECES_LEN;
-    let size = layout::TRIM_STORE_LEN;
-    let mut t = [0u32; layout::SCRATCH_LEN];
-    let mut p = [0u32; layout::TRIM_PIECES_LEN];
-    let mut s = [0u8; layout::TRIM_STORE_LEN];
+    let rows = memory_layout::SCRATCH_LEN;
+    let words = memory_layout::TRIM_PIECES_LEN;
+    let size = memory_layout::TRIM_STORE_LEN;
+    let mut t = [0u32; memory_layout::SCRATCH_LEN];
+    let mut p = [0u32; memory_layout::TRIM_PIECES_LEN];
+    let mut s = [0u8; memory_layout::TRIM_STORE_LEN];
     trim_by(
         source,
         chunks,

@@ -1,12 +1,12 @@
 // trim.rs on one text: `trim_start_pattern` and `trim_end_pattern`, as the part of the text that stays.
 ghost use mathlib.Core.Path.{_≡_};
-ghost use mathlib.Core.Bool.{Bool, true};
+ghost use mathlib.Core.Bool.{true};
 ghost use Prim.Native.Nat.{_+_, _^_, _≤_, _<_};
 ghost use lib.ListN.{length, take, drop};
 ghost use Rattle.utf8.specs.Rfc3629.{utf8, decodeAt, codeOf};
 ghost use Rattle.model.specs.Trim.{matches, trim-start-pattern, trim-end-pattern};
 ghost use Rattle.trim_text.specs.Sides.{blank, PlaceTrimmed};
-use table::Piece;
+use memory_table::Piece;
 
 // Whether a character of this code is taken off: white space, or with pattern 1 a carriage return or a line feed.
 fn is_match(pattern: u32, code: u32) -> bool

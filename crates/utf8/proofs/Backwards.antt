@@ -1,5 +1,4 @@
 -- Backwards over following bytes, to where the last character begins.
--- Assumes nothing.
 use mathlib.Core.Path.{_≡_, sym, ap, _∙_}
 use mathlib.Core.Bool.{Bool, true, false, not}
 use mathlib.Core.List.{List}
@@ -8,7 +7,7 @@ use native.Mathlib.Omega.{arith}
 use native.Mathlib.Decide.{decLt}
 use lib.ListN.{length, getD}
 use Rattle.utf8.specs.Rfc3629.{follows, utf8, LastStart}
-use Rattle.utf8.specs.Boundaries.{between-at, between-zero}
+use Rattle.utf8.proofs.Boundaries.{between-at, between-zero}
 
 -- the bytes behind p follow
 abbrev pub Over : List ℕ → ℕ → Type 0

@@ -1,5 +1,4 @@
 -- Blocks of ASCII are passed at once.
--- Assumes nothing.
 use mathlib.Core.Path.{_≡_, refl, sym, _∙_}
 use mathlib.Core.List.{List}
 use Prim.Native.Nat.{ℕ, zero, suc, _+_, _-_, _<_, _≤_}
@@ -13,9 +12,9 @@ use Rattle.utf8.specs.Rfc3629.{decodeAt, utf8, widthOf}
 use Rattle.utf8.specs.Ascii.{Ascii}
 use Rattle.utf8.specs.declared.Decoded.{Decoded}
 use Rattle.utf8.specs.declared.Decoded.the-variants.{Char, Invalid, End}
-use Rattle.utf8.specs.Sequences.{at-start, seq-1}
-use Rattle.utf8.specs.Texts.{turn, stops, end-past}
-use Rattle.utf8.specs.Laws.{or-left, or-right}
+use Rattle.utf8.proofs.Sequences.{at-start, seq-1}
+use Rattle.utf8.proofs.Texts.{turn, stops, end-past}
+use Rattle.utf8.proofs.Between.{or-left, or-right}
 
 pub or-more : (s : List ℕ) (i j x : ℕ) → ((k : ℕ) → k < j → getD s (i + k) 0 ≤ x) → (k : ℕ) → k < j + 1 → getD s (i + k) 0 ≤ bitOr x (getD s (i + j) 0)
 or-more s i j x h k l =
@@ -26,7 +25,8 @@ none s i h = record { after = omega arith; inside = h; each = λ k l m. absurd (
 
 pub block : (s : List ℕ) (i r x : ℕ) → Ascii s i r → r + 32 ≤ length s → ((j : ℕ) → j < 32 → getD s (r + j) 0 ≤ x) → x < 0x80 → Ascii s i (r + 32)
 block s i r x a h b l =
-    record { after = omega (arith, a .after); inside = h; each = λ k m n. elim (decLt k r) [ yes o ↦ a .each k m o | no o ↦ let e : k ≡ r + (k - r) = omega arith in rw e (omega (arith, b (k - r) (omega arith))) ] }
+    record { after = omega (arith, a .after); inside = h; each = λ k m n. elim (decLt k r) [ yes o ↦ a .each k m o | no o ↦ let e : k ≡ r + (k - r) = omega arith in
+        rw e (omega (arith, b (k - r) (omega arith))) ] }
 
 ascii-by : (s : List ℕ) (i n : ℕ) → i + n ≤ length s → ((k : ℕ) → i ≤ k → k < i + n → getD s k 0 < 0x80) → utf8 (drop i s) ≡ utf8 (drop (i + n) s)
 ascii-by s i zero h a = rw add-zero

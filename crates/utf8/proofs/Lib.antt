@@ -2,3 +2,11 @@ pub mod Masks
 pub mod Spaces
 pub mod Blocks
 pub mod Backwards
+pub mod AbnfLaws
+pub mod Boundaries
+pub mod CharLaws
+pub mod Encode
+pub mod Encoded
+pub mod Between
+pub mod Sequences
+pub mod Texts

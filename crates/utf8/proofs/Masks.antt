@@ -1,7 +1,6 @@
 -- The laws of masks and shifts: the two upper bits of a byte, six bits joined to the left part, and what the joins make of a sequence.
--- Assumes nothing.
 use mathlib.Core.Path.{_≡_, sym, ap, _∙_}
-use mathlib.Core.Bool.{Bool, true, false, not}
+use mathlib.Core.Bool.{Bool, true, false}
 use Prim.Native.Nat.{ℕ, _+_, _-_, _*_, _/_, _%_, _<_, _≤_}
 use native.Mathlib.Omega.{arith}
 use native.Mathlib.Decide.{decLt}
@@ -9,7 +8,7 @@ use lib.Dec.{eqb}
 use lib.Bits.{bitAnd, bitOr, and-mask, and-high, or-shifted}
 use borrow.Author.Tests.{lt-ltb, le-ltb, le-leb, lt-leb, ne-eqb}
 use Rattle.utf8.specs.Rfc3629.{follows, scalar, sequence, value2, value3, value4}
-use Rattle.utf8.specs.Sequences.{follows-from, seq-2, seq-3, seq-4}
+use Rattle.utf8.proofs.Sequences.{follows-from, seq-2, seq-3, seq-4}
 use Rattle.utf8.specs.declared.Decoded.the-variants.{Invalid}
 
 -- the two upper bits of a byte
@@ -46,7 +45,8 @@ module _ (a b c d : ℕ) where
       let v : j ≡ value2 a b = e ∙ rw (and-mask a 5) (omega arith) in
       rw v (sym (seq-2 a b c d h k ∙ rw fb))
 
-  pub is-3 : (f g : Bool) (i j : ℕ) → 0xE0 ≤ a → a < 0xF0 → f ≡ follows b → f ≡ true → g ≡ follows c → g ≡ true → i ≡ bitAnd a 15 * 64 + b % 64 → j ≡ i * 64 + c % 64 → scalar 0x800 j 3 ≡ sequence a b c d
+  pub is-3 : (f g : Bool) (i j : ℕ) → 0xE0 ≤ a → a < 0xF0 → f ≡ follows b → f ≡ true → g ≡ follows c → g ≡ true → i ≡ bitAnd a 15 * 64 + b % 64 →
+      j ≡ i * 64 + c % 64 → scalar 0x800 j 3 ≡ sequence a b c d
   is-3 f g i j h k p t q u e e′ =
       let fb : follows b ≡ true = sym p ∙ t in
       let fc : follows c ≡ true = sym q ∙ u in
@@ -57,7 +57,8 @@ module _ (a b c d : ℕ) where
       let v : j ≡ value3 a b c = omega arith in
       rw v (sym (seq-3 a b c d h k ∙ rw (fb, fc)))
 
-  pub is-4 : (f g k : Bool) (i j l : ℕ) → 0xF0 ≤ a → a < 0xF8 → f ≡ follows b → f ≡ true → g ≡ follows c → g ≡ true → k ≡ follows d → k ≡ true → i ≡ bitAnd a 7 * 64 + b % 64 → j ≡ i * 64 + c % 64 → l ≡ j * 64 + d % 64 → scalar 0x10000 l 4 ≡ sequence a b c d
+  pub is-4 : (f g k : Bool) (i j l : ℕ) → 0xF0 ≤ a → a < 0xF8 → f ≡ follows b → f ≡ true → g ≡ follows c → g ≡ true → k ≡ follows d → k ≡ true →
+      i ≡ bitAnd a 7 * 64 + b % 64 → j ≡ i * 64 + c % 64 → l ≡ j * 64 + d % 64 → scalar 0x10000 l 4 ≡ sequence a b c d
   is-4 f g k i j l h m p t q u r x e e′ e″ =
       let fb : follows b ≡ true = sym p ∙ t in
       let fc : follows c ≡ true = sym q ∙ u in

@@ -1,5 +1,4 @@
 -- White space by the tests that the code makes: a key, or one of three ranges.
--- Assumes nothing.
 use mathlib.Core.Path.{_≡_, refl}
 use mathlib.Core.Bool.{Bool, true, false, _||_, and-false}
 use mathlib.Core.Logic.{⊎-elim, inl, inr}

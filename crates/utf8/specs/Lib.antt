@@ -1,13 +1,5 @@
 pub mod Rfc3629
-pub mod Encode
 pub mod Chars
 pub mod WhiteSpace
 pub mod Ascii
-pub mod Sequences
-pub mod Texts
-pub mod Boundaries
-pub mod Encoded
-pub mod Laws
-pub mod CharLaws
 pub mod Abnf
-pub mod AbnfLaws

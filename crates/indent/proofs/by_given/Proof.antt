@@ -1,6 +1,6 @@
 use mathlib.Core.Path.{sym, _∙_}
-use Rattle.indent.specs.Call.{given-invalid, given-inside, given-empty, given-ran}
-use Rattle.memory.specs.Laws.{valid-source}
+use Rattle.indent.proofs.Call.{given-invalid, given-inside, given-empty, given-ran}
+use Rattle.memory.proofs.Desks.{valid-source}
 use borrow.Author.Needs.{needs}
 use Rattle.indent.proofs.by_given.Statement.{statement}
 use Rattle.indent.proofs.by_given.Tie as tie

@@ -1,6 +1,6 @@
 use mathlib.Core.Path.{sym}
 use native.Mathlib.Omega.{arith}
-use Rattle.frame.specs.Frame.{zeros-length}
+use Rattle.memory.proofs.Desks.{zeros-length}
 use borrow.Author.Needs.{needs}
 use Rattle.indent.proofs.by_guess.Statement.{statement}
 use Rattle.indent.proofs.by_guess.Tie as tie

@@ -1,5 +1,5 @@
-use Rattle.memory.specs.Laws.{short-source, narrow-source}
-use Rattle.indent.specs.Call.{guess-room, guess-in, guess-part, guess-is, none-ran}
+use Rattle.memory.proofs.Desks.{short-source, narrow-source}
+use Rattle.indent.proofs.Call.{guess-room, guess-in, guess-part, guess-is, none-ran}
 use borrow.Author.Needs.{needs}
 use Rattle.indent.proofs.guessed_in.Statement.{statement}
 use Rattle.indent.proofs.guessed_in.Tie as tie
@@ -54,7 +54,8 @@ same-length-4 c = search needs
 
 returns : tie.Need-returns
 returns c =
-    let start = c .before .before .before .before .before .before .before .before .before .before .before .before .before .before .before .before .before .before .before .before .before .before .before in
+    let start = c .before .before .before .before .before .before .before .before .before .before .before .before .before .before .before .before .before
+        .before .before .before .before .before .before in
     let tables = c .before .before .before .before .before .before .indent-tables in
     let guess-indentor = c .before .before .before .before .before .before .before .before .before .before .before .before .before .before .before .before .guess-indentor in
     let indentor-len = c .before .before .before .before .before .before .before .before .before .before .before .before .before .before .before .indentor-len in

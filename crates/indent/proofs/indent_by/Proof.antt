@@ -1,7 +1,7 @@
 use mathlib.Core.Path.{_∙_}
 use native.Mathlib.Omega.{arith}
-use Rattle.indent.specs.Call.{steps-ready, indent-readable, indent-past, indent-ran}
-use Rattle.on_top.proofs.Finishing.{formed-usable}
+use Rattle.indent.proofs.Call.{steps-ready, indent-readable, indent-past, indent-ran}
+use Rattle.edit_room_above.proofs.Finishing.{formed-usable}
 use borrow.Author.Needs.{needs}
 use Rattle.indent.proofs.indent_by.Statement.{statement}
 use Rattle.indent.proofs.indent_by.Tie as tie
@@ -15,7 +15,8 @@ load-requires c κs =
 
 indent-steps-requires : tie.Need-indent-steps-requires
 indent-steps-requires c κs =
-    let start = c .before .before .before .before .before .before .before .before .before .before .before .before .before .before .before .before .before .before .before .before .before .before .before .before .before .before .before in
+    let start = c .before .before .before .before .before .before .before .before .before .before .before .before .before .before .before .before .before
+        .before .before .before .before .before .before .before .before .before .before in
     steps-ready (start .pre .0 .well-formed) (start .pre .1) (c .before .before .before .before .before .before .before .before .before .before .before .load .ensures)
 
 same-length : tie.Need-same-length
@@ -38,15 +39,20 @@ same-length-6 c = search needs
 
 returns : tie.Need-returns
 returns c =
-    let start = c .before .before .before .before .before .before .before .before .before .before .before .before .before .before .before .before .before .before .before .before .before .before .before .before .before .before .before .before .before .before .before .before .before .before .before in
+    let start = c .before .before .before .before .before .before .before .before .before .before .before .before .before .before .before .before .before
+        .before .before .before .before .before .before .before .before .before .before .before .before .before .before .before .before .before
+        .before in
     let load = c .before .before .before .before .before .before .before .before .before .before .before .before .before .before .before .before .before .before .before .load in
     let indent-steps = c .before .before .before .before .before .before .before .indent-steps in
     (indent-past (start .pre .0 .well-formed) (start .pre .1) (load .ensures) (indent-steps .ensures) (c .if1 .taken), start .pre .0 .above)
 
 finish-requires : tie.Need-finish-requires
 finish-requires c κs =
-    let start = c .before .before .before .before .before .before .before .before .before .before .before .before .before .before .before .before .before .before .before .before .before .before .before .before .before .before .before .before .before .before .before .before .before .before .before .before .before .before .before .before .before in
-    let load = c .before .before .before .before .before .before .before .before .before .before .before .before .before .before .before .before .before .before .before .before .before .before .before .before .before .load in
+    let start = c .before .before .before .before .before .before .before .before .before .before .before .before .before .before .before .before .before
+        .before .before .before .before .before .before .before .before .before .before .before .before .before .before .before .before .before .before
+        .before .before .before .before .before .before in
+    let load = c .before .before .before .before .before .before .before .before .before .before .before .before .before .before .before .before .before
+        .before .before .before .before .before .before .before .before .load in
     let indent-steps = c .before .before .before .before .before .before .before .before .before .before .before .before .before .indent-steps in
     let if1 = c .before .before .before .before .before .before .if1 in
     (indent-readable (start .pre .0 .well-formed) (start .pre .1) (load .ensures) (indent-steps .ensures) (if1 .left), formed-usable (start .pre .0 .well-formed))
@@ -62,13 +68,15 @@ same-length-9 c = search needs
 
 same-length-10 : tie.Need-same-length-10
 same-length-10 c =
-    let load = c .before .before .before .before .before .before .before .before .before .before .before .before .before .before .before .before .before .before .before .before .before .before .before .before .before .before .before .before .before .before .before .before .load in
+    let load = c .before .before .before .before .before .before .before .before .before .before .before .before .before .before .before .before .before
+        .before .before .before .before .before .before .before .before .before .before .before .before .before .before .before .load in
     let steps = c .before .before .before .before .before .before .before .before .before .before .before .before .before .before .before .before .before .before .before .before .indent-steps in
     steps .kept .1 .1 .1 .0 ∙ load .kept .1 .1 .1 .0
 
 same-length-11 : tie.Need-same-length-11
 same-length-11 c =
-    let load = c .before .before .before .before .before .before .before .before .before .before .before .before .before .before .before .before .before .before .before .before .before .before .before .before .before .before .before .before .before .before .before .before .load in
+    let load = c .before .before .before .before .before .before .before .before .before .before .before .before .before .before .before .before .before
+        .before .before .before .before .before .before .before .before .before .before .before .before .before .before .before .load in
     let steps = c .before .before .before .before .before .before .before .before .before .before .before .before .before .before .before .before .before .before .before .before .indent-steps in
     steps .kept .1 .1 .1 .1 .0 ∙ load .kept .1 .1 .1 .1 .0
 
@@ -77,10 +85,14 @@ same-length-12 c = search needs
 
 returns-2 : tie.Need-returns-2
 returns-2 c =
-    let start = c .before .before .before .before .before .before .before .before .before .before .before .before .before .before .before .before .before .before .before .before .before .before .before .before .before .before .before .before .before .before .before .before .before .before .before .before .before .before .before .before .before .before .before .before .before .before .before .before in
+    let start = c .before .before .before .before .before .before .before .before .before .before .before .before .before .before .before .before .before
+        .before .before .before .before .before .before .before .before .before .before .before .before .before .before .before .before .before .before
+        .before .before .before .before .before .before .before .before .before .before .before .before .before in
     let finish = c .before .before .before .before .before .before .finish in
-    let load = c .before .before .before .before .before .before .before .before .before .before .before .before .before .before .before .before .before .before .before .before .before .before .before .before .before .before .before .before .before .before .before .before .load in
-    let indent-steps = c .before .before .before .before .before .before .before .before .before .before .before .before .before .before .before .before .before .before .before .before .indent-steps in
+    let load = c .before .before .before .before .before .before .before .before .before .before .before .before .before .before .before .before .before
+        .before .before .before .before .before .before .before .before .before .before .before .before .before .before .before .load in
+    let indent-steps = c .before .before .before .before .before .before .before .before .before .before .before .before .before .before .before .before
+        .before .before .before .before .indent-steps in
     let if1 = c .before .before .before .before .before .before .before .before .before .before .before .before .before .if1 in
     (indent-ran (start .pre .0 .well-formed) (start .pre .1) (load .ensures) (indent-steps .ensures) (if1 .left) (finish .ensures .0), finish .ensures .1)
 

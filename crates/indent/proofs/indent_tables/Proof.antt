@@ -1,6 +1,6 @@
 use mathlib.Core.Path.{sym}
 use native.Mathlib.Omega.{arith}
-use Rattle.frame.specs.Frame.{zeros-length, zeros-at}
+use Rattle.memory.proofs.Desks.{zeros-length, zeros-at}
 use borrow.Author.Needs.{needs}
 use Rattle.indent.proofs.indent_tables.Statement.{statement}
 use Rattle.indent.proofs.indent_tables.Tie as tie

@@ -1,6 +1,6 @@
 use mathlib.Core.Path.{sym, _∙_}
-use Rattle.indent.specs.Call.{even-options, with-given, with-none, odd-refused, none-inside}
-use Rattle.memory.specs.Laws.{valid-source}
+use Rattle.indent.proofs.Call.{even-options, with-given, with-none, odd-refused, none-inside}
+use Rattle.memory.proofs.Desks.{valid-source}
 use borrow.Author.Needs.{needs}
 use Rattle.indent.proofs.indent_with.Statement.{statement}
 use Rattle.indent.proofs.indent_with.Tie as tie

@@ -5,7 +5,7 @@ use lib.ListN.{length, drop}
 use borrow.Author.Tests.{not-true, not-false}
 use Rattle.utf8.specs.Rfc3629.{between}
 use Rattle.model.specs.Text.{all}
-use Rattle.indent.specs.Call.{all-stop, all-more, all-end}
+use Rattle.indent.proofs.Call.{all-stop, all-more, all-end}
 use borrow.Author.Needs.{needs}
 use Rattle.indent.proofs.positions_between.Statement.{statement}
 use Rattle.indent.proofs.positions_between.Tie as tie
@@ -35,7 +35,8 @@ returns : tie.Need-returns Inv-loop μ-loop
 returns c =
     let a = c .before .before .before .before .before .before .before .args in
     let loop = c .before .before .before .before .loop in
-    all-stop (between (a .source .now)) (a .exclude .now) (loop .i) (loop .inv .1) (c .before .before .before .loop-test .taken) (c .before .boundary .result) (c .before .boundary .ensures) (not-true _ (c .if1 .taken))
+    all-stop (between (a .source .now)) (a .exclude .now) (loop .i) (loop .inv .1) (c .before .before .before .loop-test .taken) (c .before .boundary .result)
+        (c .before .boundary .ensures) (not-true _ (c .if1 .taken))
 
 add-i : tie.Need-add-i Inv-loop μ-loop
 add-i c = omega (arith, c .before .before .before .loop-test .taken)
@@ -47,7 +48,8 @@ loop-again : tie.Need-loop-again Inv-loop μ-loop
 loop-again c =
     let a = c .before .before .before .before .before .before .before .args in
     let loop = c .before .before .before .before .loop in
-    (omega (arith, c .before .before .before .loop-test .taken), all-more (between (a .source .now)) (a .exclude .now) (loop .i) (loop .inv .1) (c .before .before .before .loop-test .taken) (c .before .boundary .result) (c .before .boundary .ensures) (not-false _ (c .if1 .left)))
+    (omega (arith, c .before .before .before .loop-test .taken), all-more (between (a .source .now)) (a .exclude .now) (loop .i) (loop .inv .1)
+        (c .before .before .before .loop-test .taken) (c .before .boundary .result) (c .before .boundary .ensures) (not-false _ (c .if1 .left)))
 
 returns-2 : tie.Need-returns-2 Inv-loop μ-loop
 returns-2 c =

@@ -1,7 +1,7 @@
 use mathlib.Core.Path.{ap}
 use lib.Dec.{leb}
-use Rattle.layout.specs.Layout.{CHUNKS}
-use Rattle.table.specs.declared.Row.{Row}
+use Rattle.memory_layout.specs.Layout.{CHUNKS}
+use Rattle.memory_table.specs.declared.Row.{Row}
 use borrow.Author.Needs.{needs}
 use Rattle.indent_cuts.proofs.is_full.Statement.{statement}
 use Rattle.indent_cuts.proofs.is_full.Tie as tie

@@ -1,7 +1,7 @@
 use mathlib.Core.Path.{ap}
 use Prim.Native.Nat.{_+_}
 use native.Mathlib.Omega.{arith}
-use Rattle.table.specs.declared.Row.{Row}
+use Rattle.memory_table.specs.declared.Row.{Row}
 use borrow.Author.Needs.{needs}
 use Rattle.indent_steps.proofs.head_end.Statement.{statement}
 use Rattle.indent_steps.proofs.head_end.Tie as tie

@@ -1,5 +1,5 @@
 use borrow.Author.Tests.{not-true, not-false}
-use Rattle.indent_steps.specs.Rest.{rest-chunks, tail-ready, rest-tail, rest-done}
+use Rattle.indent_steps.proofs.Rest.{rest-chunks, tail-ready, rest-tail, rest-done}
 use borrow.Author.Needs.{needs}
 use Rattle.indent_steps.proofs.indent_rest.Statement.{statement}
 use Rattle.indent_steps.proofs.indent_rest.Tie as tie
@@ -26,8 +26,10 @@ returns c =
 
 indent-own-requires : tie.Need-indent-own-requires
 indent-own-requires c κs =
-    let a = c .before .before .before .before .before .before .before .before .before .before .before .before .before .before .before .before .before .before .before .before .before .before .before .args in
-    let start = c .before .before .before .before .before .before .before .before .before .before .before .before .before .before .before .before .before .before .before .before .before .before .before in
+    let a = c .before .before .before .before .before .before .before .before .before .before .before .before .before .before .before .before .before
+        .before .before .before .before .before .before .args in
+    let start = c .before .before .before .before .before .before .before .before .before .before .before .before .before .before .before .before .before
+        .before .before .before .before .before .before in
     let indent-chunks = c .before .before .before .before .before .before .before .before .before .before .before .indent-chunks in
     let if1 = c .before .before .before .if1 in
     tail-ready (a .indentor .now) (a .exclude .now) (a .source .now) (a .pieces .now) (a .store .now) (a .t .now) (a .p .now) (a .s .now) (a .mark) (a .top) (a .byte) (start .pre)
@@ -44,9 +46,12 @@ same-length-6 c = search needs
 
 returns-2 : tie.Need-returns-2
 returns-2 c =
-    let a = c .before .before .before .before .before .before .before .before .before .before .before .before .before .before .before .before .before .before .before .before .before .before .before .before .before .before .before .before .before .before .before .before .args in
-    let start = c .before .before .before .before .before .before .before .before .before .before .before .before .before .before .before .before .before .before .before .before .before .before .before .before .before .before .before .before .before .before .before .before in
-    let indent-chunks = c .before .before .before .before .before .before .before .before .before .before .before .before .before .before .before .before .before .before .before .before .indent-chunks in
+    let a = c .before .before .before .before .before .before .before .before .before .before .before .before .before .before .before .before .before
+        .before .before .before .before .before .before .before .before .before .before .before .before .before .before .before .args in
+    let start = c .before .before .before .before .before .before .before .before .before .before .before .before .before .before .before .before .before
+        .before .before .before .before .before .before .before .before .before .before .before .before .before .before .before in
+    let indent-chunks = c .before .before .before .before .before .before .before .before .before .before .before .before .before .before .before .before
+        .before .before .before .before .indent-chunks in
     let if1 = c .before .before .before .before .before .before .before .before .before .before .before .before .if1 in
     let indent-own = c .before .before .before .before .before .before .before .before .indent-own in
     rest-tail (a .indentor .now) (a .exclude .now) (a .source .now) (a .pieces .now) (a .store .now) (a .t .now) (a .p .now) (a .s .now) (a .mark) (a .top) (a .byte) (start .pre)
@@ -63,9 +68,12 @@ same-length-9 c = search needs
 
 returns-3 : tie.Need-returns-3
 returns-3 c =
-    let a = c .before .before .before .before .before .before .before .before .before .before .before .before .before .before .before .before .before .before .before .before .before .before .before .before .before .before .before .before .before .before .before .before .args in
-    let start = c .before .before .before .before .before .before .before .before .before .before .before .before .before .before .before .before .before .before .before .before .before .before .before .before .before .before .before .before .before .before .before .before in
-    let indent-chunks = c .before .before .before .before .before .before .before .before .before .before .before .before .before .before .before .before .before .before .before .before .indent-chunks in
+    let a = c .before .before .before .before .before .before .before .before .before .before .before .before .before .before .before .before .before
+        .before .before .before .before .before .before .before .before .before .before .before .before .before .before .before .args in
+    let start = c .before .before .before .before .before .before .before .before .before .before .before .before .before .before .before .before .before
+        .before .before .before .before .before .before .before .before .before .before .before .before .before .before .before in
+    let indent-chunks = c .before .before .before .before .before .before .before .before .before .before .before .before .before .before .before .before
+        .before .before .before .before .indent-chunks in
     let if1 = c .before .before .before .before .before .before .before .before .before .before .before .before .if1 in
     let indent-own = c .before .before .before .before .before .before .before .before .indent-own in
     rest-done (a .indentor .now) (a .exclude .now) (a .source .now) (a .pieces .now) (a .store .now) (a .t .now) (a .p .now) (a .s .now) (a .mark) (a .top) (a .byte) (start .pre)

@@ -1,5 +1,5 @@
 use borrow.Author.Tests.{not-true, not-false}
-use Rattle.indent_steps.specs.Steps.{steps-head-end, steps-lay, head-ready, steps-head, rest-ready, steps-rest}
+use Rattle.indent_steps.proofs.Steps.{steps-head-end, steps-lay, head-ready, steps-head, rest-ready, steps-rest}
 use borrow.Author.Needs.{needs}
 use Rattle.indent_steps.proofs.indent_steps.Statement.{statement}
 use Rattle.indent_steps.proofs.indent_steps.Tie as tie
@@ -34,7 +34,8 @@ same-length-3 c = search needs
 
 returns : tie.Need-returns
 returns c =
-    let start = c .before .before .before .before .before .before .before .before .before .before .before .before .before .before .before .before .before .before .before .before .before .before .before .before .before .before .before .before .before in
+    let start = c .before .before .before .before .before .before .before .before .before .before .before .before .before .before .before .before .before
+        .before .before .before .before .before .before .before .before .before .before .before .before in
     let lay-indentor = c .before .before .before .before .before .before .before .before .before .before .before .before .before .before .before .before .lay-indentor in
     let indent-own = c .before .before .before .before .before .before .before .before .indent-own in
     let a = start .args in
@@ -43,11 +44,13 @@ returns c =
 
 indent-rest-requires : tie.Need-indent-rest-requires
 indent-rest-requires c κs =
-    let start = c .before .before .before .before .before .before .before .before .before .before .before .before .before .before .before .before .before .before .before .before .before .before .before .before .before .before .before .before .before .before .before .before in
+    let start = c .before .before .before .before .before .before .before .before .before .before .before .before .before .before .before .before .before
+        .before .before .before .before .before .before .before .before .before .before .before .before .before .before .before in
     let lay-indentor = c .before .before .before .before .before .before .before .before .before .before .before .before .before .before .before .before .before .before .before .lay-indentor in
     let indent-own = c .before .before .before .before .before .before .before .before .before .before .before .indent-own in
     let if1 = c .before .before .before .if1 in
-    let head-end = c .before .before .before .before .before .before .before .before .before .before .before .before .before .before .before .before .before .before .before .before .before .before .head-end in
+    let head-end = c .before .before .before .before .before .before .before .before .before .before .before .before .before .before .before .before
+        .before .before .before .before .before .before .head-end in
     let a = start .args in
     rest-ready (a .indentor .now) (a .exclude .now) (a .source .now) (a .t .now) (a .pieces .now) (a .store .now) (a .p .now) (a .s .now) (start .pre) (lay-indentor .ensures)
     (indent-own .ensures) (not-false _ (if1 .left)) (head-end .result) (head-end .ensures)
@@ -63,8 +66,11 @@ same-length-6 c = search needs
 
 returns-2 : tie.Need-returns-2
 returns-2 c =
-    let start = c .before .before .before .before .before .before .before .before .before .before .before .before .before .before .before .before .before .before .before .before .before .before .before .before .before .before .before .before .before .before .before .before .before .before .before .before .before .before .before in
-    let lay-indentor = c .before .before .before .before .before .before .before .before .before .before .before .before .before .before .before .before .before .before .before .before .before .before .before .before .before .before .lay-indentor in
+    let start = c .before .before .before .before .before .before .before .before .before .before .before .before .before .before .before .before .before
+        .before .before .before .before .before .before .before .before .before .before .before .before .before .before .before .before .before .before
+        .before .before .before .before in
+    let lay-indentor = c .before .before .before .before .before .before .before .before .before .before .before .before .before .before .before .before
+        .before .before .before .before .before .before .before .before .before .before .lay-indentor in
     let indent-own = c .before .before .before .before .before .before .before .before .before .before .before .before .before .before .before .before .before .before .indent-own in
     let if1 = c .before .before .before .before .before .before .before .before .before .before .if1 in
     let indent-rest = c .before .before .before .before .before .before .indent-rest in

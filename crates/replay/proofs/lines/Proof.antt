@@ -6,7 +6,9 @@ use Rattle.replay.proofs.lines.Statement.{statement}
 use Rattle.replay.proofs.lines.Tie as tie
 
 abbrev Inv-loop : tie.InvT-loop
-Inv-loop input source₀ chunks₀ pieces₀ store₀ tally₀ at₀ place₀ n₀ source chunks pieces store tally at place n = (length source ≡ length source₀) × (length chunks ≡ length chunks₀) × (length pieces ≡ length pieces₀) × (length store ≡ length store₀) × (length tally ≡ length tally₀) × (at ≤ length input) × (n ≤ length source)
+Inv-loop input source₀ chunks₀ pieces₀ store₀ tally₀ at₀ place₀ n₀ source chunks pieces store tally at place n = (length source ≡ length source₀) ×
+    (length chunks ≡ length chunks₀) × (length pieces ≡ length pieces₀) × (length store ≡ length store₀) × (length tally ≡ length tally₀) ×
+    (at ≤ length input) × (n ≤ length source)
 
 abbrev μ-loop : tie.MeasureT-loop
 μ-loop input source₀ chunks₀ pieces₀ store₀ tally₀ at₀ place₀ n₀ source chunks pieces store tally at place n = length input - at

@@ -1,4 +1,4 @@
-use Rattle.counts.specs.Sums.{zeros-length}
+use Rattle.memory.proofs.Desks.{zeros-length}
 use native.Mathlib.Omega.{arith}
 use mathlib.Core.Path.{sym}
 use borrow.Author.Needs.{needs}

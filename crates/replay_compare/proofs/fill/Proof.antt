@@ -1,6 +1,6 @@
-use Prim.Native.Nat.{ℕ, _+_, _-_, _*_, _≤_, _<_}
-use lib.ListN.{length, getD, take, drop}
-use Rattle.replay_compare.proofs.Laws.{Filling, filling-none, filling-more, filling-all}
+use Prim.Native.Nat.{_-_}
+use lib.ListN.{length}
+use Rattle.replay_compare.proofs.Tests.{Filling, filling-none, filling-more, filling-all}
 use borrow.Author.Needs.{needs}
 use Rattle.replay_compare.proofs.fill.Statement.{statement}
 use Rattle.replay_compare.proofs.fill.Tie as tie

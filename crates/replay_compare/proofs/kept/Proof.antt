@@ -1,4 +1,4 @@
-use Rattle.counts.specs.Sums.{is-yes, is-no}
+use Rattle.memory_counting.proofs.Sums.{is-no}
 use borrow.Author.Needs.{needs}
 use Rattle.replay_compare.proofs.kept.Statement.{statement}
 use Rattle.replay_compare.proofs.kept.Tie as tie

@@ -1,11 +1,11 @@
 use mathlib.Core.Path.{_≡_, refl, ap, _∙_}
 use mathlib.Core.List.{List}
 use native.Mathlib.Omega.{arith}
-use Prim.Native.Nat.{ℕ, _+_, _-_, _*_, _≤_, _<_}
-use lib.ListN.{length, getD, take, drop}
-use Rattle.counts.specs.Sums.{is-yes, is-no}
+use Prim.Native.Nat.{ℕ, _-_, _≤_}
+use lib.ListN.{length, getD, take}
+use Rattle.memory_counting.proofs.Sums.{is-yes, is-no}
 use Rattle.replay_compare.specs.Compare.{filled}
-use Rattle.replay_compare.proofs.Laws.{filled-at, touched-more, filled-all}
+use Rattle.replay_compare.proofs.Tests.{filled-at, touched-more, filled-all}
 use borrow.Author.Needs.{needs}
 use Rattle.replay_compare.proofs.untouched.Statement.{statement}
 use Rattle.replay_compare.proofs.untouched.Tie as tie

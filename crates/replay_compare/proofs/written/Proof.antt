@@ -3,8 +3,8 @@ use native.Mathlib.Omega.{arith}
 use Prim.Native.Nat.{_-_}
 use lib.ListN.{length, take, drop, length-drop}
 use lib.Seq.{length-take-le, take-all}
-use Rattle.replay_compare.proofs.Laws.{written-short, written-front, written-decides}
-use Rattle.counts.specs.Sums.{is-no}
+use Rattle.replay_compare.proofs.Tests.{written-short, written-front, written-decides}
+use Rattle.memory_counting.proofs.Sums.{is-no}
 use borrow.Author.Needs.{needs}
 use Rattle.replay_compare.proofs.written.Statement.{statement}
 use Rattle.replay_compare.proofs.written.Tie as tie

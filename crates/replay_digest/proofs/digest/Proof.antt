@@ -1,4 +1,4 @@
-use Rattle.replay_digest.proofs.Laws.{digest-is}
+use Rattle.replay_digest.proofs.Walks.{digest-is}
 use borrow.Author.Needs.{needs}
 use Rattle.replay_digest.proofs.digest.Statement.{statement}
 use Rattle.replay_digest.proofs.digest.Tie as tie

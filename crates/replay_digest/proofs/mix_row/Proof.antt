@@ -1,4 +1,4 @@
-use Rattle.replay_digest.proofs.Laws.{flag-none, flag-some}
+use Rattle.replay_digest.proofs.Walks.{flag-none, flag-some}
 use borrow.Author.Needs.{needs}
 use Rattle.replay_digest.proofs.mix_row.Statement.{statement}
 use Rattle.replay_digest.proofs.mix_row.Tie as tie

@@ -1,6 +1,6 @@
-use Rattle.replay_digest.proofs.Laws.{Rows, rows-none, rows-done, rows-row, rows-more}
-use Rattle.fragments.specs.Output.{ready}
-use Rattle.table.specs.declared.Row.{Row}
+use Rattle.replay_digest.proofs.Walks.{Rows, rows-none, rows-done, rows-row, rows-more}
+use Rattle.memory_fragments.proofs.Output.{ready}
+use Rattle.memory_table.specs.declared.Row.{Row}
 use native.Mathlib.Omega.{arith}
 use Prim.Native.Nat.{_+_, _-_}
 use mathlib.Core.Path.{ap}
@@ -30,13 +30,15 @@ mix-row-requires : tie.Need-mix-row-requires Inv-loop μ-loop
 mix-row-requires c κs = search needs
 
 add-section : tie.Need-add-section Inv-loop μ-loop
-add-section c = let n = ready _ _ _ _ (c .before .before .before .before .before .before .before .before .before .before .pre) .narrow .0 in omega (arith, n, c .before .before .loop-test .taken, c .before .before .before .loop .inv .stop-is)
+add-section c = let n = ready _ _ _ _ (c .before .before .before .before .before .before .before .before .before .before .pre) .narrow .0 in
+    omega (arith, n, c .before .before .loop-test .taken, c .before .before .before .loop .inv .stop-is)
 
 loop-less : tie.Need-loop-less Inv-loop μ-loop
 loop-less c = omega (arith, c .before .before .loop-test .taken)
 
 loop-again : tie.Need-loop-again Inv-loop μ-loop
-loop-again c = rows-more (c .before .before .before .loop .inv) (c .before .before .before .before .before .before .before .before .before .before .pre .readable .linked) (c .before .before .loop-test .taken) _ (c .before .section-row .ensures) (c .mix-row .ensures)
+loop-again c = rows-more (c .before .before .before .loop .inv) (c .before .before .before .before .before .before .before .before .before .before .pre .readable .linked)
+    (c .before .before .loop-test .taken) _ (c .before .section-row .ensures) (c .mix-row .ensures)
 
 returns : tie.Need-returns Inv-loop μ-loop
 returns c = rows-done (c .before .loop .inv) (c .loop-test .left)

@@ -1,7 +1,7 @@
-use Rattle.replay_digest.proofs.Laws.{mixed-step, mixed-done}
+use Rattle.replay_digest.proofs.Walks.{mixed-step, mixed-done}
 use Rattle.replay_digest.specs.Digest.{mixed, mixed-all}
-use lib.ListN.{length, getD, take, drop}
-use Prim.Native.Nat.{ℕ, _+_, _-_, _*_, _≤_, _<_}
+use lib.ListN.{length, drop}
+use Prim.Native.Nat.{ℕ, _-_, _≤_}
 use native.Mathlib.Omega.{arith}
 use mathlib.Core.Path.{_≡_, refl, ap, _∙_}
 use borrow.Author.Needs.{needs}

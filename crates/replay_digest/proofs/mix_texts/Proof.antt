@@ -1,8 +1,8 @@
-use Rattle.replay_digest.proofs.Laws.{Fragments, fragments-none, fragments-done, fragments-more, fragments-less}
+use Rattle.replay_digest.proofs.Walks.{Fragments, fragments-none, fragments-done, fragments-more, fragments-less}
 use Rattle.replay_digest.specs.Digest.{mixed-text}
-use Rattle.fragments.specs.Output.{ready}
-use Rattle.fragments.specs.Sections.{rest}
-use Rattle.table.specs.declared.Row.{Row}
+use Rattle.memory_fragments.proofs.Output.{ready}
+use Rattle.memory_fragments.specs.Sections.{rest}
+use Rattle.memory_table.specs.declared.Row.{Row}
 use lib.ListN.{length}
 use native.Mathlib.Omega.{arith}
 use Prim.Native.Nat.{_+_}
@@ -27,7 +27,8 @@ loop-holds : tie.Need-loop-holds Inv-loop μ-loop
 loop-holds c = fragments-none _ _ _ _ _ _ (ap (λ (r : Row). r .start + 2) (c .before .get-row .ensures))
 
 fragment-requires : tie.Need-fragment-requires Inv-loop μ-loop
-fragment-requires c κs = (ready _ _ _ _ (c .before .before .before .before .before .before .before .before .before .pre), (c .before .before .loop .inv .on, omega (arith, c .if1 .taken, c .before .before .loop .inv .stop-is)))
+fragment-requires c κs = (ready _ _ _ _ (c .before .before .before .before .before .before .before .before .before .pre),
+    (c .before .before .loop .inv .on, omega (arith, c .if1 .taken, c .before .before .loop .inv .stop-is)))
 
 mix-text-requires : tie.Need-mix-text-requires Inv-loop μ-loop
 mix-text-requires c κs = search needs
@@ -41,7 +42,8 @@ loop-less : tie.Need-loop-less Inv-loop μ-loop
 loop-less c = fragments-less (c .before .before .before .before .before .loop .inv) (c .before .before .before .if1 .taken) (c .next .ensures)
 
 loop-again : tie.Need-loop-again Inv-loop μ-loop
-loop-again c = fragments-more (c .before .before .before .before .before .loop .inv) (c .before .before .before .if1 .taken) (c .next .ensures) (c .before .mix-text .ensures ∙ ap (mixed-text (c .before .before .before .before .before .loop .d)) (c .before .before .fragment .ensures))
+loop-again c = fragments-more (c .before .before .before .before .before .loop .inv) (c .before .before .before .if1 .taken) (c .next .ensures)
+    (c .before .mix-text .ensures ∙ ap (mixed-text (c .before .before .before .before .before .loop .d)) (c .before .before .fragment .ensures))
 
 returns : tie.Need-returns Inv-loop μ-loop
 returns c = fragments-done (c .before .before .loop .inv) (c .if1 .left)

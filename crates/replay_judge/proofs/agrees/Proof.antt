@@ -1,4 +1,4 @@
-use Rattle.counts.specs.Sums.{not-both}
+use Rattle.memory_counting.proofs.Sums.{not-both}
 use borrow.Author.Needs.{needs}
 use Rattle.replay_judge.proofs.agrees.Statement.{statement}
 use Rattle.replay_judge.proofs.agrees.Tie as tie

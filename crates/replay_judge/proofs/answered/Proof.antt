@@ -1,6 +1,5 @@
-use Rattle.counts.specs.Sums.{is-yes, is-no}
+use Rattle.memory_counting.proofs.Sums.{is-no}
 use borrow.Author.Tests.{eqb-true, eqb-false}
-use borrow.Author.Needs.{needs}
 use Rattle.replay_judge.proofs.answered.Statement.{statement}
 use Rattle.replay_judge.proofs.answered.Tie as tie
 

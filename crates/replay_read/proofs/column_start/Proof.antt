@@ -1,5 +1,5 @@
 use lib.ListN.{length}
-use Prim.Native.Nat.{ℕ, _+_, _-_, _*_, _≤_, _<_}
+use Prim.Native.Nat.{_-_, _≤_}
 use borrow.Author.Needs.{needs}
 use Rattle.replay_read.proofs.column_start.Statement.{statement}
 use Rattle.replay_read.proofs.column_start.Tie as tie

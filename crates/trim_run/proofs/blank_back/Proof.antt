@@ -1,6 +1,6 @@
-use Rattle.trim_run.specs.Run.{BlankBack, back-none, back-more, text-valid}
+use Rattle.trim_run.proofs.Run.{back-none, back-more, text-valid}
 use Rattle.trim_text.specs.Sides.{blank}
-use Rattle.texts.specs.Texts.{run-piece}
+use Rattle.memory_texts.proofs.Texts.{run-piece}
 use Rattle.memory.specs.Layout.{runOf}
 use Rattle.model.specs.Text.{all}
 use borrow.Author.Tests.{not-true, not-false}
@@ -8,7 +8,6 @@ use native.Mathlib.Omega.{arith}
 use Prim.Native.Nat.{_+_, _-_, _≤_}
 use mathlib.Core.Bool.{true}
 use mathlib.Core.Path.{_≡_, refl, sym, ap, _∙_}
-use borrow.Author.Needs.{needs}
 use Rattle.trim_run.proofs.blank_back.Statement.{statement}
 use Rattle.trim_run.proofs.blank_back.Tie as tie
 
@@ -39,7 +38,8 @@ is-blank-requires : tie.Need-is-blank-requires Inv-loop μ-loop
 is-blank-requires c κs =
     let start = c .before .before .before .before .before in
     let l = c .before .before .loop in
-    rw (c .text-of .ensures) (text-valid (start .args .p .now) (start .args .s .now) (start .args .at) (start .args .n) (l .k - 1) (start .pre .valid) (omega (arith, l .inv .1, c .before .loop-test .taken)))
+    rw (c .text-of .ensures) (text-valid (start .args .p .now) (start .args .s .now) (start .args .at) (start .args .n) (l .k - 1) (start .pre .valid)
+        (omega (arith, l .inv .1, c .before .loop-test .taken)))
 
 cast-result : tie.Need-cast-result Inv-loop μ-loop
 cast-result c = omega arith

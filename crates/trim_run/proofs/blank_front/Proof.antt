@@ -1,14 +1,13 @@
-use Rattle.trim_run.specs.Run.{BlankFront, front-none, front-more, text-valid}
+use Rattle.trim_run.proofs.Run.{front-none, front-more, text-valid}
 use Rattle.trim_text.specs.Sides.{blank}
-use Rattle.texts.specs.Texts.{run-piece}
+use Rattle.memory_texts.proofs.Texts.{run-piece}
 use Rattle.memory.specs.Layout.{runOf}
 use Rattle.model.specs.Text.{all}
 use borrow.Author.Tests.{not-true, not-false}
 use native.Mathlib.Omega.{arith}
-use Prim.Native.Nat.{_+_, _-_, _≤_}
+use Prim.Native.Nat.{_-_, _≤_}
 use mathlib.Core.Bool.{true}
 use mathlib.Core.Path.{_≡_, refl, sym, ap, _∙_}
-use borrow.Author.Needs.{needs}
 use Rattle.trim_run.proofs.blank_front.Statement.{statement}
 use Rattle.trim_run.proofs.blank_front.Tie as tie
 
@@ -64,7 +63,8 @@ loop-again c =
       refl,
       refl,
       omega (arith, c .before .before .before .loop-test .taken),
-      front-more (a .pattern) (a .p .now) (a .s .now) (a .at) (a .n) (l .k) (l .inv .3) (sym (ap (blank (a .pattern)) (c .before .before .text-of .ensures)) ∙ sym (c .before .is-blank .ensures) ∙ not-false _ (c .if1 .left)),
+      front-more (a .pattern) (a .p .now) (a .s .now) (a .at) (a .n) (l .k) (l .inv .3) (sym (ap (blank (a .pattern)) (c .before .before .text-of .ensures))
+          ∙ sym (c .before .is-blank .ensures) ∙ not-false _ (c .if1 .left)),
     )
 
 cast-result-2 : tie.Need-cast-result-2 Inv-loop μ-loop

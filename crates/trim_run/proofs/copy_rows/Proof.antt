@@ -1,8 +1,8 @@
-use Rattle.trim_run.specs.Run.{Copied, copied-none, copied-more}
+use Rattle.trim_run.specs.Run.{Copied}
+use Rattle.trim_run.proofs.Run.{copied-none, copied-more}
 use native.Mathlib.Omega.{arith}
-use Prim.Native.Nat.{_+_, _-_, _≤_}
-use mathlib.Core.Path.{_≡_, refl, sym, ap, _∙_}
-use borrow.Author.Needs.{needs}
+use Prim.Native.Nat.{_-_, _≤_}
+use mathlib.Core.Path.{_≡_}
 use Rattle.trim_run.proofs.copy_rows.Statement.{statement}
 use Rattle.trim_run.proofs.copy_rows.Tie as tie
 
@@ -41,7 +41,9 @@ loop-again c =
     let a = start .args in
     let l = c .before .before .before .before .before .before .before .loop in (
       omega (arith, c .before .before .before .before .before .before .loop-test .taken),
-      copied-more (a .p .now) (l .p) (c .before .before .put-piece .last .0) (a .at) (l .k) (a .top) (c .before .before .before .before .get-piece .result) (omega (arith, c .before .before .before .before .before .before .loop-test .taken, start .pre .0)) (l .inv .1) (c .before .before .before .before .get-piece .ensures)
+      copied-more (a .p .now) (l .p) (c .before .before .put-piece .last .0) (a .at) (l .k) (a .top) (c .before .before .before .before .get-piece .result)
+          (omega (arith, c .before .before .before .before .before .before .loop-test .taken, start .pre .0)) (l .inv .1)
+          (c .before .before .before .before .get-piece .ensures)
           (c .before .before .put-piece .ensures) (c .before .before .put-piece .kept .0),
     )
 

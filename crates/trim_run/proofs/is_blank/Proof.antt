@@ -1,4 +1,4 @@
-use Rattle.trim_run.specs.Run.{run-test}
+use Rattle.trim_run.proofs.Run.{run-test}
 use borrow.Author.Needs.{needs}
 use Rattle.trim_run.proofs.is_blank.Statement.{statement}
 use Rattle.trim_run.proofs.is_blank.Tie as tie

@@ -1,8 +1,6 @@
-use Rattle.trim_run.specs.Run.{text-valid, put-trimmed}
-use Rattle.texts.specs.Texts.{run-piece}
-use Rattle.table.specs.declared.Piece.{Piece}
+use Rattle.trim_run.proofs.Run.{text-valid, put-trimmed}
+use Rattle.memory_texts.proofs.Texts.{run-piece}
 use native.Mathlib.Omega.{arith}
-use mathlib.Core.Path.{_≡_, sym, ap, _∙_}
 use borrow.Author.Needs.{needs}
 use Rattle.trim_run.proofs.put_trimmed.Statement.{statement}
 use Rattle.trim_run.proofs.put_trimmed.Tie as tie
@@ -29,11 +27,15 @@ copy-rows-requires c κs =
 
 add-put-piece : tie.Need-add-put-piece
 add-put-piece c =
-    omega (arith, c .before .before .before .before .before .before .before .before .before .before .pre .1 .0 .room, c .before .before .before .before .before .before .before .before .before .before .pre .1 .0 .narrow, c .before .before .before .before .before .before .before .before .before .before .pre .1 .1)
+    omega (arith, c .before .before .before .before .before .before .before .before .before .before .pre .1 .0 .room,
+        c .before .before .before .before .before .before .before .before .before .before .pre .1 .0 .narrow,
+        c .before .before .before .before .before .before .before .before .before .before .pre .1 .1)
 
 put-piece-requires : tie.Need-put-piece-requires
 put-piece-requires c κs =
-    omega (arith, c .before .before .before .before .before .before .before .before .before .before .pre .1 .0 .room, c .before .before .before .before .before .before .before .before .before .before .pre .1 .1, c .before .before .before .copy-rows .ensures .kept .len)
+    omega (arith, c .before .before .before .before .before .before .before .before .before .before .pre .1 .0 .room,
+        c .before .before .before .before .before .before .before .before .before .before .pre .1 .1,
+        c .before .before .before .copy-rows .ensures .kept .len)
 
 same-length : tie.Need-same-length
 same-length c = search needs
@@ -42,8 +44,13 @@ returns : tie.Need-returns
 returns c =
     let start = c .before .before .before .before .before .before .before .before .before .before .before .before .before in
     let a = start .args in
-    put-trimmed (a .front) (a .pattern) (a .p .now) (a .s .now) (c .before .before .before .before .before .before .copy-rows .last .0) (c .before .before .put-piece .last .0) (a .at) (a .n) (a .k) (a .top) (c .before .before .before .before .before .before .before .before .before .get-piece .result) (c .before .before .before .before .before .before .before .before .trim-place .result)
-    (start .pre .1 .1) (c .before .before .before .before .before .before .copy-rows .ensures) (c .before .before .before .before .before .before .before .before .before .get-piece .ensures) (c .before .before .before .before .before .before .before .before .trim-place .ensures) (c .before .before .put-piece .ensures) (c .before .before .put-piece .kept .0)
+    put-trimmed (a .front) (a .pattern) (a .p .now) (a .s .now) (c .before .before .before .before .before .before .copy-rows .last .0)
+        (c .before .before .put-piece .last .0) (a .at) (a .n) (a .k) (a .top) (c .before .before .before .before .before .before .before .before .before .get-piece .result)
+        (c .before .before .before .before .before .before .before .before .trim-place .result)
+    (start .pre .1 .1) (c .before .before .before .before .before .before .copy-rows .ensures)
+        (c .before .before .before .before .before .before .before .before .before .get-piece .ensures)
+        (c .before .before .before .before .before .before .before .before .trim-place .ensures) (c .before .before .put-piece .ensures)
+        (c .before .before .put-piece .kept .0)
 
 pub put-trimmed-spec : {M : Type 1} → statement M
 put-trimmed-spec =

@@ -1,7 +1,7 @@
-use Rattle.trim_run.specs.Run.{RunReady, RowRoom, front-stop, back-stop, part-ready, part-room, trimmed-front, trimmed-back}
+use Rattle.trim_run.proofs.Run.{front-stop, back-stop, part-ready, part-room, trimmed-front, trimmed-back}
 use native.Mathlib.Omega.{arith}
-use Prim.Native.Nat.{_+_, _-_, _<_}
-use mathlib.Core.Path.{_≡_, sym, ap, _∙_}
+use Prim.Native.Nat.{_+_, _-_}
+use mathlib.Core.Path.{_≡_}
 use borrow.Author.Needs.{needs}
 use Rattle.trim_run.proofs.trim_run.Statement.{statement}
 use Rattle.trim_run.proofs.trim_run.Tie as tie
@@ -39,7 +39,9 @@ returns c =
     let b = c .before .before .before .before .blank-front .ensures in
     let k = c .before .before .before .before .blank-front .result in
     let g = front-stop (a .pattern) (a .p .now) (a .s .now) (a .at) (a .n) k b (start .pre .1 .1) in
-    rw (c .before .before .before .before .before .before .if1 .taken) (trimmed-front (a .pattern) (a .p .now) (a .s .now) (c .before .before .put-trimmed .last .0) (a .at) (a .n) k (a .top) b g (rw (c .before .before .before .before .before .before .if1 .taken) at (c .before .before .put-trimmed .ensures)))
+    rw (c .before .before .before .before .before .before .if1 .taken)
+        (trimmed-front (a .pattern) (a .p .now) (a .s .now) (c .before .before .put-trimmed .last .0) (a .at) (a .n) k (a .top) b g
+        (rw (c .before .before .before .before .before .before .if1 .taken) at (c .before .before .put-trimmed .ensures)))
 
 blank-back-requires : tie.Need-blank-back-requires
 blank-back-requires c κs = search needs
@@ -72,7 +74,9 @@ returns-2 c =
     let b = c .before .before .before .before .blank-back .ensures in
     let k = c .before .before .before .before .blank-back .result in
     let g = back-stop (a .pattern) (a .p .now) (a .s .now) (a .at) (a .n) k b (start .pre .1 .1) in
-    rw (c .before .before .before .before .before .before .if1 .left) (trimmed-back (a .pattern) (a .p .now) (a .s .now) (c .before .before .put-trimmed2 .last .0) (a .at) (a .n) k (a .top) b g (rw (c .before .before .before .before .before .before .if1 .left) at (c .before .before .put-trimmed2 .ensures)))
+    rw (c .before .before .before .before .before .before .if1 .left) (trimmed-back (a .pattern) (a .p .now) (a .s .now) (c .before .before .put-trimmed2 .last .0)
+        (a .at) (a .n) k (a .top) b g (rw (c .before .before .before .before .before .before .if1 .left) at
+        (c .before .before .put-trimmed2 .ensures)))
 
 pub trim-run-spec : {M : Type 1} → statement M
 trim-run-spec =

@@ -1,7 +1,7 @@
 use mathlib.Core.Path.{_∙_}
-use Rattle.on_top.proofs.Finishing.{formed-usable}
-use Rattle.trim_sides.specs.Both.{trimmed-readable}
-use Rattle.trim_scratch.specs.Call.{loaded-ready, trim-ran}
+use Rattle.edit_room_above.proofs.Finishing.{formed-usable}
+use Rattle.trim_steps.proofs.Both.{trimmed-readable}
+use Rattle.trim_scratch.proofs.Call.{loaded-ready, trim-ran}
 use borrow.Author.Needs.{needs}
 use Rattle.trim_scratch.proofs.trim_by.Statement.{statement}
 use Rattle.trim_scratch.proofs.trim_by.Tie as tie
@@ -9,8 +9,8 @@ use Rattle.trim_scratch.proofs.trim_by.Tie as tie
 load-requires : tie.Need-load-requires
 load-requires c κs = search needs
 
-trim-sides-requires : tie.Need-trim-sides-requires
-trim-sides-requires c κs =
+trim-steps-requires : tie.Need-trim-steps-requires
+trim-steps-requires c κs =
     let load = c .before .before .before .before .before .before .before .before .before in
     let start = load .before .before .before .before .before .before .before .before .before .before .before .before .before .before in
     loaded-ready (start .pre .0) (start .pre .1 .0) (start .pre .1 .1) (load .load .ensures)
@@ -20,7 +20,7 @@ finish-requires c κs =
     let sides = c .before .before .before .before .before .before .before .before .before .before .before .before in
     let load = sides .before .before .before .before .before .before .before .before .before .before in
     let start = load .before .before .before .before .before .before .before .before .before .before .before .before .before .before in
-    (trimmed-readable (sides .trim-sides .ensures), formed-usable (start .pre .0))
+    (trimmed-readable (sides .trim-steps .ensures), formed-usable (start .pre .0))
 
 same-length : tie.Need-same-length
 same-length c = search needs
@@ -35,19 +35,19 @@ same-length-4 : tie.Need-same-length-4
 same-length-4 c =
     let sides = c .before .before .before .before .before .before .before .before .before .before .before .before .before .before .before .before .before .before .before in
     let load = sides .before .before .before .before .before .before .before .before .before .before in
-    sides .trim-sides .kept .1 .0 ∙ load .load .kept .1 .1 .1 .0
+    sides .trim-steps .kept .1 .0 ∙ load .load .kept .1 .1 .1 .0
 
 same-length-5 : tie.Need-same-length-5
 same-length-5 c =
     let sides = c .before .before .before .before .before .before .before .before .before .before .before .before .before .before .before .before .before .before .before in
     let load = sides .before .before .before .before .before .before .before .before .before .before in
-    sides .trim-sides .kept .1 .1 .0 ∙ load .load .kept .1 .1 .1 .1 .0
+    sides .trim-steps .kept .1 .1 .0 ∙ load .load .kept .1 .1 .1 .1 .0
 
 same-length-6 : tie.Need-same-length-6
 same-length-6 c =
     let sides = c .before .before .before .before .before .before .before .before .before .before .before .before .before .before .before .before .before .before .before in
     let load = sides .before .before .before .before .before .before .before .before .before .before in
-    sides .trim-sides .kept .1 .1 .1 .0 ∙ load .load .kept .1 .1 .1 .1 .1 .0
+    sides .trim-steps .kept .1 .1 .1 .0 ∙ load .load .kept .1 .1 .1 .1 .1 .0
 
 returns : tie.Need-returns
 returns c =
@@ -57,7 +57,7 @@ returns c =
     let start = load .before .before .before .before .before .before .before .before .before .before .before .before .before .before in
     let a = start .args in
     let f = finish .finish .ensures in (
-      trim-ran {both = a .both} {front = a .front} {pattern = a .pattern} (start .pre .0) (start .pre .1 .0) (load .load .ensures) (sides .trim-sides .ensures) (f .0),
+      trim-ran {both = a .both} {front = a .front} {pattern = a .pattern} (start .pre .0) (start .pre .1 .0) (load .load .ensures) (sides .trim-steps .ensures) (f .0),
       f .1,
     )
 
@@ -66,7 +66,7 @@ trim-by-spec =
     tie.close
     (tie.spec
     load-requires
-    trim-sides-requires
+    trim-steps-requires
     finish-requires
     same-length
     same-length-2

@@ -1,8 +1,8 @@
 use mathlib.Core.Path.{sym, refl}
 use native.Mathlib.Omega.{arith}
-use Rattle.layout.specs.Layout.{SCRATCH-LEN, TRIM-PIECES-LEN, TRIM-STORE-LEN}
-use Rattle.memory.specs.Laws.{zeros-length}
-use Rattle.frame.specs.Frame.{zeros-scratch}
+use Rattle.memory_layout.specs.Layout.{SCRATCH-LEN, TRIM-PIECES-LEN, TRIM-STORE-LEN}
+use Rattle.memory.proofs.Desks.{zeros-length}
+use Rattle.edit_scratch.proofs.Tables.{zeros-scratch}
 use borrow.Author.Needs.{needs}
 use Rattle.trim_scratch.proofs.trim_scratch.Statement.{statement}
 use Rattle.trim_scratch.proofs.trim_scratch.Tie as tie

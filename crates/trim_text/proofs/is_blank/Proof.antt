@@ -1,4 +1,4 @@
-use Rattle.trim_text.proofs.Laws.{blank-test}
+use Rattle.trim_text.proofs.Places.{blank-test}
 use borrow.Author.Needs.{needs}
 use Rattle.trim_text.proofs.is_blank.Statement.{statement}
 use Rattle.trim_text.proofs.is_blank.Tie as tie

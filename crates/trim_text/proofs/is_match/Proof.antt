@@ -1,6 +1,6 @@
-use Rattle.trim_text.proofs.Laws.{matches-space, matches-line}
+use Rattle.trim_text.proofs.Places.{matches-space, matches-line}
 use borrow.Author.Tests.{eq-eqb, ne-eqb}
-use mathlib.Core.Path.{refl, sym, _∙_}
+use mathlib.Core.Path.{sym, _∙_}
 use borrow.Author.Needs.{needs}
 use Rattle.trim_text.proofs.is_match.Statement.{statement}
 use Rattle.trim_text.proofs.is_match.Tie as tie

@@ -1,9 +1,9 @@
 use lib.Seq.{length-take-le}
-use Rattle.trim_text.specs.Sides.{EndAt, end-none, end-more, end-stop, end-all}
+use Rattle.trim_text.proofs.Sides.{EndAt, end-none, end-more, end-stop, end-all}
 use borrow.Author.Tests.{not-true, not-false}
-use lib.ListN.{length, take, length-take}
+use lib.ListN.{length-take}
 use native.Mathlib.Omega.{arith}
-use mathlib.Core.Path.{_≡_, sym, ap, _∙_}
+use mathlib.Core.Path.{_≡_, sym, _∙_}
 use borrow.Author.Needs.{needs}
 use Rattle.trim_text.proofs.trim_end_len.Statement.{statement}
 use Rattle.trim_text.proofs.trim_end_len.Tie as tie

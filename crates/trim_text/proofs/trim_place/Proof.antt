@@ -1,7 +1,7 @@
-use Rattle.trim_text.proofs.Laws.{front-place, back-place}
+use Rattle.trim_text.proofs.Places.{front-place, back-place}
 use native.Mathlib.Omega.{arith}
 use Prim.Native.Nat.{_+_, _-_}
-use mathlib.Core.Path.{_≡_, sym, ap, _∙_}
+use mathlib.Core.Path.{_≡_}
 use borrow.Author.Needs.{needs}
 use Rattle.trim_text.proofs.trim_place.Statement.{statement}
 use Rattle.trim_text.proofs.trim_place.Tie as tie

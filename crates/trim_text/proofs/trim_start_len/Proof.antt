@@ -1,10 +1,10 @@
 use borrow.Author.Tests.{not-true, not-false}
-use Rattle.trim_text.specs.Sides.{StartAt, start-none, start-more, start-stop, start-all, start-whole}
-use Rattle.utf8.specs.Texts.{turn}
+use Rattle.trim_text.proofs.Sides.{StartAt, start-none, start-more, start-stop, start-all, start-whole}
+use Rattle.utf8.proofs.Texts.{turn}
 use lib.ListN.{length}
 use native.Mathlib.Omega.{arith}
 use Prim.Native.Nat.{_-_}
-use mathlib.Core.Path.{_≡_, sym, ap, _∙_}
+use mathlib.Core.Path.{sym, _∙_}
 use borrow.Author.Needs.{needs}
 use Rattle.trim_text.proofs.trim_start_len.Statement.{statement}
 use Rattle.trim_text.proofs.trim_start_len.Tie as tie

@@ -1,5 +1,4 @@
 -- `utf8_vectors::find` is safe and ends: the loop keeps between where it began and the end.
--- Assumes nothing.
 use Prim.Native.Nat.{_≤_, _-_}
 use lib.ListN.{length}
 use borrow.Author.Needs.{needs}

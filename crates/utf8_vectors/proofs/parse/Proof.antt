@@ -1,5 +1,4 @@
 -- `utf8_vectors::parse` is safe and ends: `out` keeps its length, and the count stays within it.
--- Assumes nothing.
 use mathlib.Core.Path.{_≡_, _∙_}
 use Prim.Native.Nat.{_≤_, _-_}
 use native.Mathlib.Omega.{arith}

@@ -1,11 +1,10 @@
 -- `utf8_vectors::print_codes` is safe and ends: each character lies within the text (`turn` of crate `utf8`), so the loop ends.
--- Assumes nothing.
 use mathlib.Core.Path.{sym, _∙_}
 use Prim.Native.Nat.{_≤_, _-_}
 use native.Mathlib.Omega.{arith}
 use lib.ListN.{length}
 use borrow.Author.Needs.{needs}
-use Rattle.utf8.specs.Texts.{turn}
+use Rattle.utf8.proofs.Texts.{turn}
 use Rattle.utf8_vectors.proofs.print_codes.Statement.{statement}
 use Rattle.utf8_vectors.proofs.print_codes.Tie as tie
 
@@ -29,17 +28,20 @@ print-code-requires c κs = search needs
 
 add-i : tie.Need-add-i Inv-loop μ-loop
 add-i c =
-    let t = turn (c .before .before .before .before .before .before .before .args .s .now) (c .before .before .before .before .before .loop .i) _ _ (sym (c .before .before .before .before .decode .ensures) ∙ c .before .before .code .given .1) in
+    let t = turn (c .before .before .before .before .before .before .before .args .s .now) (c .before .before .before .before .before .loop .i) _ _
+        (sym (c .before .before .before .before .decode .ensures) ∙ c .before .before .code .given .1) in
     omega (arith, t .1)
 
 loop-less : tie.Need-loop-less Inv-loop μ-loop
 loop-less c =
-    let t = turn (c .before .before .before .before .before .before .before .args .s .now) (c .before .before .before .before .before .loop .i) _ _ (sym (c .before .before .before .before .decode .ensures) ∙ c .before .before .code .given .1) in
+    let t = turn (c .before .before .before .before .before .before .before .args .s .now) (c .before .before .before .before .before .loop .i) _ _
+        (sym (c .before .before .before .before .decode .ensures) ∙ c .before .before .code .given .1) in
     omega (arith, t .0, t .1)
 
 loop-again : tie.Need-loop-again Inv-loop μ-loop
 loop-again c =
-    let t = turn (c .before .before .before .before .before .before .before .args .s .now) (c .before .before .before .before .before .loop .i) _ _ (sym (c .before .before .before .before .decode .ensures) ∙ c .before .before .code .given .1) in
+    let t = turn (c .before .before .before .before .before .before .before .args .s .now) (c .before .before .before .before .before .loop .i) _ _
+        (sym (c .before .before .before .before .decode .ensures) ∙ c .before .before .code .given .1) in
     omega (arith, t .1)
 
 enum-told : tie.Need-enum-told Inv-loop μ-loop

@@ -1,5 +1,4 @@
 -- `utf8_vectors::print_line` is safe and ends: the bytes parsed are a part of the array.
--- Assumes nothing.
 use mathlib.Core.Path.{sym}
 use lib.Seq.{length-take-le}
 use borrow.Author.Needs.{needs}

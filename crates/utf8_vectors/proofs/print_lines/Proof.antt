@@ -1,5 +1,4 @@
 -- `utf8_vectors::print_lines` is safe and ends: the line found lies within the text.
--- Assumes nothing.
 use Prim.Native.Nat.{_≤_, _-_}
 use lib.ListN.{length}
 use borrow.Author.Needs.{needs}

@@ -1,5 +1,4 @@
 -- `utf8_vectors::print_white_space` is safe and ends: the codes are counted up to 110000.
--- Assumes nothing.
 use Prim.Native.Nat.{_≤_, _-_}
 use borrow.Author.Needs.{needs}
 use Rattle.utf8_vectors.proofs.print_white_space.Statement.{statement}

@@ -1,5 +1,4 @@
 -- `utf8_vectors::report` is safe and ends: `print_places` is called where `valid` said true.
--- Assumes nothing.
 use mathlib.Core.Path.{sym, _∙_}
 use borrow.Author.Needs.{needs}
 use Rattle.utf8_vectors.proofs.report.Statement.{statement}

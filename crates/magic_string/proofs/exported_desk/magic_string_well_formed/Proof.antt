@@ -1,6 +1,6 @@
 use borrow.Author.Needs.{needs}
 use mathlib.Core.Path.{refl}
-use Rattle.magic_string.specs.Exported.{checked-yes, checked-no}
+use Rattle.magic_string.proofs.Exported.{checked-yes, checked-no}
 use Rattle.magic_string.proofs.exported_desk.magic_string_well_formed.Statement.{statement}
 use Rattle.magic_string.proofs.exported_desk.magic_string_well_formed.Tie as tie
 

@@ -1,6 +1,6 @@
 use borrow.Author.Needs.{needs}
 use mathlib.Core.Path.{refl}
-use Rattle.magic_string.specs.Exported.{seen-none, seen-taken, seen-desk, edited-yes, edited-no}
+use Rattle.magic_string.proofs.Exported.{seen-none, seen-taken, seen-desk, edited-yes, edited-no}
 use Rattle.magic_string.proofs.exported_edits.magic_string_indent_with.Statement.{statement}
 use Rattle.magic_string.proofs.exported_edits.magic_string_indent_with.Tie as tie
 
@@ -46,7 +46,8 @@ same-length-6 c = search needs
 
 returns-2 : tie.Need-returns-2
 returns-2 c =
-    let a = c .before .before .before .before .before .before .before .before .before .before .before .before .before .before .before .before .before .before .before .before .before .before .before .args in
+    let a = c .before .before .before .before .before .before .before .before .before .before .before .before .before .before .before .before .before
+        .before .before .before .before .before .before .args in
     let taken = c .before .before .before .before .before .before .before .before .before .before .before .before .before .taken in
     let used = c .before .before .before .before .before .before .before .before .before .before .before .used in
     let done = c .before .before .before .before .before .before .indent-with in

@@ -18,7 +18,8 @@ call-of-requires : tie.Need-call-of-requires
 call-of-requires c κs = search needs
 
 slice-aggregate-play : tie.Need-slice-aggregate-play
-slice-aggregate-play c = sym (length-take-le _ _ (c .before .before .before .before .before .before .before .before .before .before .before .before .before .before .before .before .before .pre .1 .inside))
+slice-aggregate-play c = sym (length-take-le _ _ (c .before .before .before .before .before .before .before .before .before .before .before .before
+    .before .before .before .before .before .pre .1 .inside))
 
 mul-play : tie.Need-mul-play
 mul-play c = omega (arith, c .before .before .before .before .before .before .before .before .behind-first .ensures .1)
@@ -33,7 +34,8 @@ part-play-end : tie.Need-part-play-end
 part-play-end c = search needs
 
 slice-aggregate-play-2 : tie.Need-slice-aggregate-play-2
-slice-aggregate-play-2 c = sym (length-take-le _ _ (c .before .before .before .before .before .before .before .before .before .before .before .before .before .before .before .before .before .before .before .pre .2 .inside))
+slice-aggregate-play-2 c = sym (length-take-le _ _ (c .before .before .before .before .before .before .before .before .before .before .before .before
+    .before .before .before .before .before .before .before .pre .2 .inside))
 
 slice-relend-prefix-play : tie.Need-slice-relend-prefix-play
 slice-relend-prefix-play c = search needs

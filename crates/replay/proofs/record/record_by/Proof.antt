@@ -15,7 +15,8 @@ slice-aggregate-use-source : tie.Need-slice-aggregate-use-source
 slice-aggregate-use-source c = sym (length-take-le _ _ (c .before .before .before .before .before .before .before .read .ensures .1 .inside))
 
 use-source-requires : tie.Need-use-source-requires
-use-source-requires c κs = c .before .before .before .before .before .before .before .before .before .before .before .before .before .before .before .before .before .before .before .before .before .pre
+use-source-requires c κs = c .before .before .before .before .before .before .before .before .before .before .before .before .before .before .before
+    .before .before .before .before .before .before .pre
 
 slice-reshare-prefix-cut : tie.Need-slice-reshare-prefix-cut
 slice-reshare-prefix-cut c = search needs
@@ -39,19 +40,28 @@ same-length-4 : tie.Need-same-length-4
 same-length-4 c = c .before .before .before .before .before .before .before .before .cut .kept .1 .1 .1 .1 .0
 
 same-length-5 : tie.Need-same-length-5
-same-length-5 c = c .before .before .before .before .before .before .before .before .before .before .before .before .before .before .before .before .before .before .before .before .before .before .before .before .before .before .before .before .read .kept .1 .0
+same-length-5 c = c .before .before .before .before .before .before .before .before .before .before .before .before .before .before .before .before
+    .before .before .before .before .before .before .before .before .before .before .before .before .read .kept .1 .0
 
 same-length-6 : tie.Need-same-length-6
-same-length-6 c = c .before .before .before .before .before .before .before .before .before .before .before .before .before .before .before .before .before .before .before .before .before .before .before .before .before .before .before .before .read .kept .1 .1 .0
+same-length-6 c = c .before .before .before .before .before .before .before .before .before .before .before .before .before .before .before .before
+    .before .before .before .before .before .before .before .before .before .before .before .before .read .kept .1 .1 .0
 
 same-length-7 : tie.Need-same-length-7
-same-length-7 c = c .before .before .before .before .before .before .before .before .before .before .before .before .before .before .before .before .before .before .before .before .before .before .before .before .before .before .before .before .read .kept .1 .1 .1 .0
+same-length-7 c = c .before .before .before .before .before .before .before .before .before .before .before .before .before .before .before .before
+    .before .before .before .before .before .before .before .before .before .before .before .before .read .kept .1 .1 .1 .0
 
 same-length-8 : tie.Need-same-length-8
 same-length-8 c = c .before .before .before .before .before .before .before .before .cut .kept .1 .1 .1 .1 .1 .1 .1 .1 .0
 
 returns : tie.Need-returns
-returns c = omega (arith, c .before .before .before .before .before .before .before .before .cut .ensures, length-take-le (c .before .before .before .before .before .before .before .before .before .before .before .before .before .before .before .before .before .before .before .use-source .result) (c .before .before .before .before .before .before .before .before .before .before .before .before .before .before .before .before .before .before .before .use-source .last .1 .1 .0) (c .before .before .before .before .before .before .before .before .before .before .before .before .before .before .before .before .before .before .before .use-source .ensures), c .before .before .before .before .before .before .before .before .before .before .before .before .before .before .before .before .before .before .before .use-source .ensures)
+returns c = omega (arith, c .before .before .before .before .before .before .before .before .cut .ensures,
+    length-take-le (c .before .before .before .before .before .before .before .before .before .before .before .before .before .before .before .before
+    .before .before .before .use-source .result) (c .before .before .before .before .before .before .before .before .before .before .before .before
+    .before .before .before .before .before .before .before .use-source .last .1 .1 .0)
+    (c .before .before .before .before .before .before .before .before .before .before .before .before .before .before .before .before .before .before
+    .before .use-source .ensures), c .before .before .before .before .before .before .before .before .before .before .before .before .before .before
+    .before .before .before .before .before .use-source .ensures)
 
 pub record-by-spec : {M : Type 1} → statement M
 record-by-spec =

@@ -1,4 +1,4 @@
-use Prim.Native.Nat.{ℕ, _+_, _-_, _*_, _≤_, _<_}
+use Prim.Native.Nat.{_-_, _≤_}
 use borrow.Author.Needs.{needs}
 use Rattle.replay_read.proofs.names.kind_of.Statement.{statement}
 use Rattle.replay_read.proofs.names.kind_of.Tie as tie

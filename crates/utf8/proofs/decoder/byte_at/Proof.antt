@@ -1,5 +1,4 @@
 -- `utf8::byte_at` meets its contract: a byte of the slice, or 0.
--- Assumes nothing.
 use mathlib.Core.Path.{refl, sym}
 use native.Mathlib.Omega.{arith}
 use lib.ListN.{List·getD-eq-default}

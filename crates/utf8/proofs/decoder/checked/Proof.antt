@@ -1,5 +1,4 @@
 -- `utf8::checked` meets its contract: each answer by the tests that led to it.
--- Assumes nothing.
 use mathlib.Core.Bool.{and-false}
 use native.Mathlib.Omega.{arith}
 use borrow.Author.Tests.{lt-ltb, le-ltb, le-leb, lt-leb}

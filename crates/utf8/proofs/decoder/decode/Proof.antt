@@ -1,9 +1,8 @@
 -- `utf8::decode` meets its contract: the end, one byte, or `long` of the bytes read.
--- Assumes nothing.
 use mathlib.Core.Path.{sym, _∙_}
 use native.Mathlib.Omega.{arith}
 use borrow.Author.Needs.{needs}
-use Rattle.utf8.specs.Sequences.{at-end, at-start, seq-1}
+use Rattle.utf8.proofs.Sequences.{at-end, at-start, seq-1}
 use Rattle.utf8.proofs.decoder.decode.Statement.{statement}
 use Rattle.utf8.proofs.decoder.decode.Tie as tie
 

@@ -1,5 +1,4 @@
 -- `utf8::following` meets its contract: the mask of the two upper bits.
--- Assumes nothing.
 use Rattle.utf8.proofs.Masks.{upper-bits}
 use Rattle.utf8.proofs.decoder.following.Statement.{statement}
 use Rattle.utf8.proofs.decoder.following.Tie as tie

@@ -1,5 +1,4 @@
 -- `utf8::join` meets its contract: a shift and a mask as a product and a remainder.
--- Assumes nothing.
 use Rattle.utf8.proofs.Masks.{joined}
 use Rattle.utf8.proofs.decoder.join.Statement.{statement}
 use Rattle.utf8.proofs.decoder.join.Tie as tie

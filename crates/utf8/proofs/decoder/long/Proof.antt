@@ -1,11 +1,10 @@
 -- `utf8::long` meets its contract: each answer is a law of `Masks.antt` or `Sequences.antt` at the tests that led to it.
--- Assumes nothing.
 use mathlib.Core.Path.{sym, _∙_}
 use native.Mathlib.Omega.{arith}
 use lib.Bits.{and-le-r}
 use borrow.Author.Tests.{not-true, not-false}
 use borrow.Author.Needs.{needs}
-use Rattle.utf8.specs.Sequences.{seq-low, seq-high}
+use Rattle.utf8.proofs.Sequences.{seq-low, seq-high}
 use Rattle.utf8.proofs.Masks.{is-2, is-3, is-4, no-b, no-c, no-d}
 use Rattle.utf8.proofs.decoder.long.Statement.{statement}
 use Rattle.utf8.proofs.decoder.long.Tie as tie
@@ -37,7 +36,8 @@ checked-requires c κs = search needs
 returns-4 : tie.Need-returns-4
 returns-4 c =
     let x = c .before .before .before .before .before .before .before .args in
-    c .checked .ensures ∙ is-2 (x .a) (x .b) (x .c) (x .d) _ _ (omega arith) (omega arith) (c .before .before .before .before .following .ensures) (not-false _ (c .before .before .before .if3 .left)) (c .before .join .ensures)
+    c .checked .ensures ∙ is-2 (x .a) (x .b) (x .c) (x .d) _ _ (omega arith) (omega arith) (c .before .before .before .before .following .ensures)
+        (not-false _ (c .before .before .before .if3 .left)) (c .before .join .ensures)
 
 following-requires-2 : tie.Need-following-requires-2
 following-requires-2 c κs = search needs
@@ -45,7 +45,8 @@ following-requires-2 c κs = search needs
 returns-5 : tie.Need-returns-5
 returns-5 c =
     let x = c .before .before .before .before .before .before .before .args in
-    no-c (x .a) (x .b) (x .c) (x .d) _ _ (omega arith) (omega arith) (c .before .before .before .before .following .ensures) (not-false _ (c .before .before .before .if3 .left)) (c .before .following2 .ensures) (not-true _ (c .if5 .taken))
+    no-c (x .a) (x .b) (x .c) (x .d) _ _ (omega arith) (omega arith) (c .before .before .before .before .following .ensures)
+        (not-false _ (c .before .before .before .if3 .left)) (c .before .following2 .ensures) (not-true _ (c .if5 .taken))
 
 join-requires-2 : tie.Need-join-requires-2
 join-requires-2 c κs = omega (arith, and-le-r (c .before .before .before .before .before .before .before .before .args .a) 15)
@@ -59,7 +60,10 @@ checked-requires-2 c κs = search needs
 returns-6 : tie.Need-returns-6
 returns-6 c =
     let x = c .before .before .before .before .before .before .before .before .before .before .before .args in
-    c .checked2 .ensures ∙ is-3 (x .a) (x .b) (x .c) (x .d) _ _ _ _ (omega arith) (omega arith) (c .before .before .before .before .before .before .before .before .following .ensures) (not-false _ (c .before .before .before .before .before .before .before .if3 .left)) (c .before .before .before .before .before .following2 .ensures) (not-false _ (c .before .before .before .before .if5 .left)) (c .before .before .join2 .ensures) (c .before .join3 .ensures)
+    c .checked2 .ensures ∙ is-3 (x .a) (x .b) (x .c) (x .d) _ _ _ _ (omega arith) (omega arith)
+        (c .before .before .before .before .before .before .before .before .following .ensures)
+        (not-false _ (c .before .before .before .before .before .before .before .if3 .left)) (c .before .before .before .before .before .following2 .ensures)
+        (not-false _ (c .before .before .before .before .if5 .left)) (c .before .before .join2 .ensures) (c .before .join3 .ensures)
 
 following-requires-3 : tie.Need-following-requires-3
 following-requires-3 c κs = search needs
@@ -67,7 +71,9 @@ following-requires-3 c κs = search needs
 returns-7 : tie.Need-returns-7
 returns-7 c =
     let x = c .before .before .before .before .before .before .before .before .before .before .args in
-    no-d (x .a) (x .b) (x .c) (x .d) _ _ _ (omega arith) (omega arith) (c .before .before .before .before .before .before .before .following .ensures) (not-false _ (c .before .before .before .before .before .before .if3 .left)) (c .before .before .before .before .following2 .ensures) (not-false _ (c .before .before .before .if5 .left)) (c .before .following3 .ensures) (not-true _ (c .if7 .taken))
+    no-d (x .a) (x .b) (x .c) (x .d) _ _ _ (omega arith) (omega arith) (c .before .before .before .before .before .before .before .following .ensures)
+        (not-false _ (c .before .before .before .before .before .before .if3 .left)) (c .before .before .before .before .following2 .ensures)
+        (not-false _ (c .before .before .before .if5 .left)) (c .before .following3 .ensures) (not-true _ (c .if7 .taken))
 
 join-requires-4 : tie.Need-join-requires-4
 join-requires-4 c κs = omega (arith, and-le-r (c .before .before .before .before .before .before .before .before .before .before .args .a) 7)
@@ -84,7 +90,13 @@ checked-requires-3 c κs = search needs
 returns-8 : tie.Need-returns-8
 returns-8 c =
     let x = c .before .before .before .before .before .before .before .before .before .before .before .before .before .before .args in
-    c .checked3 .ensures ∙ is-4 (x .a) (x .b) (x .c) (x .d) _ _ _ _ _ _ (omega arith) (omega arith) (c .before .before .before .before .before .before .before .before .before .before .before .following .ensures) (not-false _ (c .before .before .before .before .before .before .before .before .before .before .if3 .left)) (c .before .before .before .before .before .before .before .before .following2 .ensures) (not-false _ (c .before .before .before .before .before .before .before .if5 .left)) (c .before .before .before .before .before .following3 .ensures) (not-false _ (c .before .before .before .before .if7 .left)) (c .before .before .before .join4 .ensures) (c .before .before .join5 .ensures) (c .before .join6 .ensures)
+    c .checked3 .ensures ∙ is-4 (x .a) (x .b) (x .c) (x .d) _ _ _ _ _ _ (omega arith) (omega arith)
+        (c .before .before .before .before .before .before .before .before .before .before .before .following .ensures)
+        (not-false _ (c .before .before .before .before .before .before .before .before .before .before .if3 .left))
+        (c .before .before .before .before .before .before .before .before .following2 .ensures)
+        (not-false _ (c .before .before .before .before .before .before .before .if5 .left)) (c .before .before .before .before .before .following3 .ensures)
+        (not-false _ (c .before .before .before .before .if7 .left)) (c .before .before .before .join4 .ensures) (c .before .before .join5 .ensures)
+        (c .before .join6 .ensures)
 
 pub long-spec : {M : Type 1} → statement M
 long-spec =

@@ -1,10 +1,9 @@
 -- `utf8::boundary` meets its contract: no following byte stands there (`between-at`), or the end.
--- Assumes nothing.
 use mathlib.Core.Bool.{not}
 use mathlib.Core.Path.{sym, ap, _∙_}
 use native.Mathlib.Omega.{arith}
 use borrow.Author.Needs.{needs}
-use Rattle.utf8.specs.Boundaries.{between-at, between-past}
+use Rattle.utf8.proofs.Boundaries.{between-at, between-past}
 use Rattle.utf8.proofs.places.boundary.Statement.{statement}
 use Rattle.utf8.proofs.places.boundary.Tie as tie
 

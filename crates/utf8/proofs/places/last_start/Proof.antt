@@ -1,5 +1,4 @@
 -- `utf8::last_start` meets its contract: every byte passed on the way back is a following byte (`Over`).
--- Assumes nothing.
 use mathlib.Core.Path.{sym, _∙_}
 use native.Mathlib.Omega.{arith}
 use borrow.Author.Needs.{needs}
@@ -36,13 +35,15 @@ sub-p-2 c =
 loop-less : tie.Need-loop-less Inv-loop μ-loop
 loop-less c =
     let l = c .before .before .before .loop in
-    omega (arith, over-positive (c .before .before .before .before .before .args .s .now) (l .p) (c .before .before .before .before .before .pre .0) (l .inv) (sym (c .before .following .ensures) ∙ c .if1 .taken))
+    omega (arith, over-positive (c .before .before .before .before .before .args .s .now) (l .p) (c .before .before .before .before .before .pre .0)
+        (l .inv) (sym (c .before .following .ensures) ∙ c .if1 .taken))
 
 loop-again : tie.Need-loop-again Inv-loop μ-loop
 loop-again c =
     let x = c .before .before .before .before .before .args in
     let l = c .before .before .before .loop in
-    over-next (x .s .now) (l .p) (over-positive (x .s .now) (l .p) (c .before .before .before .before .before .pre .0) (l .inv) (sym (c .before .following .ensures) ∙ c .if1 .taken)) (l .inv) (sym (c .before .following .ensures) ∙ c .if1 .taken)
+    over-next (x .s .now) (l .p) (over-positive (x .s .now) (l .p) (c .before .before .before .before .before .pre .0) (l .inv)
+        (sym (c .before .following .ensures) ∙ c .if1 .taken)) (l .inv) (sym (c .before .following .ensures) ∙ c .if1 .taken)
 
 returns : tie.Need-returns Inv-loop μ-loop
 returns c =

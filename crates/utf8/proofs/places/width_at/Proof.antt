@@ -1,5 +1,4 @@
 -- `utf8::width_at` meets its contract: the width of what `decode` answers.
--- Assumes nothing.
 use mathlib.Core.Path.{sym, ap, _∙_}
 use borrow.Author.Needs.{needs}
 use Rattle.utf8.specs.Rfc3629.{widthOf}

@@ -1,5 +1,4 @@
 -- `utf8::is_white_space` meets its contract: each answer by the key or the region that the `match` found.
--- Assumes nothing.
 use mathlib.Core.Path.{sym}
 use native.Mathlib.Omega.{arith}
 use Rattle.utf8.proofs.Spaces.{by-key, to-8, to-d, to-1fff, to-200a, to-2027, to-2029, from-202a}

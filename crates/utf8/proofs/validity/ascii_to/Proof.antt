@@ -1,5 +1,4 @@
 -- `utf8::ascii_to` meets its contract: every byte of a block is at most the joined bits.
--- Assumes nothing.
 use Prim.Native.Nat.{_-_}
 use native.Mathlib.Omega.{arith}
 use lib.ListN.{length}

@@ -1,5 +1,4 @@
 -- `utf8::joined_bits` meets its contract: the bits joined so far are at least as large as each byte passed.
--- Assumes nothing.
 use Prim.Native.Nat.{ℕ, _≤_, _<_, _-_, _+_}
 use native.Mathlib.Omega.{arith}
 use lib.ListN.{getD}

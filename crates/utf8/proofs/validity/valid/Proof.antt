@@ -1,11 +1,10 @@
 -- `utf8::valid` meets its contract: what is left of the text decides, after each block and each character.
--- Assumes nothing.
 use mathlib.Core.Path.{_≡_, refl, sym, ap, _∙_}
 use Prim.Native.Nat.{_≤_, _-_}
 use native.Mathlib.Omega.{arith}
 use lib.ListN.{length, drop, drop-of-length-le}
 use borrow.Author.Needs.{needs}
-use Rattle.utf8.specs.Texts.{utf8-nil}
+use Rattle.utf8.proofs.Texts.{utf8-nil}
 use Rattle.utf8.specs.Rfc3629.{utf8}
 use Rattle.utf8.proofs.Blocks.{ascii-pass, width-turn, width-none}
 use Rattle.utf8.proofs.validity.valid.Statement.{statement}
@@ -52,18 +51,22 @@ width-at-requires c κs = search needs
 returns : tie.Need-returns Inv-loop2 μ-loop2 Inv-loop μ-loop
 returns c =
     let l = c .before .before .before .loop2 in
-    sym (l .inv .2 ∙ width-none (c .before .before .before .before .before .before .before .before .before .args .s .now) (l .i) (c .before .width-at .result) (omega (arith, c .before .before .before .before .at-most .ensures)) (c .before .width-at .ensures) (c .if1 .taken))
+    sym (l .inv .2 ∙ width-none (c .before .before .before .before .before .before .before .before .before .args .s .now) (l .i) (c .before .width-at .result)
+        (omega (arith, c .before .before .before .before .at-most .ensures)) (c .before .width-at .ensures) (c .if1 .taken))
 
 add-i : tie.Need-add-i Inv-loop2 μ-loop2 Inv-loop μ-loop
-add-i c = let t = width-turn (c .before .before .before .before .before .before .before .before .before .args .s .now) (c .before .before .before .loop2 .i) (c .before .width-at .result) (c .before .width-at .ensures) (c .if1 .left) in omega (arith, t .1)
+add-i c = let t = width-turn (c .before .before .before .before .before .before .before .before .before .args .s .now) (c .before .before .before .loop2 .i)
+    (c .before .width-at .result) (c .before .width-at .ensures) (c .if1 .left) in omega (arith, t .1)
 
 loop2-less : tie.Need-loop2-less Inv-loop2 μ-loop2 Inv-loop μ-loop
-loop2-less c = let t = width-turn (c .before .before .before .before .before .before .before .before .before .args .s .now) (c .before .before .before .loop2 .i) (c .before .width-at .result) (c .before .width-at .ensures) (c .if1 .left) in omega (arith, t .0, t .1)
+loop2-less c = let t = width-turn (c .before .before .before .before .before .before .before .before .before .args .s .now) (c .before .before .before .loop2 .i)
+    (c .before .width-at .result) (c .before .width-at .ensures) (c .if1 .left) in omega (arith, t .0, t .1)
 
 loop2-again : tie.Need-loop2-again Inv-loop2 μ-loop2 Inv-loop μ-loop
 loop2-again c =
     let l = c .before .before .before .loop2 in
-    let t = width-turn (c .before .before .before .before .before .before .before .before .before .args .s .now) (l .i) (c .before .width-at .result) (c .before .width-at .ensures) (c .if1 .left) in (omega (arith, t .0), t .1, l .inv .2 ∙ t .2)
+    let t = width-turn (c .before .before .before .before .before .before .before .before .before .args .s .now) (l .i) (c .before .width-at .result)
+        (c .before .width-at .ensures) (c .if1 .left) in (omega (arith, t .0), t .1, l .inv .2 ∙ t .2)
 
 returns-2 : tie.Need-returns-2 Inv-loop2 μ-loop2 Inv-loop μ-loop
 returns-2 c =

@@ -1,12 +1,11 @@
 -- `utf8::valid_by_character` meets its contract: what is left of the text decides, after each character.
--- Assumes nothing.
 use mathlib.Core.Path.{_≡_, refl, sym, ap, _∙_}
 use Prim.Native.Nat.{_≤_, _-_}
 use native.Mathlib.Omega.{arith}
 use lib.ListN.{length, drop, drop-of-length-le}
 use borrow.Author.Needs.{needs}
 use Rattle.utf8.specs.Rfc3629.{utf8}
-use Rattle.utf8.specs.Texts.{turn, stops, invalid-below, end-past, utf8-nil}
+use Rattle.utf8.proofs.Texts.{turn, stops, invalid-below, end-past, utf8-nil}
 use Rattle.utf8.proofs.validity.valid_by_character.Statement.{statement}
 use Rattle.utf8.proofs.validity.valid_by_character.Tie as tie
 
@@ -26,15 +25,18 @@ enum-known-width : tie.Need-enum-known-width Inv-loop μ-loop
 enum-known-width c = search needs
 
 add-i : tie.Need-add-i Inv-loop μ-loop
-add-i c = let t = turn (c .before .before .before .before .before .before .args .s .now) (c .before .before .before .before .loop .i) _ _ (sym (c .before .before .before .decode .ensures) ∙ c .before .width .given .1) in omega (arith, t .1)
+add-i c = let t = turn (c .before .before .before .before .before .before .args .s .now) (c .before .before .before .before .loop .i) _ _
+    (sym (c .before .before .before .decode .ensures) ∙ c .before .width .given .1) in omega (arith, t .1)
 
 loop-less : tie.Need-loop-less Inv-loop μ-loop
-loop-less c = let t = turn (c .before .before .before .before .before .before .args .s .now) (c .before .before .before .before .loop .i) _ _ (sym (c .before .before .before .decode .ensures) ∙ c .before .width .given .1) in omega (arith, t .0, t .1)
+loop-less c = let t = turn (c .before .before .before .before .before .before .args .s .now) (c .before .before .before .before .loop .i) _ _
+    (sym (c .before .before .before .decode .ensures) ∙ c .before .width .given .1) in omega (arith, t .0, t .1)
 
 loop-again : tie.Need-loop-again Inv-loop μ-loop
 loop-again c =
     let l = c .before .before .before .before .loop in
-    let t = turn (c .before .before .before .before .before .before .args .s .now) (l .i) _ _ (sym (c .before .before .before .decode .ensures) ∙ c .before .width .given .1) in (t .1, l .inv .1 ∙ t .2)
+    let t = turn (c .before .before .before .before .before .before .args .s .now) (l .i) _ _ (sym (c .before .before .before .decode .ensures)
+        ∙ c .before .width .given .1) in (t .1, l .inv .1 ∙ t .2)
 
 enum-told : tie.Need-enum-told Inv-loop μ-loop
 enum-told c = search needs

@@ -1,0 +1,11 @@
+pub mod Acts
+pub mod Bridge
+pub mod Decide
+pub mod Example
+pub mod Kept
+pub mod Moves
+pub mod Needed
+pub mod Pair
+pub mod Run
+pub mod SpaceLaws
+pub mod Theorem

@@ -1,0 +1,4 @@
+mod Whole
+pub mod Bridge
+pub mod Chunks
+pub mod Rows

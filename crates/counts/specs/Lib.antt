@@ -1,4 +1,0 @@
-pub mod Counts
-pub mod Sums
-pub mod Lists
-pub mod Once

@@ -1,1 +1,0 @@
-// Laws of counting, in specs/: there is no code here.

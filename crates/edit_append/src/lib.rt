@@ -1,0 +1,55 @@
+// append.rs: a piece at the back of a piece list.
+ghost use Rattle.model.specs.Call.{append-left, append-right, append};
+ghost use Rattle.memory_used.specs.Above.{Desk, Leaves};
+use memory_used::Outcome;
+use memory_used::Used;
+
+// `append_left`: 1, 3, then the cut and the piece.
+pub fn append_left(
+    source: &[u8],
+    chunks: &mut [u32],
+    pieces: &mut [u32],
+    store: &mut [u8],
+    at: u32,
+    text: &[u8],
+    used: Used,
+) -> Outcome
+    requires { ⌜ Desk (now source) (now chunks) (now pieces) (now store) used ⌝ }
+    ensures { λ o. ⌜ Leaves (append-left at (now (text .entry))) (now (source .entry)) (now (chunks .entry)) (now (pieces .entry)) (now (store .entry))
+        (now (chunks .exit)) (now (pieces .exit)) (now (store .exit)) o ⌝ }
+{
+    edit_insert::insert(source, chunks, pieces, store, at, text, true, false, used)
+}
+
+// `append_right`: 1, 3, then the cut and the piece.
+pub fn append_right(
+    source: &[u8],
+    chunks: &mut [u32],
+    pieces: &mut [u32],
+    store: &mut [u8],
+    at: u32,
+    text: &[u8],
+    used: Used,
+) -> Outcome
+    requires { ⌜ Desk (now source) (now chunks) (now pieces) (now store) used ⌝ }
+    ensures { λ o. ⌜ Leaves (append-right at (now (text .entry))) (now (source .entry)) (now (chunks .entry)) (now (pieces .entry)) (now (store .entry))
+        (now (chunks .exit)) (now (pieces .exit)) (now (store .exit)) o ⌝ }
+{
+    edit_insert::insert(source, chunks, pieces, store, at, text, false, false, used)
+}
+
+// `append`: 1, then the piece for the tail.
+pub fn append(
+    source: &[u8],
+    chunks: &mut [u32],
+    pieces: &mut [u32],
+    store: &mut [u8],
+    text: &[u8],
+    used: Used,
+) -> Outcome
+    requires { ⌜ Desk (now source) (now chunks) (now pieces) (now store) used ⌝ }
+    ensures { λ o. ⌜ Leaves (append (now (text .entry))) (now (source .entry)) (now (chunks .entry)) (now (pieces .entry)) (now (store .entry))
+        (now (chunks .exit)) (now (pieces .exit)) (now (store .exit)) o ⌝ }
+{
+    edit_insert::insert_whole(source, chunks, pieces, store, text, true, used)
+}

@@ -1,0 +1,50 @@
+// What append.rs and prepend.rs share as calls: the tests of the text and the position, then the insertion.
+ghost use Rattle.memory_used.specs.Above.{Desk, Leaves};
+ghost use Rattle.edit_insert.specs.Insertions.{insertion, addition};
+use memory_used::Outcome;
+use memory_used::Used;
+
+// `append_left`, `append_right`, `prepend_left`, `prepend_right`: 1, 3, then the cut and the piece, left or right of the position, at the front or the back of the list.
+pub fn insert(
+    source: &[u8],
+    chunks: &mut [u32],
+    pieces: &mut [u32],
+    store: &mut [u8],
+    at: u32,
+    text: &[u8],
+    left: bool,
+    front: bool,
+    used: Used,
+) -> Outcome
+    requires { ⌜ Desk (now source) (now chunks) (now pieces) (now store) used ⌝ }
+    ensures { λ o. ⌜ Leaves (insertion left front at (now (text .entry))) (now (source .entry)) (now (chunks .entry)) (now (pieces .entry)) (now (store .entry))
+        (now (chunks .exit)) (now (pieces .exit)) (now (store .exit)) o ⌝ }
+{
+    if utf8::valid(text) {
+        if utf8::boundary(source, at as usize) {
+            return edit_insert_either::insert_either(source, chunks, pieces, store, text, at, left, front, used);
+        }
+        return Outcome { number: 3, used };
+    }
+    Outcome { number: 1, used }
+}
+
+// `append` and `prepend`: 1, then the piece at the back of the tail or at the front of the head.
+pub fn insert_whole(
+    source: &[u8],
+    chunks: &mut [u32],
+    pieces: &mut [u32],
+    store: &mut [u8],
+    text: &[u8],
+    tail: bool,
+    used: Used,
+) -> Outcome
+    requires { ⌜ Desk (now source) (now chunks) (now pieces) (now store) used ⌝ }
+    ensures { λ o. ⌜ Leaves (addition tail (now (text .entry))) (now (source .entry)) (now (chunks .entry)) (now (pieces .entry)) (now (store .entry))
+        (now (chunks .exit)) (now (pieces .exit)) (now (store .exit)) o ⌝ }
+{
+    if utf8::valid(text) {
+        return edit_insert_either::whole_either(source, chunks, pieces, store, text, tail, !tail, used);
+    }
+    Outcome { number: 1, used }
+}

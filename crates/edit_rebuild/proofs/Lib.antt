@@ -1,0 +1,4 @@
+pub mod Uses
+pub mod LayOne
+pub mod LayAll
+pub mod Lay

@@ -1,0 +1,59 @@
+// movement.rs: `remove`, and the clearing of a range as a call, which `reset` shares.
+ghost use Prim.Native.Nat.{_<_};
+ghost use Rattle.model.specs.Call.{remove};
+ghost use Rattle.memory_used.specs.Above.{Above, Desk, Leaves};
+ghost use Rattle.edit_clear_range_steps.specs.Range.{Marked, RangeRan};
+use memory_used::Outcome;
+use memory_used::Used;
+
+// `remove` and `reset` past their tests: text_at is 0 for an empty replacement, or the mark for none.
+// On the lent rows themselves where two chunks more are within the limit, so that 13 cannot arise: they use no more than before. Else on scratch rows.
+pub fn clear_range_either(
+    source: &[u8],
+    chunks: &mut [u32],
+    pieces: &mut [u32],
+    store: &mut [u8],
+    a: u32,
+    b: u32,
+    text_at: u32,
+    used: Used,
+) -> Outcome
+    requires { ⌜ Desk (now source) (now chunks) (now pieces) (now store) used ⌝ }
+    requires { ⌜ a < b ⌝ }
+    requires { ⌜ Marked «text_at» ⌝ }
+    ensures { λ o. ⌜ RangeRan a b «text_at» (now (source .entry)) (now (chunks .entry)) (now (pieces .entry)) (now (store .entry))
+        (now (chunks .exit)) (now (pieces .exit)) (now (store .exit)) (o .number)
+        × Above (now (chunks .exit)) (now (pieces .exit)) (now (store .exit)) (o .used) ⌝ }
+{
+    if edit_in_place::has_rows(chunks, 2) {
+        let number = edit_clear_range_steps::clear_range_steps(chunks, a, b, text_at);
+        return Outcome { number, used };
+    }
+    edit_clear_range_scratch::clear_range_scratch(source, chunks, pieces, store, a, b, text_at)
+}
+
+// `remove`: 3, zero width is a no-op, 4, then the range; an end past the source is accepted.
+pub fn remove(
+    source: &[u8],
+    chunks: &mut [u32],
+    pieces: &mut [u32],
+    store: &mut [u8],
+    start: u32,
+    end: u32,
+    used: Used,
+) -> Outcome
+    requires { ⌜ Desk (now source) (now chunks) (now pieces) (now store) used ⌝ }
+    ensures { λ o. ⌜ Leaves (remove start end) (now (source .entry)) (now (chunks .entry)) (now (pieces .entry)) (now (store .entry))
+        (now (chunks .exit)) (now (pieces .exit)) (now (store .exit)) o ⌝ }
+{
+    if memory_texts::between_both(source, start, end) {
+        if start == end {
+            return Outcome { number: 0, used };
+        }
+        if end < start {
+            return Outcome { number: 4, used };
+        }
+        return clear_range_either(source, chunks, pieces, store, start, end, 0, used);
+    }
+    Outcome { number: 3, used }
+}

@@ -1,0 +1,34 @@
+// reset.rs: `reset`.
+ghost use Rattle.model.specs.Call.{reset};
+ghost use Rattle.memory_used.specs.Above.{Desk, Leaves};
+use memory_used::Outcome;
+use memory_used::Used;
+
+// `reset`: 3, zero width is a no-op, 4, 10, then the chunks of the range lose pieces and replacement.
+pub fn reset(
+    source: &[u8],
+    chunks: &mut [u32],
+    pieces: &mut [u32],
+    store: &mut [u8],
+    start: u32,
+    end: u32,
+    used: Used,
+) -> Outcome
+    requires { ⌜ Desk (now source) (now chunks) (now pieces) (now store) used ⌝ }
+    ensures { λ o. ⌜ Leaves (reset start end) (now (source .entry)) (now (chunks .entry)) (now (pieces .entry)) (now (store .entry))
+        (now (chunks .exit)) (now (pieces .exit)) (now (store .exit)) o ⌝ }
+{
+    if memory_texts::between_both(source, start, end) {
+        if start == end {
+            return Outcome { number: 0, used };
+        }
+        if end < start {
+            return Outcome { number: 4, used };
+        }
+        if source.len() < end as usize {
+            return Outcome { number: 10, used };
+        }
+        return edit_remove::clear_range_either(source, chunks, pieces, store, start, end, memory_layout::NONE, used);
+    }
+    Outcome { number: 3, used }
+}

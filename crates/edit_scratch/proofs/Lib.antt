@@ -1,0 +1,3 @@
+pub mod Counting
+pub mod Tables
+pub mod Front

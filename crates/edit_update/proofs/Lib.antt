@@ -1,0 +1,3 @@
+pub mod UpdateTests
+pub mod InPlace
+pub mod Calls

@@ -1,0 +1,3 @@
+pub mod Replaced
+pub mod Steps
+pub mod Walk

@@ -1,1 +1,0 @@
-// The numbers that exported calls may give, in specs/.

@@ -1,3 +1,0 @@
-pub mod Loaded
-pub mod Front
-pub mod Frame

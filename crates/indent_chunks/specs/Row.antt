@@ -1,0 +1,66 @@
+-- One chunk of the walk: its part of the source, its replacement, or neither.
+use mathlib.Core.Path.{_≡_}
+use mathlib.Core.Bool.{Bool}
+use mathlib.Core.List.{List, map}
+use mathlib.Core.Logic.{_⊎_}
+use Prim.Native.Nat.{ℕ, _+_, _*_, _≤_, _<_}
+use lib.ListN.{length, take}
+use Rattle.memory_layout.specs.Layout.{CHUNKS, CHUNKS-LEN, STORE-LEN}
+use Rattle.utf8.specs.Chars.{All}
+use Rattle.memory_table.specs.Order.{Entry, entryAt, countOf, Linked}
+use Rattle.model.specs.Text.{sum}
+use Rattle.model.specs.Chunk.{content}
+use Rattle.model.specs.Limits.{chunk-pieces, chunk-bytes}
+use Rattle.model.specs.WellFormed.{Valid}
+use Rattle.memory.specs.Layout.{chunkOf}
+use Rattle.memory_texts.specs.Texts.{SpanIn}
+use Rattle.memory_list.specs.Insert.{Placed}
+use Rattle.memory_texts.specs.Low.{RowsKept, BytesKept, TextLow, EntryLow}
+use Rattle.model_indent_closed.specs.Indent.{IndentedChunks, indented-chunk}
+use Rattle.indent_cuts.specs.Splice.{Spliced}
+use Rattle.indent_source_chunk.specs.Parts.{IndentorRow}
+
+-- ---- what a row asks
+
+pub record RowReady (indentor source store t p s : List ℕ) (i top byte : ℕ) : Type 0 where
+  pub linked : Linked t
+  pub placed : Placed t i
+  pub span : SpanIn source (entryAt t i)
+  pub valid : Valid (content source (chunkOf p s (entryAt t i)))
+  pub low : EntryLow p top byte (entryAt t i)
+  pub text-low : TextLow (length store) (entryAt t i .text)
+  pub store-front : take (length store) s ≡ store
+  pub store-low : length store ≤ byte
+  pub indentor-row : length indentor ≤ STORE-LEN → IndentorRow indentor p s top byte
+  pub chunk-rows : CHUNKS-LEN ≤ length t
+  pub narrow-chunks : length t ≤ 4294967296
+  pub rows : (top + (entryAt t i .intro .1 + 1)) * 2 ≤ length p
+  pub narrow-pieces : length p ≤ 4294967296
+  pub byte-in : byte ≤ length s
+  pub bytes : length s ≤ byte + STORE-LEN
+  pub narrow : length s < 4294967295
+
+-- what the model leaves of it
+abbrev pub closedRow : List ℕ → List ℕ → List ℕ → List ℕ → List ℕ → List ℕ → ℕ → Bool → IndentedChunks
+closedRow indentor exclude source t p s i mark = indented-chunk indentor exclude source mark (chunkOf p s (entryAt t i))
+
+pub record RowIndented (indentor exclude source t p s : List ℕ) (i : ℕ) (mark : Bool) (top byte : ℕ) (t' p' s' : List ℕ) (mark' : Bool) (top' byte' : ℕ) : Type 0 where
+  pub es : List Entry
+  pub spliced : Spliced t t' i es
+  pub rows : RowsKept top p p'
+  pub bytes : BytesKept byte s s'
+  pub top-up : top ≤ top'
+  pub byte-up : byte ≤ byte'
+  pub byte-in : byte' ≤ length s'
+  pub chunks : map (chunkOf p' s') es ≡ closedRow indentor exclude source t p s i mark .chunks
+  pub mark-is : mark' ≡ closedRow indentor exclude source t p s i mark .mark
+  pub low : All (EntryLow p' top' byte') es
+  pub rows-used : top' ≤ top + (chunk-pieces (chunkOf p s (entryAt t i)) + 1)
+  pub bytes-used : byte' ≤ byte + sum chunk-bytes (closedRow indentor exclude source t p s i mark .chunks)
+
+pub record RowDone (indentor exclude source t p s : List ℕ) (i : ℕ) (mark : Bool) (top byte : ℕ) (t' p' s' : List ℕ) (number : ℕ) (mark' : Bool) (top' byte' : ℕ) : Type 0 where
+  pub zero-or : (number ≡ 0) ⊎ (number ≡ 13)
+  pub done : number ≡ 0 → RowIndented indentor exclude source t p s i mark top byte t' p' s' mark' top' byte'
+  pub past : number ≡ 13
+      → (CHUNKS + 1 < countOf t + length (closedRow indentor exclude source t p s i mark .chunks))
+      ⊎ (length s < byte + sum chunk-bytes (closedRow indentor exclude source t p s i mark .chunks))

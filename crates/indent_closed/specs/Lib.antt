@@ -1,4 +1,0 @@
-pub mod Indent
-pub mod Walk
-pub mod Growth
-pub mod Past

@@ -1,0 +1,108 @@
+-- Laws of what `Own` in specs/ defines.
+use mathlib.Core.Path.{_≡_, sym, ap, _∙_, subst}
+use mathlib.Core.Bool.{Bool, true, false}
+use mathlib.Core.List.{List, [], _∷_, _++_, append-nil}
+use Prim.Native.Nat.{ℕ, _+_, _≤_, _<_}
+use native.Mathlib.Omega.{arith}
+use native.Mathlib.Nat.{add-zero}
+use lib.ListN.{length, take}
+use Rattle.utf8.specs.Chars.{concat}
+use Rattle.memory_table.specs.declared.Row.{Row}
+use Rattle.memory_table.specs.Table.{rowAt, Put}
+use Rattle.model.specs.Text.{Text}
+use Rattle.model.proofs.Lists.{clash}
+use Rattle.memory.specs.Layout.{Place, pieceAt, runOf}
+use Rattle.memory_texts.proofs.Over.{take-over}
+use Rattle.memory_texts.proofs.Texts.{concat-one}
+use Rattle.memory_texts.specs.Carry.{Pushed, Carried, RoomOf, RoomFor}
+use Rattle.memory_texts.proofs.Carry.{carried-one, carried-rows, carried-bytes, carried-run, carried-below, kept-piece}
+use Rattle.memory_list.specs.Insert.{runsOf}
+use Rattle.memory_list.specs.Split.{DeskSet}
+use Rattle.memory_list.proofs.Split.{desk-set}
+use Rattle.memory_texts.proofs.Low.{rows-same, bytes-same}
+use Rattle.indent_head_tail.specs.Run.{RunReady, RunIndented}
+use Rattle.indent_head_tail.specs.Own.{RunPut, side, moved, RowWith, OwnReady, OwnIndented, LayRoom, Laid}
+
+-- ---- a run put into tables that only grow
+
+module _ {ts : List Text} {p s : List ℕ} {byte top : ℕ} {p' s' : List ℕ} {byte' top' : ℕ} (c : Carried ts p s byte top p' s' byte' top') (r : RoomOf ts p s byte top) where
+  whole : ts ≡ [] ++ (ts ++ [])
+  whole = sym (append-nil ts)
+
+  c-whole : Carried ([] ++ (ts ++ [])) p s byte top p' s' byte' top'
+  c-whole = subst (λ (l : List Text). Carried l p s byte top p' s' byte' top') whole c
+
+  r-whole : RoomOf ([] ++ (ts ++ [])) p s byte top
+  r-whole = subst (λ (l : List Text). RoomOf l p s byte top) whole r
+
+  pub run-put : RunPut ts p s byte top p' s' byte'
+  run-put =
+      let z : top + 0 ≡ top = add-zero top in
+      let lp = carried-rows c (r .rows-in) in
+      let ls = carried-bytes c (r .bytes-in) in
+      record {
+        rows = record { len = lp; rows = kept-piece c r };
+        bytes = record { len = ls; bytes = ap (take byte) (c .store-is) ∙ take-over s byte (concat ts) (omega (arith, r .bytes-in)) };
+        run = subst (λ (k : ℕ). runOf p' s' (k, length ts) ≡ ts) z (carried-run [] ts [] c-whole r-whole);
+        low = λ k h.
+            let b = subst (λ (j : ℕ). (j + k < top') × (pieceAt p' (j + k) .0 + pieceAt p' (j + k) .1 ≤ byte')) z (carried-below [] ts [] c-whole r-whole k h) in
+            (omega (arith, b .0, c .row-is), b .1);
+        byte-is = c .byte-is;
+        byte-in = omega (arith, c .byte-is, r .bytes-in, ls);
+      }
+
+-- ---- the head or the tail
+
+module _ (outro : Bool) (indentor : Text) (mark : Bool) (pieces store t p s : List ℕ) (top byte : ℕ) (h : OwnReady outro pieces store t p s top byte) (z : Row) (ez : z ≡ rowAt t 0)
+    (q : Place) (eq : q ≡ side outro (runsOf z)) where
+  run-is : q ≡ side outro (runsOf (rowAt t 0))
+  run-is = eq ∙ ap (λ (r : Row). side outro (runsOf r)) ez
+
+  pub own-run-ready : RunReady pieces store (q .0) (q .1) p s top byte
+  own-run-ready = subst (λ (x : Place). RunReady pieces store (x .0) (x .1) p s top byte) (sym run-is) (h .run)
+
+  module _ {p' s' : List ℕ} {fits mark' : Bool} {byte' : ℕ} (d : RunIndented indentor mark (runOf pieces store (q .0, q .1)) p s byte top p' s' fits mark' byte') where
+    -- the run by row 0's name
+    at-row : RunIndented indentor mark (runOf pieces store (side outro (runsOf (rowAt t 0)))) p s byte top p' s' fits mark' byte'
+    at-row = subst (λ (x : Place). RunIndented indentor mark (runOf pieces store x) p s byte top p' s' fits mark' byte') run-is d
+
+    pub own-short : fits ≡ false → OwnIndented outro indentor mark (runOf pieces store (side outro (runsOf (rowAt t 0)))) t p s top byte t p' s' fits mark' byte'
+    own-short e = record { done = λ k. clash k e; short = at-row .short }
+
+    pub own-done : fits ≡ true → (r : Row) → RowWith outro top z r → (t' : List ℕ) → Put t t' 0 r → length t' ≡ length t
+        → OwnIndented outro indentor mark (runOf pieces store (side outro (runsOf (rowAt t 0)))) t p s top byte t' p' s' fits mark' byte'
+    own-done e r w t' u m =
+        let k =
+        desk-set t t' r (h .linked) u (w .next ∙ ap (λ (x : Row). x .next) ez) (w .prev ∙ ap (λ (x : Row). x .prev) ez) (w .start ∙ ap (λ (x : Row). x .start) ez) m in
+        record {
+          done = λ _.
+              record {
+                desk = subst (DeskSet t t') (w .runs ∙ ap (λ (x : Row). moved outro top (runsOf x)) ez) k;
+                len = m;
+                put = run-put (at-row .done e) (at-row .room e);
+                mark-is = at-row .mark-is e;
+              };
+          short = λ k. clash e k;
+        }
+
+-- ---- the indentor
+
+module _ (indentor p s : List ℕ) where
+  pub laid-none : 32768 < length indentor → Laid indentor p s p s
+  laid-none h = record { rows = rows-same 2048 p; bytes = bytes-same 32768 s; row = λ k. absurd (omega arith) }
+
+  module _ (w : LayRoom p s) (l : length indentor ≤ 32768) where
+    pub lay-room : RoomFor indentor p s 32768 2048
+    lay-room = record { row-in = omega (arith, w .rows); bytes-in = omega (arith, w .bytes); narrow = w .narrow }
+
+    pub laid-one : (p' s' : List ℕ) (byte' : ℕ) → Pushed indentor p s 32768 2048 p' s' byte' → Laid indentor p s p' s'
+    laid-one p' s' byte' x =
+        let one : List Text = indentor ∷ [] in
+        let e : length (concat one) ≡ length indentor = ap length (concat-one indentor) in
+        let r : RoomOf one p s 32768 2048 = record { rows-in = omega (arith, w .rows); bytes-in = omega (arith, w .bytes); rows-narrow = w .rows-narrow; narrow = w .narrow } in
+        let k = run-put (carried-one x) r in
+        record {
+          rows = k .rows;
+          bytes = k .bytes;
+          row = λ _. record { text = k .run; low = λ j h. (k .low j h .0, omega (arith, k .low j h .1, k .byte-is)) };
+        }

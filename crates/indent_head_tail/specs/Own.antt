@@ -1,0 +1,85 @@
+-- The head or the tail indented, with row 0 naming the new run; and the indentor as a piece of its own.
+use mathlib.Core.Path.{_≡_}
+use mathlib.Core.Bool.{Bool, true, false, cond}
+use mathlib.Core.List.{List, [], _∷_}
+use Prim.Native.Nat.{ℕ, _+_, _^_, _≤_, _<_}
+use lib.ListN.{length}
+use Rattle.utf8.specs.Chars.{concat}
+use Rattle.memory_table.specs.declared.Row.{Row}
+use Rattle.memory_table.specs.declared.Piece.{Piece}
+use Rattle.memory_table.specs.Table.{rowAt}
+use Rattle.memory_table.specs.Order.{Linked}
+use Rattle.model.specs.Text.{Text}
+use Rattle.model.specs.Indent.{indent-pieces}
+use Rattle.memory.specs.Layout.{Place, runOf}
+use Rattle.memory_used.specs.Below.{Below}
+use Rattle.memory_list.specs.Insert.{runsOf}
+use Rattle.memory_list.specs.Split.{DeskSet}
+use Rattle.memory_texts.specs.Low.{RowsKept, BytesKept}
+use Rattle.indent_head_tail.specs.Run.{RunReady}
+
+-- ---- a run put into tables that only grow
+
+pub record RunPut (ts : List Text) (p s : List ℕ) (byte top : ℕ) (p' s' : List ℕ) (byte' : ℕ) : Type 0 where
+  pub rows : RowsKept top p p'
+  pub bytes : BytesKept byte s s'
+  pub run : runOf p' s' (top, length ts) ≡ ts
+  pub low : Below p' byte' (top + length ts) (top, length ts)
+  pub byte-is : byte' ≡ byte + length (concat ts)
+  pub byte-in : byte' ≤ length s'
+
+-- ---- row 0's runs
+
+abbrev pub placeOf : Piece → Place
+placeOf q = (q .at, q .n)
+
+abbrev pub Runs : Type 0
+Runs = (ℕ × ℕ) × (ℕ × ℕ)
+
+-- the outro or the intro
+abbrev pub side : Bool → Runs → Place
+side outro x = cond outro (x .1) (x .0)
+
+-- from another row on
+abbrev pub moved : Bool → ℕ → Runs → Runs
+moved outro at x = (cond outro (x .0) (at, x .0 .1), cond outro (at, x .1 .1) (x .1))
+
+-- the row q is r with its outro, or its intro, from another row on
+pub record RowWith (outro : Bool) (at : ℕ) (r q : Row) : Type 0 where
+  pub runs : runsOf q ≡ moved outro at (runsOf r)
+  pub start : q .start ≡ r .start
+  pub next : q .next ≡ r .next
+  pub prev : q .prev ≡ r .prev
+
+-- ---- the head or the tail
+
+pub record OwnReady (outro : Bool) (pieces store t p s : List ℕ) (top byte : ℕ) : Type 0 where
+  pub linked : Linked t
+  pub run : RunReady pieces store (side outro (runsOf (rowAt t 0)) .0) (side outro (runsOf (rowAt t 0)) .1) p s top byte
+
+pub record OwnDone (outro : Bool) (indentor : Text) (mark : Bool) (ts : List Text) (t p s : List ℕ) (top byte : ℕ) (t' p' s' : List ℕ) (mark' : Bool) (byte' : ℕ) : Type 0 where
+  pub desk : DeskSet t t' (moved outro top (runsOf (rowAt t 0)))
+  pub len : length t' ≡ length t
+  pub put : RunPut (indent-pieces indentor mark ts .pieces) p s byte top p' s' byte'
+  pub mark-is : mark' ≡ indent-pieces indentor mark ts .mark
+
+pub record OwnIndented (outro : Bool) (indentor : Text) (mark : Bool) (ts : List Text) (t p s : List ℕ) (top byte : ℕ) (t' p' s' : List ℕ) (fits mark' : Bool) (byte' : ℕ) : Type 0 where
+  pub done : fits ≡ true → OwnDone outro indentor mark ts t p s top byte t' p' s' mark' byte'
+  pub short : fits ≡ false → length s < byte + length (concat (indent-pieces indentor mark ts .pieces))
+
+-- ---- the indentor
+
+pub record LayRoom (p s : List ℕ) : Type 0 where
+  pub rows : 4098 ≤ length p
+  pub bytes : 65536 ≤ length s
+  pub rows-narrow : length p < 2 ^ 32
+  pub narrow : length s < 2 ^ 32
+
+pub record LaidRow (indentor p' s' : List ℕ) : Type 0 where
+  pub text : runOf p' s' (2048, 1) ≡ indentor ∷ []
+  pub low : Below p' 65536 2049 (2048, 1)
+
+pub record Laid (indentor p s p' s' : List ℕ) : Type 0 where
+  pub rows : RowsKept 2048 p p'
+  pub bytes : BytesKept 32768 s s'
+  pub row : length indentor ≤ 32768 → LaidRow indentor p' s'

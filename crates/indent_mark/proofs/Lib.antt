@@ -1,0 +1,4 @@
+pub mod Turns
+pub mod Bytes
+pub mod Fills
+pub mod ByCharacters

@@ -1,3 +1,0 @@
-pub mod Walk
-pub mod Row
-pub mod Chunks

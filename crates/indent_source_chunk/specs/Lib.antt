@@ -1,0 +1,3 @@
+pub mod Begin
+pub mod Parts
+pub mod Source

@@ -1,2 +1,0 @@
-pub mod OnTop
-pub mod TopCalls

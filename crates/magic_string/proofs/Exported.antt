@@ -1,0 +1,48 @@
+-- From what the check decides and the inner call promises to what the exported call promises.
+use mathlib.Core.Path.{_≡_, refl, subst}
+use mathlib.Core.List.{List}
+use Prim.Native.Nat.{ℕ}
+use Rattle.model.specs.Call.{Edit, Report}
+use Rattle.memory.specs.Layout.{magicStringOf}
+use Rattle.memory.specs.WellFormed.{Taken}
+use Rattle.memory.specs.Calls.{Ran, Edited, Told, Reported, Checked}
+use Rattle.memory_used.specs.declared.Used.{Used}
+use Rattle.memory_used.specs.Above.{Above, Desk}
+use Rattle.check_well_formed.specs.declared.Seen.{Seen}
+use Rattle.check_well_formed.specs.declared.Seen.the-variants.{NoDesk, Desk as SeenDesk}
+use Rattle.check_well_formed.specs.Seen.{Sees}
+
+-- what the check has seen: no desk, or one and what it uses
+module _ (source t p s : List ℕ) {r : Seen} where
+  pub seen-none : r ≡ NoDesk → Sees (Taken source t p s) t p s r → Taken source t p s → ⊥
+  seen-none e h = subst (Sees (Taken source t p s) t p s) e h
+
+  module _ (u : Used) (e : r ≡ SeenDesk u) (h : Sees (Taken source t p s) t p s r) where
+    seen : Taken source t p s × Above t p s u
+    seen = subst (Sees (Taken source t p s) t p s) e h
+
+    pub seen-taken : Taken source t p s
+    seen-taken = seen .0
+
+    pub seen-desk : Desk source t p s u
+    seen-desk = record { well-formed = seen .0 .well-formed; above = seen .1 }
+
+module _ {source t p s : List ℕ} where
+  pub checked-yes : Taken source t p s → Checked source t p s 0
+  checked-yes w = record { well-formed = λ _. refl; not-well-formed = λ n. absurd (n w) }
+
+  pub checked-no : (Taken source t p s → ⊥) → Checked source t p s 2
+  checked-no n = record { well-formed = λ w. absurd (n w); not-well-formed = λ _. refl }
+
+  pub edited-yes : {e : Edit} {t′ p′ s′ : List ℕ} {number : ℕ} → Taken source t p s → Ran e source t p s t′ p′ s′ number → Edited e source t p s t′ p′ s′ number
+  edited-yes w r = record { not-well-formed = λ n. absurd (n w); well-formed = λ _. r }
+
+  pub edited-no : {e : Edit} → (Taken source t p s → ⊥) → Edited e source t p s t p s 2
+  edited-no n = record { not-well-formed = λ _. (refl, record { chunks = refl; pieces = refl; store = refl }); well-formed = λ w. absurd (n w) }
+
+  pub reported-yes : {q : Report} {out out′ : List ℕ} {number value : ℕ} → Taken source t p s → Told q (magicStringOf source t p s) out out′ number value
+      → Reported q source t p s out out′ number value
+  reported-yes w r = record { not-well-formed = λ n. absurd (n w); well-formed = λ _. r }
+
+  pub reported-no : {q : Report} {out : List ℕ} → (Taken source t p s → ⊥) → Reported q source t p s out out 2 0
+  reported-no n = record { not-well-formed = λ _. (refl, refl, refl); well-formed = λ w. absurd (n w) }

@@ -1,0 +1,1 @@
+// The numbers that exported calls may give: laws, in proofs/.

@@ -1,2 +1,0 @@
-pub mod Measures
-pub mod Laws

@@ -1,0 +1,5 @@
+pub mod Bytes
+pub mod Counts
+pub mod Lists
+pub mod Once
+pub mod Sums

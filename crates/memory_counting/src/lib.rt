@@ -1,0 +1,1 @@
+// Laws of counting: there is no code here.

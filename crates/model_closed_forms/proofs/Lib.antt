@@ -1,0 +1,12 @@
+pub mod Accepted
+pub mod ByPlan
+pub mod ByPosition
+pub mod Cuts
+pub mod Found
+pub mod MoveWalk
+pub mod RunClosed
+pub mod Spans
+pub mod SplitAt
+pub mod Steps
+pub mod Together
+pub mod UpdateWalk

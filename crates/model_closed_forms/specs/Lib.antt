@@ -1,0 +1,5 @@
+pub mod Plan
+pub mod Spans
+pub mod SplitAt
+pub mod Accepted
+pub mod RunClosed

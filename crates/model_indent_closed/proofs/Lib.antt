@@ -1,0 +1,3 @@
+pub mod Growth
+pub mod Indent
+pub mod Walk

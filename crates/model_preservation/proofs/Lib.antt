@@ -1,0 +1,13 @@
+pub mod Calls
+pub mod Desk
+pub mod Edits
+pub mod Indent
+pub mod IndentAccepted
+pub mod Lists
+pub mod Numbers
+pub mod Refusals
+pub mod Relocate
+pub mod Reports
+pub mod Retexts
+pub mod Spans
+pub mod Trim

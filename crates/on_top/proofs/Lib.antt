@@ -1,5 +1,0 @@
-pub mod Passing
-pub mod Copying
-pub mod Lengthening
-pub mod Longer
-pub mod Finishing

@@ -1,3 +1,0 @@
-pub mod Live
-pub mod Run
-pub mod Apart

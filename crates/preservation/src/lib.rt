@@ -1,1 +1,0 @@
-// Every call of document 01 keeps a desk well formed: laws, in specs/.

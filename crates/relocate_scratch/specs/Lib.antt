@@ -1,2 +1,0 @@
-pub mod Tested
-pub mod Call

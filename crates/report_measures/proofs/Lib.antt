@@ -1,0 +1,2 @@
+mod Loops
+pub mod ByCharacters

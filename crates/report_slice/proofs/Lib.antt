@@ -1,0 +1,4 @@
+mod Seek
+mod Slicing
+mod Giving
+pub mod Walk

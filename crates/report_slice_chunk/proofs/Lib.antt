@@ -1,0 +1,3 @@
+mod Loops
+pub mod Emitting
+pub mod Given

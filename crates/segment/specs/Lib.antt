@@ -1,2 +1,0 @@
-pub mod Range
-pub mod Chunks

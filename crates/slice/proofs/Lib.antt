@@ -1,3 +1,0 @@
-mod Seek
-mod Slicing
-mod Giving

@@ -1,6 +1,0 @@
-pub mod Words
-pub mod Table
-pub mod Ring
-pub mod Order
-pub mod Pieces
-pub mod Sides

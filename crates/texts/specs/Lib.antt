@@ -1,6 +1,0 @@
-pub mod Over
-pub mod Texts
-pub mod Carry
-pub mod Laws
-pub mod Low
-pub mod Own

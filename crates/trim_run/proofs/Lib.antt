@@ -1,0 +1,2 @@
+pub mod Deque
+pub mod Run

@@ -1,4 +1,0 @@
-pub mod Model
-pub mod Apart
-pub mod Side
-pub mod Both

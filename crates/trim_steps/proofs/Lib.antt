@@ -1,0 +1,4 @@
+pub mod Apart
+pub mod Both
+pub mod Model
+pub mod Side

@@ -1,0 +1,3 @@
+pub mod Model
+pub mod Side
+pub mod Both

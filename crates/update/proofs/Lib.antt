@@ -1,2 +1,0 @@
-pub mod UpdateTests
-pub mod OnTop

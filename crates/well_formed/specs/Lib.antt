@@ -1,4 +1,0 @@
-pub mod Rows
-pub mod Chunks
-pub mod Bridge
-pub mod Seen
