@@ -74,7 +74,18 @@ pub fn indent_steps(
 {
     let top = head_end(t);
     indent_run::lay_indentor(p, s, indentor);
-    let h = indent_run::indent_own(pieces, store, t, p, s, false, layout::INDENT_ROW, layout::INDENT_BYTE, true, indentor);
+    let h = indent_run::indent_own(
+        pieces,
+        store,
+        t,
+        p,
+        s,
+        false,
+        layout::INDENT_ROW,
+        layout::INDENT_BYTE,
+        true,
+        indentor,
+    );
     if !h.fits {
         return 13;
     }

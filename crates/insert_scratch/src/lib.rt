@@ -47,7 +47,11 @@ fn add_piece(
             row: layout::PIECE_ROWS,
         },
     );
-    table::put_row(t, i, insert_row::with_run(r, outro, layout::NEW_ROW, run.n + 1));
+    table::put_row(
+        t,
+        i,
+        insert_row::with_run(r, outro, layout::NEW_ROW, run.n + 1),
+    );
 }
 
 // Behind the cut: the piece goes to the outro of the chunk that ends at q, or else to the head; to the right of q to the intro of the chunk that starts there, or
