@@ -3,10 +3,11 @@
 use mathlib.Core.Path.{_≡_, sym, ap, _∙_, subst}
 use mathlib.Core.Bool.{Bool, true, false, cond}
 use mathlib.Core.List.{List, [], _∷_, _++_, append-nil}
-use Prim.Native.Nat.{ℕ, _+_, _^_, _≤_, _<_}
+use Prim.Native.Nat.{ℕ, _+_, _*_, _^_, _≤_, _<_}
 use native.Mathlib.Omega.{arith}
 use native.Mathlib.Nat.{add-zero}
 use lib.ListN.{length, take}
+use Rattle.layout.specs.Layout.{PIECE, PIECE-ROWS, STORE-LEN, INDENT-ROW, INDENT-BYTE}
 use Rattle.utf8.specs.Chars.{concat}
 use Rattle.table.specs.declared.Row.{Row}
 use Rattle.table.specs.declared.Piece.{Piece}
@@ -130,33 +131,33 @@ module _ (outro : Bool) (indentor : Text) (mark : Bool) (pieces store t p s : Li
 
 -- ---- the indentor
 pub record LayRoom (p s : List ℕ) : Type 0 where
-  pub rows : 4098 ≤ length p
-  pub bytes : 65536 ≤ length s
+  pub rows : INDENT-ROW * PIECE ≤ length p
+  pub bytes : INDENT-BYTE ≤ length s
   pub rows-narrow : length p < 2 ^ 32
   pub narrow : length s < 2 ^ 32
 
 pub record LaidRow (indentor p' s' : List ℕ) : Type 0 where
-  pub text : runOf p' s' (2048, 1) ≡ indentor ∷ []
-  pub low : Below p' 65536 2049 (2048, 1)
+  pub text : runOf p' s' (PIECE-ROWS, 1) ≡ indentor ∷ []
+  pub low : Below p' INDENT-BYTE INDENT-ROW (PIECE-ROWS, 1)
 
 pub record Laid (indentor p s p' s' : List ℕ) : Type 0 where
-  pub rows : RowsKept 2048 p p'
-  pub bytes : BytesKept 32768 s s'
-  pub row : length indentor ≤ 32768 → LaidRow indentor p' s'
+  pub rows : RowsKept PIECE-ROWS p p'
+  pub bytes : BytesKept STORE-LEN s s'
+  pub row : length indentor ≤ STORE-LEN → LaidRow indentor p' s'
 
 module _ (indentor p s : List ℕ) where
-  pub laid-none : 32768 < length indentor → Laid indentor p s p s
-  laid-none h = record { rows = rows-same 2048 p; bytes = bytes-same 32768 s; row = λ k. absurd (omega arith) }
+  pub laid-none : STORE-LEN < length indentor → Laid indentor p s p s
+  laid-none h = record { rows = rows-same PIECE-ROWS p; bytes = bytes-same STORE-LEN s; row = λ k. absurd (omega arith) }
 
-  module _ (w : LayRoom p s) (l : length indentor ≤ 32768) where
-    pub lay-room : RoomFor indentor p s 32768 2048
+  module _ (w : LayRoom p s) (l : length indentor ≤ STORE-LEN) where
+    pub lay-room : RoomFor indentor p s STORE-LEN PIECE-ROWS
     lay-room = record { row-in = omega (arith, w .rows); bytes-in = omega (arith, w .bytes); narrow = w .narrow }
 
-    pub laid-one : (p' s' : List ℕ) (byte' : ℕ) → Pushed indentor p s 32768 2048 p' s' byte' → Laid indentor p s p' s'
+    pub laid-one : (p' s' : List ℕ) (byte' : ℕ) → Pushed indentor p s STORE-LEN PIECE-ROWS p' s' byte' → Laid indentor p s p' s'
     laid-one p' s' byte' x =
         let one : List Text = indentor ∷ [] in
         let e : length (concat one) ≡ length indentor = ap length (concat-one indentor) in
-        let r : RoomOf one p s 32768 2048 = record { rows-in = omega (arith, w .rows); bytes-in = omega (arith, w .bytes); rows-narrow = w .rows-narrow; narrow = w .narrow } in
+        let r : RoomOf one p s STORE-LEN PIECE-ROWS = record { rows-in = omega (arith, w .rows); bytes-in = omega (arith, w .bytes); rows-narrow = w .rows-narrow; narrow = w .narrow } in
         let k = run-put (carried-one x) r in
         record {
           rows = k .rows;
