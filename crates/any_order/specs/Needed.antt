@@ -77,7 +77,7 @@ abbrev space : ℕ
 space = 32
 
 abbrev many : Text
-many = replicate 16385 x
+many = replicate (suc (full .most-source)) x
 
 unfoldable pub rows : List Row
 rows =

@@ -147,5 +147,12 @@ pub fn places_apart(t: &[u32], n: u32, pieces: &[u32], size: usize) -> Step
     let count = pieces.len() / memory_layout::PIECE;
     let mut rows = [0u8; memory_layout::PIECE_ROWS];
     let mut marks = [0u64; memory_layout::STORE_MARKS];
-    places_by(t, n, pieces, &mut rows[..count], &mut marks[..layout::STORE_MARKS], size)
+    places_by(
+        t,
+        n,
+        pieces,
+        &mut rows[..count],
+        &mut marks[..layout::STORE_MARKS],
+        size,
+    )
 }

@@ -1,6 +1,7 @@
 // reset.rs: `reset`.
 ghost use Rattle.model.specs.Call.{reset};
 ghost use Rattle.memory_used.specs.Above.{Desk, Leaves};
+use memory_layout::NONE;
 use memory_used::Outcome;
 use memory_used::Used;
 
@@ -28,7 +29,7 @@ pub fn reset(
         if source.len() < end as usize {
             return Outcome { number: 10, used };
         }
-        return edit_remove::clear_range_either(source, chunks, pieces, store, start, end, memory_layout::NONE, used);
+        return edit_remove::clear_range_either(source, chunks, pieces, store, start, end, NONE, used);
     }
     Outcome { number: 3, used }
 }

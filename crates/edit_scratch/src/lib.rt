@@ -84,7 +84,14 @@ fn count_row(p: &[u32], s: &[u8], r: memory_table::Row, c: Counts) -> Counts
 }
 
 // Whether the desk keeps limits that are not above document 01's.
-pub fn keeps(t: &[u32], p: &[u32], s: &[u8], most_chunks: u32, most_pieces: usize, most_bytes: usize) -> bool
+pub fn keeps(
+    t: &[u32],
+    p: &[u32],
+    s: &[u8],
+    most_chunks: u32,
+    most_pieces: usize,
+    most_bytes: usize,
+) -> bool
     requires { ⌜ Readable (now t) (now p) (now s) ⌝ }
     requires { ⌜ («most_chunks» ≤ CHUNKS) × («most_pieces» ≤ PIECES) × («most_bytes» ≤ STORE-LEN) ⌝ }
     ensures { λ r. ⌜ r ≡ within (limitsBy «most_chunks» «most_pieces» «most_bytes») (magicStringOf [] (now (t .entry)) (now (p .entry)) (now (s .entry))) ⌝ }
@@ -137,7 +144,14 @@ pub fn finish(
         (now (chunks .exit)) (now (pieces .exit)) (now (store .exit)) r q ⌝ }
 {
     let most = (chunks.len() / memory_layout::ROW - 1) as u32;
-    if keeps(t, p, s, most, pieces.len() / memory_layout::PIECE_ROOM, store.len()) {
+    if keeps(
+        t,
+        p,
+        s,
+        most,
+        pieces.len() / memory_layout::PIECE_ROOM,
+        store.len(),
+    ) {
         edit_rebuild::rebuild(t, p, s, chunks, pieces, store);
         return r;
     }

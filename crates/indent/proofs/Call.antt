@@ -10,6 +10,7 @@ use lib.ListN.{length, getD, take, drop, replicate, length-append, length-drop, 
 use lib.Seq.{take-at, drop-cons}
 use native.Mathlib.Numerals.{add-one}
 use borrow.Author.Tests.{eq-eqb, ne-eqb}
+use Rattle.memory_layout.specs.Layout.{SOURCE-BYTES}
 use Rattle.utf8.specs.Rfc3629.{utf8, between}
 use Rattle.model.specs.Text.{Text, TAB, SPACE, all, is-nil}
 use Rattle.model.specs.MagicString.{MagicString, Result, ok}
@@ -152,17 +153,17 @@ module _ {source t p s : List ℕ} (w : WellFormed source t p s) where
 
 -- ---- the guess in a buffer
 
-text-fits : (b : Bool) (k : ℕ) → k ≤ 16384 → length (cond b (TAB ∷ []) (replicate k SPACE)) ≤ 16384
+text-fits : (b : Bool) (k : ℕ) → k ≤ SOURCE-BYTES → length (cond b (TAB ∷ []) (replicate k SPACE)) ≤ SOURCE-BYTES
 text-fits true k l = omega arith
 text-fits false k l = simp length-replicate (omega arith)
 
 module _ (source : Text) (g : Indentor) (h : Guessed source g) where
-  pub guess-fits : length source ≤ 16384 → (n : ℕ) → n ≡ length (indentor-text g) → n ≤ 16384
+  pub guess-fits : length source ≤ SOURCE-BYTES → (n : ℕ) → n ≡ length (indentor-text g) → n ≤ SOURCE-BYTES
   unfolding indentor-text
   guess-fits l n e = omega (arith, e, text-fits (g .tab) (g .spaces) (omega (arith, h .short)))
 
   -- it is in the buffer
-  pub guess-room : length source ≤ 16384 → (a : List ℕ) → 16384 ≤ length a → length (indentor-text g) ≤ length a
+  pub guess-room : length source ≤ SOURCE-BYTES → (a : List ℕ) → SOURCE-BYTES ≤ length a → length (indentor-text g) ≤ length a
   guess-room l a k = omega (arith, guess-fits l (length (indentor-text g)) refl)
 
   pub guess-in : (a b : List ℕ) (n : ℕ) → n ≡ length (indentor-text g) → b ≡ indentor-text g ++ drop (length (indentor-text g)) a → n ≤ length b

@@ -4,6 +4,7 @@ use mathlib.Core.Bool.{false}
 use mathlib.Core.List.{List}
 use Prim.Native.Nat.{ℕ}
 use lib.ListN.{length}
+use Rattle.memory_layout.specs.Layout.{INDENT-PIECES-LEN, INDENT-STORE-LEN}
 use Rattle.model.specs.Indent.{indent-by}
 use Rattle.model.specs.Call.{Edit, steps, refused-before, idle}
 use Rattle.memory.specs.Layout.{magicStringOf}
@@ -15,8 +16,8 @@ use Rattle.edit_scratch.specs.Tables.{Scratch}
 -- scratch tables with room for the indentor, for the head, the tail and the intros written anew, and for the bytes of a full store twice
 pub record IndentScratch (t p s : List ℕ) : Type 0 where
   pub scratch : Scratch t p s
-  pub pieces : length p ≡ 7170
-  pub store : length s ≡ 98304
+  pub pieces : length p ≡ INDENT-PIECES-LEN
+  pub store : length s ≡ INDENT-STORE-LEN
 
 -- ---- the call past its tests, by any indentor
 

@@ -4,6 +4,7 @@ ghost use mathlib.Core.Bool.{true};
 ghost use mathlib.Core.Option.{none, some};
 ghost use Prim.Native.Nat.{_≤_};
 ghost use lib.ListN.{length};
+ghost use Rattle.memory_layout.specs.Layout.{SOURCE-BYTES};
 ghost use Rattle.utf8.specs.Rfc3629.{utf8, between};
 ghost use Rattle.model.specs.Text.{all};
 ghost use Rattle.model.specs.Call.{indent-with, options-valid};
@@ -70,12 +71,12 @@ fn indent_tables(
         (now (chunks .exit)) (now (pieces .exit)) (now (store .exit)) (o .number)
         × Above (now (chunks .exit)) (now (pieces .exit)) (now (store .exit)) (o .used) ⌝ }
 {
-    let rows = 6192usize;
-    let words = 7170usize;
-    let size = 98304usize;
-    let mut t = [0u32; 6192];
-    let mut p = [0u32; 7170];
-    let mut s = [0u8; 98304];
+    let rows = memory_layout::SCRATCH_LEN;
+    let words = memory_layout::INDENT_PIECES_LEN;
+    let size = memory_layout::INDENT_STORE_LEN;
+    let mut t = [0u32; memory_layout::SCRATCH_LEN];
+    let mut p = [0u32; memory_layout::INDENT_PIECES_LEN];
+    let mut s = [0u8; memory_layout::INDENT_STORE_LEN];
     indent_by(
         source,
         chunks,
@@ -101,7 +102,7 @@ fn guessed_in(
     used: Used,
 ) -> Outcome
     requires { ⌜ Desk (now source) (now chunks) (now pieces) (now store) used ⌝ }
-    requires { ⌜ 16384 ≤ length (now out) ⌝ }
+    requires { ⌜ SOURCE-BYTES ≤ length (now out) ⌝ }
     requires { ⌜ options-valid (indent-with none (now exclude)) ≡ true ⌝ }
     requires { ⌜ all (between (now source)) (now exclude) ≡ true ⌝ }
     ensures { λ o. ⌜ Leaves (indent-with none (now (exclude .entry))) (now (source .entry)) (now (chunks .entry)) (now (pieces .entry)) (now (store .entry))
@@ -128,8 +129,8 @@ fn by_guess(
     ensures { λ o. ⌜ Leaves (indent-with none (now (exclude .entry))) (now (source .entry)) (now (chunks .entry)) (now (pieces .entry)) (now (store .entry))
         (now (chunks .exit)) (now (pieces .exit)) (now (store .exit)) o ⌝ }
 {
-    let size = 16384usize;
-    let mut out = [0u8; 16384];
+    let size = memory_layout::SOURCE_BYTES;
+    let mut out = [0u8; memory_layout::SOURCE_BYTES];
     guessed_in(
         source,
         chunks,

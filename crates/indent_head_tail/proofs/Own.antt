@@ -6,6 +6,7 @@ use Prim.Native.Nat.{ℕ, _+_, _≤_, _<_}
 use native.Mathlib.Omega.{arith}
 use native.Mathlib.Nat.{add-zero}
 use lib.ListN.{length, take}
+use Rattle.memory_layout.specs.Layout.{PIECE-ROWS, STORE-LEN}
 use Rattle.utf8.specs.Chars.{concat}
 use Rattle.memory_table.specs.declared.Row.{Row}
 use Rattle.memory_table.specs.Table.{rowAt, Put}
@@ -88,18 +89,18 @@ module _ (outro : Bool) (indentor : Text) (mark : Bool) (pieces store t p s : Li
 -- ---- the indentor
 
 module _ (indentor p s : List ℕ) where
-  pub laid-none : 32768 < length indentor → Laid indentor p s p s
-  laid-none h = record { rows = rows-same 2048 p; bytes = bytes-same 32768 s; row = λ k. absurd (omega arith) }
+  pub laid-none : STORE-LEN < length indentor → Laid indentor p s p s
+  laid-none h = record { rows = rows-same PIECE-ROWS p; bytes = bytes-same STORE-LEN s; row = λ k. absurd (omega arith) }
 
-  module _ (w : LayRoom p s) (l : length indentor ≤ 32768) where
-    pub lay-room : RoomFor indentor p s 32768 2048
+  module _ (w : LayRoom p s) (l : length indentor ≤ STORE-LEN) where
+    pub lay-room : RoomFor indentor p s STORE-LEN PIECE-ROWS
     lay-room = record { row-in = omega (arith, w .rows); bytes-in = omega (arith, w .bytes); narrow = w .narrow }
 
-    pub laid-one : (p' s' : List ℕ) (byte' : ℕ) → Pushed indentor p s 32768 2048 p' s' byte' → Laid indentor p s p' s'
+    pub laid-one : (p' s' : List ℕ) (byte' : ℕ) → Pushed indentor p s STORE-LEN PIECE-ROWS p' s' byte' → Laid indentor p s p' s'
     laid-one p' s' byte' x =
         let one : List Text = indentor ∷ [] in
         let e : length (concat one) ≡ length indentor = ap length (concat-one indentor) in
-        let r : RoomOf one p s 32768 2048 = record { rows-in = omega (arith, w .rows); bytes-in = omega (arith, w .bytes); rows-narrow = w .rows-narrow; narrow = w .narrow } in
+        let r : RoomOf one p s STORE-LEN PIECE-ROWS = record { rows-in = omega (arith, w .rows); bytes-in = omega (arith, w .bytes); rows-narrow = w .rows-narrow; narrow = w .narrow } in
         let k = run-put (carried-one x) r in
         record {
           rows = k .rows;

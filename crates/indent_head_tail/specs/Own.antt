@@ -2,8 +2,9 @@
 use mathlib.Core.Path.{_≡_}
 use mathlib.Core.Bool.{Bool, true, false, cond}
 use mathlib.Core.List.{List, [], _∷_}
-use Prim.Native.Nat.{ℕ, _+_, _^_, _≤_, _<_}
+use Prim.Native.Nat.{ℕ, _+_, _*_, _^_, _≤_, _<_}
 use lib.ListN.{length}
+use Rattle.memory_layout.specs.Layout.{PIECE, PIECE-ROWS, STORE-LEN, INDENT-ROW, INDENT-BYTE}
 use Rattle.utf8.specs.Chars.{concat}
 use Rattle.memory_table.specs.declared.Row.{Row}
 use Rattle.memory_table.specs.declared.Piece.{Piece}
@@ -70,16 +71,16 @@ pub record OwnIndented (outro : Bool) (indentor : Text) (mark : Bool) (ts : List
 -- ---- the indentor
 
 pub record LayRoom (p s : List ℕ) : Type 0 where
-  pub rows : 4098 ≤ length p
-  pub bytes : 65536 ≤ length s
+  pub rows : INDENT-ROW * PIECE ≤ length p
+  pub bytes : INDENT-BYTE ≤ length s
   pub rows-narrow : length p < 2 ^ 32
   pub narrow : length s < 2 ^ 32
 
 pub record LaidRow (indentor p' s' : List ℕ) : Type 0 where
-  pub text : runOf p' s' (2048, 1) ≡ indentor ∷ []
-  pub low : Below p' 65536 2049 (2048, 1)
+  pub text : runOf p' s' (PIECE-ROWS, 1) ≡ indentor ∷ []
+  pub low : Below p' INDENT-BYTE INDENT-ROW (PIECE-ROWS, 1)
 
 pub record Laid (indentor p s p' s' : List ℕ) : Type 0 where
-  pub rows : RowsKept 2048 p p'
-  pub bytes : BytesKept 32768 s s'
-  pub row : length indentor ≤ 32768 → LaidRow indentor p' s'
+  pub rows : RowsKept PIECE-ROWS p p'
+  pub bytes : BytesKept STORE-LEN s s'
+  pub row : length indentor ≤ STORE-LEN → LaidRow indentor p' s'

@@ -31,8 +31,8 @@ fn indent_piece(
     }
     let end = w.end;
     let n = end - byte;
-    p[row * 2] = byte as u32;
-    p[row * 2 + 1] = n as u32;
+    p[row * memory_layout::PIECE] = byte as u32;
+    p[row * memory_layout::PIECE + memory_layout::PIECE_N] = n as u32;
     w
 }
 
@@ -143,13 +143,13 @@ pub fn indent_own(
     r
 }
 
-// The indentor as piece row 2048, with its bytes behind the lent ones. One that no store holds has no row.
+// The indentor as the first piece row behind the lent ones, with its bytes behind the lent ones. One that no store holds has no row.
 pub fn lay_indentor(p: &mut [u32], s: &mut [u8], indentor: &[u8])
     requires { ⌜ LayRoom (now p) (now s) ⌝ }
     ensures { λ _. ⌜ Laid (now (indentor .entry)) (now (p .entry)) (now (s .entry)) (now (p .exit)) (now (s .exit)) ⌝ }
 {
-    if indentor.len() > 32768 {
+    if indentor.len() > memory_layout::STORE_LEN {
         return;
     }
-    memory_copy::push_piece(p, s, indentor, 32768, 2048);
+    memory_copy::push_piece(p, s, indentor, memory_layout::STORE_LEN, memory_layout::PIECE_ROWS);
 }

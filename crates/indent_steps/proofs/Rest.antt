@@ -6,6 +6,7 @@ use mathlib.Core.Logic.{_⊎_, inl, inr, ⊎-elim}
 use Prim.Native.Nat.{ℕ, _+_, _*_, _≤_, _<_}
 use native.Mathlib.Omega.{arith}
 use lib.ListN.{length}
+use Rattle.memory_layout.specs.Layout.{CHUNKS}
 use Rattle.utf8.specs.Chars.{All, concat}
 use Rattle.memory_table.specs.Table.{rowAt}
 use Rattle.memory_table.specs.Order.{entryAt}
@@ -42,8 +43,8 @@ module _ (indentor exclude source pieces store t p s : List ℕ) (mark : Bool) (
           zero-or = inr refl;
           done = λ e. absurd (omega arith);
           past = λ _.
-              ⊎-elim {C = (512 < length (closed .chunks)) ⊎ (length s < byte + (sum chunk-bytes (closed .chunks) + length (concat (tail .pieces))))}
-              (λ (a : 512 < length (closed .chunks)). inl a) (λ (b : length s < byte + sum chunk-bytes (closed .chunks)). inr (omega arith)) (y .past z);
+              ⊎-elim {C = (CHUNKS < length (closed .chunks)) ⊎ (length s < byte + (sum chunk-bytes (closed .chunks) + length (concat (tail .pieces))))}
+              (λ (a : CHUNKS < length (closed .chunks)). inl a) (λ (b : length s < byte + sum chunk-bytes (closed .chunks)). inr (omega arith)) (y .past z);
         }
 
     module _ (z : number ≡ 0) where

@@ -9,6 +9,7 @@ use lib.Dec.{leb}
 use lib.ListN.{length, take}
 use lib.Seq.{take-at, take-take}
 use borrow.Author.Tests.{leb-true}
+use Rattle.memory_layout.specs.Layout.{ROW, SOURCE-BYTES, CHUNKS, PIECES, PIECE-ROWS, PIECES-LEN, STORE-LEN, INDENT-ROW, INDENT-BYTE}
 use Rattle.utf8.specs.Chars.{All, nil, cons, concat}
 use Rattle.memory_table.specs.Order.{Entry, entryAt, entries}
 use Rattle.model.specs.Text.{sum}
@@ -38,21 +39,21 @@ use Rattle.model_preservation.proofs.Indent.{pieces-length}
 use Rattle.indent_steps.specs.Rest.{RestReady, leftOf, tailOf, RestDone}
 use Rattle.indent_steps.specs.Steps.{StepsReady, IndentSteps}
 
--- ---- the loaded desk lies below row 2048 and byte 32,768
+-- ---- the loaded desk lies below the rows and bytes behind the lent ones
 
-module _ (p s y : List ℕ) (lp : length p ≤ 4096) (ls : length s ≤ 32768) where
-  run-low : (r : Place) → RunIn p s r → Below (p ++ y) 32768 2048 r
+module _ (p s y : List ℕ) (lp : length p ≤ PIECES-LEN) (ls : length s ≤ STORE-LEN) where
+  run-low : (r : Place) → RunIn p s r → Below (p ++ y) STORE-LEN PIECE-ROWS r
   unfolding RunIn
   run-low r h k g =
       let e = ap (λ (x : Place). x .0 + x .1) (piece-front p y (r .0 + k) (omega (arith, h k g .row))) in
       (omega (arith, h k g .row), omega (arith, h k g .text, e))
 
-  entry-low : (e : Entry) → EntryIn p s e → EntryLow (p ++ y) 2048 32768 e
+  entry-low : (e : Entry) → EntryIn p s e → EntryLow (p ++ y) PIECE-ROWS STORE-LEN e
   unfolding ReplacementIn
   entry-low e h =
       record { runs = record { intro = run-low (e .intro) (h .runs .intro); outro = run-low (e .outro) (h .runs .outro) }; text = λ n. omega (arith, h .replacement n) }
 
-  entries-low : {es : List Entry} → All (EntryIn p s) es → All (EntryLow (p ++ y) 2048 32768) es
+  entries-low : {es : List Entry} → All (EntryIn p s) es → All (EntryLow (p ++ y) PIECE-ROWS STORE-LEN) es
   entries-low nil = nil
   entries-low (cons {x = e} h k) = cons (entry-low e h) (entries-low k)
 
@@ -74,13 +75,13 @@ bytes-then {a} {b} {p} {q} {r} h x y = record { len = y .len ∙ x .len; bytes =
 
 -- ---- the limits
 
-few-pieces : (m : MagicString) → within full m ≡ true → piece-count m ≤ 1024
+few-pieces : (m : MagicString) → within full m ≡ true → piece-count m ≤ PIECES
 unfolding within
 few-pieces m e =
-    leb-true (piece-count m) 1024
-    (and-left (leb (piece-count m) 1024) (leb (byte-count m) 32768)
-    (and-right (leb (length (m .chunks)) 512) (leb (piece-count m) 1024 && leb (byte-count m) 32768)
-    (and-right (leb (length (m .source)) 16384) (leb (length (m .chunks)) 512 && (leb (piece-count m) 1024 && leb (byte-count m) 32768)) e)))
+    leb-true (piece-count m) PIECES
+    (and-left (leb (piece-count m) PIECES) (leb (byte-count m) STORE-LEN)
+    (and-right (leb (length (m .chunks)) CHUNKS) (leb (piece-count m) PIECES && leb (byte-count m) STORE-LEN)
+    (and-right (leb (length (m .source)) SOURCE-BYTES) (leb (length (m .chunks)) CHUNKS && (leb (piece-count m) PIECES && leb (byte-count m) STORE-LEN)) e)))
 
 module _ (indentor exclude source t p s p1 s1 : List ℕ) (w : StepsReady source t p s p1 s1) where
   abbrev m : MagicString
@@ -89,7 +90,7 @@ module _ (indentor exclude source t p s p1 s1 : List ℕ) (w : StepsReady source
   abbrev head : Pieces
   head = indent-pieces indentor true (runOf p s (entryAt t 0 .intro))
 
-  counted : (entryAt t 0 .intro .1 + entryAt t 0 .outro .1) + sum chunk-pieces (chunksOf t p s) ≤ 1024
+  counted : (entryAt t 0 .intro .1 + entryAt t 0 .outro .1) + sum chunk-pieces (chunksOf t p s) ≤ PIECES
   unfolding magicStringOf
   counted =
       omega (
@@ -107,7 +108,7 @@ module _ (indentor exclude source t p s p1 s1 : List ℕ) (w : StepsReady source
   unfolding magicStringOf
   outro-valid = w .desk .formed .outro
 
-  pub steps-head-end : (12 ≤ length t) × (entryAt t 0 .intro .1 ≤ 1024)
+  pub steps-head-end : (ROW ≤ length t) × (entryAt t 0 .intro .1 ≤ PIECES)
   steps-head-end = (omega (arith, w .chunks), omega (arith, counted))
 
   pub steps-lay : LayRoom p1 s1
@@ -121,7 +122,7 @@ module _ (indentor exclude source t p s p1 s1 : List ℕ) (w : StepsReady source
   past-is e = ap (λ (x : Result). within full (x .desk)) closed-is ∙ e
 
   module _ {p2 s2 : List ℕ} (y : Laid indentor p1 s1 p2 s2) where
-    pub head-ready : OwnReady false p s t p2 s2 2049 65536
+    pub head-ready : OwnReady false p s t p2 s2 INDENT-ROW INDENT-BYTE
     head-ready =
         record {
           linked = w .readable .linked;
@@ -136,7 +137,7 @@ module _ (indentor exclude source t p s p1 s1 : List ℕ) (w : StepsReady source
               };
         }
 
-    module _ {t3 p3 s3 : List ℕ} {fits mark : Bool} {byte : ℕ} (d : OwnIndented false indentor true (runOf p s (entryAt t 0 .intro)) t p2 s2 2049 65536 t3 p3 s3 fits mark byte) where
+    module _ {t3 p3 s3 : List ℕ} {fits mark : Bool} {byte : ℕ} (d : OwnIndented false indentor true (runOf p s (entryAt t 0 .intro)) t p2 s2 INDENT-ROW INDENT-BYTE t3 p3 s3 fits mark byte) where
       -- the head alone is too long
       pub steps-head : fits ≡ false → (t' p' s' : List ℕ) → IndentSteps indentor exclude source t p s t' p' s' 13
       unfolding indented magicStringOf
@@ -148,25 +149,25 @@ module _ (indentor exclude source t p s p1 s1 : List ℕ) (w : StepsReady source
           }
 
       module _ (e : fits ≡ true) where
-        o : OwnDone false indentor true (runOf p s (entryAt t 0 .intro)) t p2 s2 2049 65536 t3 p3 s3 mark byte
+        o : OwnDone false indentor true (runOf p s (entryAt t 0 .intro)) t p2 s2 INDENT-ROW INDENT-BYTE t3 p3 s3 mark byte
         o = d .done e
 
-        rows-kept : RowsKept 2048 p1 p3
+        rows-kept : RowsKept PIECE-ROWS p1 p3
         rows-kept = rows-then (omega arith) (y .rows) (o .put .rows)
 
-        bytes-kept : BytesKept 32768 s1 s3
+        bytes-kept : BytesKept STORE-LEN s1 s3
         bytes-kept = bytes-then (omega arith) (y .bytes) (o .put .bytes)
 
-        up : 65536 ≤ byte
+        up : INDENT-BYTE ≤ byte
         up = omega (arith, o .put .byte-is)
 
-        low : All (EntryLow p1 2048 32768) (entries t)
-        low = subst (λ (x : List ℕ). All (EntryLow x 2048 32768) (entries t)) (sym (w .pieces-is)) (entries-low p s (w .behind) (w .pieces) (w .store) (w .readable .chunks))
+        low : All (EntryLow p1 PIECE-ROWS STORE-LEN) (entries t)
+        low = subst (λ (x : List ℕ). All (EntryLow x PIECE-ROWS STORE-LEN) (entries t)) (sym (w .pieces-is)) (entries-low p s (w .behind) (w .pieces) (w .store) (w .readable .chunks))
 
         chunks-are : chunksOf t3 p3 s3 ≡ chunksOf t p s
         chunks-are =
             ap (map (chunkOf p3 s3)) (o .desk .chunks)
-            ∙ entries-same 2048 32768 p1 s1 p3 s3 rows-kept bytes-kept low
+            ∙ entries-same PIECE-ROWS STORE-LEN p1 s1 p3 s3 rows-kept bytes-kept low
             ∙ ap₂ (λ (x z : List ℕ). map (chunkOf x z) (entries t)) (w .pieces-is) (w .store-is)
             ∙ chunks-front p s (w .behind) (w .after) (w .readable .chunks)
 
@@ -177,35 +178,35 @@ module _ (indentor exclude source t p s p1 s1 : List ℕ) (w : StepsReady source
         head-length : length (head .pieces) ≡ entryAt t 0 .intro .1
         head-length = pieces-length indentor true (runOf p s (entryAt t 0 .intro)) ∙ run-length p s (entryAt t 0 .intro .0) (entryAt t 0 .intro .1)
 
-        head-at : entryAt t3 0 .intro ≡ (2049, length (head .pieces))
-        head-at = ap (λ (x : Runs). x .0) (o .desk .desk) ∙ ap (λ (n : ℕ). (2049, n)) (sym head-length)
+        head-at : entryAt t3 0 .intro ≡ (INDENT-ROW, length (head .pieces))
+        head-at = ap (λ (x : Runs). x .0) (o .desk .desk) ∙ ap (λ (n : ℕ). (INDENT-ROW, n)) (sym head-length)
 
         tail-at : entryAt t3 0 .outro ≡ entryAt t 0 .outro
         tail-at = ap (λ (x : Runs). x .1) (o .desk .desk)
 
         store-front : take (length s) s3 ≡ s
         store-front =
-            sym (take-take (length s) 32768 s3 (w .store)) ∙ ap (take (length s)) (bytes-kept .bytes) ∙ take-take (length s) 32768 s1 (w .store)
-                ∙ ap (take (length s)) (w .store-is) ∙ take-at s (w .after) (length s) refl
+            sym (take-take (length s) STORE-LEN s3 (w .store)) ∙ ap (take (length s)) (bytes-kept .bytes)
+            ∙ take-take (length s) STORE-LEN s1 (w .store) ∙ ap (take (length s)) (w .store-is) ∙ take-at s (w .after) (length s) refl
 
         -- the rows behind the head are free
-        pub rest-ready : (top : ℕ) → top ≡ 2049 + entryAt t 0 .intro .1 → RestReady indentor source p s t3 p3 s3 top byte
+        pub rest-ready : (top : ℕ) → top ≡ INDENT-ROW + entryAt t 0 .intro .1 → RestReady indentor source p s t3 p3 s3 top byte
         rest-ready top n =
-            let head-low : Below p3 byte top (2049, length (head .pieces)) = λ k h. let b = o .put .low k h in (omega (arith, b .0, head-length), b .1) in
+            let head-low : Below p3 byte top (INDENT-ROW, length (head .pieces)) = λ k h. let b = o .put .low k h in (omega (arith, b .0, head-length), b .1) in
             record {
               walk =
                   record {
                     linked = o .desk .linked;
                     formed = subst (λ (x : List Chunk). model.Formed (bodyOf source x)) (sym chunks-are) formed;
-                    low = subst (All (EntryLow p3 top byte)) (sym (o .desk .chunks)) (entries-still 2048 32768 p1 p3 rows-kept top byte (omega arith) (omega (arith, up)) low);
+                    low = subst (All (EntryLow p3 top byte)) (sym (o .desk .chunks)) (entries-still PIECE-ROWS STORE-LEN p1 p3 rows-kept top byte (omega arith) (omega (arith, up)) low);
                     texts-low = subst (All (λ e. TextLow (length s) (e .text))) (sym (o .desk .chunks)) (texts-low p s (w .readable .chunks));
                     store-front = store-front;
                     store-low = omega (arith, up, w .store);
                     indentor-row = λ l.
                         let x = y .row l in
                         record {
-                          text = run-same 2049 65536 p2 s2 p3 s3 (o .put .rows) (o .put .bytes) (2048, 1) (x .low) ∙ x .text;
-                          low = run-still 2049 65536 p2 p3 (o .put .rows) top byte (omega arith) up (2048, 1) (x .low);
+                          text = run-same INDENT-ROW INDENT-BYTE p2 s2 p3 s3 (o .put .rows) (o .put .bytes) (PIECE-ROWS, 1) (x .low) ∙ x .text;
+                          low = run-still INDENT-ROW INDENT-BYTE p2 p3 (o .put .rows) top byte (omega arith) up (PIECE-ROWS, 1) (x .low);
                         };
                     few = omega (arith, o .desk .count, few-chunks source t p s (w .desk .limits));
                     chunk-rows = omega (arith, o .len, w .chunks);
@@ -246,7 +247,7 @@ module _ (indentor exclude source t p s p1 s1 : List ℕ) (w : StepsReady source
         left-is = desk-same source (ap (runOf p3 s3) head-at ∙ o .put .run) (ap (λ (x : Pieces). x .pieces) tail-same) (ap (λ z. z .chunks) closed-same)
 
         module _ {t4 p4 s4 : List ℕ} {r : ℕ} (x : RestDone indentor exclude source p s t3 p3 s3 mark byte t4 p4 s4 r) where
-          past-rest : (512 < length (closedOf indentor exclude source t3 p3 s3 mark .chunks))
+          past-rest : (CHUNKS < length (closedOf indentor exclude source t3 p3 s3 mark .chunks))
               ⊎ (length s3 < byte + (sum chunk-bytes (closedOf indentor exclude source t3 p3 s3 mark .chunks) + length (concat (tailOf indentor exclude source p s t3 p3 s3 mark .pieces))))
               → within full (leftOf indentor exclude source p s t3 p3 s3 mark) ≡ false
           past-rest (inl a) = past-chunks full (leftOf indentor exclude source p s t3 p3 s3 mark) a

@@ -5,6 +5,7 @@ use mathlib.Core.List.{List}
 use mathlib.Core.Logic.{_⊎_}
 use Prim.Native.Nat.{ℕ, _+_, _≤_, _<_}
 use lib.ListN.{length}
+use Rattle.memory_layout.specs.Layout.{CHUNKS, PIECES, INDENT-PIECES-LEN, INDENT-ROW, INDENT-STORE-LEN}
 use Rattle.utf8.specs.Chars.{All, concat}
 use Rattle.memory_table.specs.Order.{entryAt}
 use Rattle.model.specs.Text.{sum}
@@ -23,9 +24,9 @@ pub record RestReady (indentor source pieces store t p s : List ℕ) (top byte :
   pub head : Below p byte top (entryAt t 0 .intro)
   pub inside : RunIn pieces store (entryAt t 0 .outro)
   pub valid : All Valid (runOf pieces store (entryAt t 0 .outro))
-  pub few : (top + sum chunk-pieces (chunksOf t p s)) + entryAt t 0 .outro .1 ≤ 3073
-  pub long-pieces : length p ≡ 7170
-  pub long-store : length s ≡ 98304
+  pub few : (top + sum chunk-pieces (chunksOf t p s)) + entryAt t 0 .outro .1 ≤ INDENT-ROW + PIECES
+  pub long-pieces : length p ≡ INDENT-PIECES-LEN
+  pub long-store : length s ≡ INDENT-STORE-LEN
 
 -- the tail, with the mark that the chunks leave
 abbrev pub tailOf : List ℕ → List ℕ → List ℕ → List ℕ → List ℕ → List ℕ → List ℕ → List ℕ → Bool → Pieces
@@ -48,5 +49,5 @@ pub record RestLeft (source t' p' s' : List ℕ) (m : MagicString) : Type 0 wher
 pub record RestDone (indentor exclude source pieces store t p s : List ℕ) (mark : Bool) (byte : ℕ) (t' p' s' : List ℕ) (r : ℕ) : Type 0 where
   pub zero-or : (r ≡ 0) ⊎ (r ≡ 13)
   pub done : r ≡ 0 → RestLeft source t' p' s' (leftOf indentor exclude source pieces store t p s mark)
-  pub past : r ≡ 13 → (512 < length (closedOf indentor exclude source t p s mark .chunks))
+  pub past : r ≡ 13 → (CHUNKS < length (closedOf indentor exclude source t p s mark .chunks))
       ⊎ (length s < byte + (sum chunk-bytes (closedOf indentor exclude source t p s mark .chunks) + length (concat (tailOf indentor exclude source pieces store t p s mark .pieces))))

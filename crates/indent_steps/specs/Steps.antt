@@ -5,6 +5,7 @@ use mathlib.Core.List.{List, _++_}
 use mathlib.Core.Logic.{_⊎_}
 use Prim.Native.Nat.{ℕ, _≤_}
 use lib.ListN.{length}
+use Rattle.memory_layout.specs.Layout.{PIECES-LEN, STORE-LEN, SCRATCH-LEN, INDENT-PIECES-LEN, INDENT-STORE-LEN}
 use Rattle.model.specs.Limits.{full, within}
 use Rattle.model.specs.Indent.{indent-by}
 use Rattle.model.specs.WellFormed as model
@@ -16,15 +17,15 @@ use Rattle.edit_scratch.specs.Tables.{Did}
 pub record StepsReady (source t p s p1 s1 : List ℕ) : Type 0 where
   pub readable : Readable t p s
   pub desk : model.WellFormed full (magicStringOf source t p s)
-  pub chunks : length t ≡ 6192
-  pub pieces : length p ≤ 4096
-  pub store : length s ≤ 32768
+  pub chunks : length t ≡ SCRATCH-LEN
+  pub pieces : length p ≤ PIECES-LEN
+  pub store : length s ≤ STORE-LEN
   pub behind : List ℕ
   pub after : List ℕ
   pub pieces-is : p1 ≡ p ++ behind
   pub store-is : s1 ≡ s ++ after
-  pub long-pieces : length p1 ≡ 7170
-  pub long-store : length s1 ≡ 98304
+  pub long-pieces : length p1 ≡ INDENT-PIECES-LEN
+  pub long-store : length s1 ≡ INDENT-STORE-LEN
 
 -- what the steps leave: the model's desk, or 13 where that passes the limits
 pub record IndentSteps (indentor exclude source t p s t2 p2 s2 : List ℕ) (r : ℕ) : Type 0 where

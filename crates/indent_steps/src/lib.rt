@@ -3,6 +3,7 @@ ghost use mathlib.Core.Path.{_≡_};
 ghost use mathlib.Core.Bool.{true};
 ghost use Prim.Native.Nat.{_+_, _≤_};
 ghost use lib.ListN.{length};
+ghost use Rattle.memory_layout.specs.Layout.{ROW, PIECES, INDENT-ROW};
 ghost use Rattle.memory_table.specs.Order.{entryAt};
 ghost use Rattle.indent_steps.specs.Rest.{RestReady, RestDone};
 ghost use Rattle.indent_steps.specs.Steps.{StepsReady, IndentSteps};
@@ -47,16 +48,16 @@ fn indent_rest(
     0
 }
 
-// The row behind those that the head takes from row 2049 on.
+// The row behind those that the head takes from `INDENT_ROW` on.
 fn head_end(t: &[u32]) -> u32
-    requires { ⌜ (12 ≤ length (now t)) × (entryAt (now t) 0 .intro .1 ≤ 1024) ⌝ }
-    ensures { λ r. ⌜ r ≡ 2049 + entryAt (now (t .entry)) 0 .intro .1 ⌝ }
+    requires { ⌜ (ROW ≤ length (now t)) × (entryAt (now t) 0 .intro .1 ≤ PIECES) ⌝ }
+    ensures { λ r. ⌜ r ≡ INDENT-ROW + entryAt (now (t .entry)) 0 .intro .1 ⌝ }
 {
     let z = memory_table::get_row(t, 0);
-    2049 + z.intro_n
+    memory_layout::INDENT_ROW + z.intro_n
 }
 
-// The indentor as a piece, the head from row 2049 and byte 65,536 on, then the rest. The desk lies in the rows t and the lent pieces and store.
+// The indentor as a piece, the head from `INDENT_ROW` and `INDENT_BYTE` on, then the rest. The desk lies in the rows t and the lent pieces and store.
 pub fn indent_steps(
     source: &[u8],
     pieces: &[u32],
@@ -73,7 +74,18 @@ pub fn indent_steps(
 {
     let top = head_end(t);
     indent_head_tail::lay_indentor(p, s, indentor);
-    let h = indent_head_tail::indent_own(pieces, store, t, p, s, false, 2049, 65536, true, indentor);
+    let h = indent_head_tail::indent_own(
+        pieces,
+        store,
+        t,
+        p,
+        s,
+        false,
+        memory_layout::INDENT_ROW,
+        memory_layout::INDENT_BYTE,
+        true,
+        indentor,
+    );
     if !h.fits {
         return 13;
     }

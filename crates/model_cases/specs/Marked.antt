@@ -1,8 +1,10 @@
 -- Document 01, "Marked cases": A to L. Each line's calls, answers, texts, slices and last characters.
+use Prim.Native.Nat.{_+_}
 use mathlib.Core.Bool.{false}
 use mathlib.Core.List.{List, [], _∷_}
 use mathlib.Core.Option.{none, some}
 use lib.ListN.{replicate}
+use Rattle.model.specs.Limits.{full}
 use Rattle.model.specs.Call.{remove, update-with, append-left, append-right, relocate, trim, indent-with, report, len}
 use Rattle.model_cases.specs.Case.{Case}
 use Rattle.model_cases.specs.Letters.{a, b, c, d, e, f, x, X, Z, lf, tab, space, gives, opened, edited, output, sliced, last-is}
@@ -63,8 +65,9 @@ marked =
     record { steps = opened (a ∷ b ∷ c ∷ []) 0 ∷ edited (append-left 9 (x ∷ [])) 0 ∷ output (x ∷ a ∷ b ∷ c ∷ []) ∷ []; spans = (0, 3) ∷ [] } ∷
     -- K 16,384 bytes open, 16,385 give 13
     record {
-      steps = opened (replicate 16384 a) 0 ∷ gives (report len) 0 16384 [] ∷ opened (replicate 16385 a) 13 ∷ gives (report len) 0 16384 [] ∷ [];
-      spans = (0, 16384) ∷ [];
+      steps = opened (replicate (full .most-source) a) 0 ∷ gives (report len) 0 (full .most-source) [] ∷ opened (replicate (full .most-source + 1) a) 13 ∷ gives
+          (report len) 0 (full .most-source) [] ∷ [];
+      spans = (0, full .most-source) ∷ [];
     } ∷
     -- L "abc", relocate 1,1,2: accepted, unchanged
     record { steps = opened (a ∷ b ∷ c ∷ []) 0 ∷ edited (relocate 1 1 2) 0 ∷ output (a ∷ b ∷ c ∷ []) ∷ []; spans = (0, 3) ∷ [] } ∷ []

@@ -1,8 +1,10 @@
 -- Document 01, "Numbers a caller may get": the table's own examples. 2 is of memory that is no desk, and stands with the memory.
+use Prim.Native.Nat.{_+_}
 use mathlib.Core.Bool.{false}
 use mathlib.Core.List.{List, [], _∷_}
 use mathlib.Core.Option.{none, some}
 use lib.ListN.{replicate}
+use Rattle.model.specs.Limits.{full}
 use Rattle.model.specs.Call.{remove, update-with, reset, append-left, relocate, trim, report, to-string}
 use Rattle.model_cases.specs.Case.{Case}
 use Rattle.model_cases.specs.Letters.{a, b, c, d, e, f, X, Z, gives, opened, edited, output, slice-refused}
@@ -45,7 +47,7 @@ numbers =
       spans = (0, 1) ∷ (1, 3) ∷ (3, 5) ∷ (5, 6) ∷ [];
     } ∷
     -- 13 source of 16,385
-    record { steps = opened (replicate 16385 a) 13 ∷ []; spans = (0, 0) ∷ [] } ∷
+    record { steps = opened (replicate (full .most-source + 1) a) 13 ∷ []; spans = (0, 0) ∷ [] } ∷
     -- 14 output buffer too short: "abc" into 2 bytes
     abc (record { steps = gives (report (to-string 2)) 14 0 [] ∷ []; spans = (0, 3) ∷ [] }) ∷
     -- 15 pattern above 1: trim 2

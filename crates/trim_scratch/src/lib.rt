@@ -3,6 +3,8 @@ ghost use Rattle.memory.specs.WellFormed.{WellFormed};
 ghost use Rattle.memory_used.specs.Above.{Above};
 ghost use Rattle.edit_scratch.specs.Tables.{Scratch};
 ghost use Rattle.trim_scratch.specs.Call.{Wide, TrimRan};
+use memory_layout::NEW_BYTE;
+use memory_layout::NEW_ROW;
 use memory_used::Outcome;
 
 // One side, and after it the end where both are trimmed, with scratch tables lent.
@@ -26,7 +28,7 @@ fn trim_by(
         × Above (now (chunks .exit)) (now (pieces .exit)) (now (store .exit)) (o .used) ⌝ }
 {
     edit_scratch::load(chunks, pieces, store, t, p, s);
-    trim_steps::trim_steps(source, t, p, s, memory_layout::NEW_ROW, memory_layout::NEW_BYTE, both, front, pattern);
+    trim_steps::trim_steps(source, t, p, s, NEW_ROW, NEW_BYTE, both, front, pattern);
     edit_room_above::finish(t, p, s, chunks, pieces, store, 0)
 }
 

@@ -103,27 +103,36 @@ pub fn ends() {
 
 /// Desks whose texts lie at the front of the store and at its top: an insertion,
 /// 200 edits in one list, and how many of those lay the desk out anew. On the desk
-/// whose store is nearly full each edit replaces the same text.
+/// whose store is nearly full each edit replaces the same text. Then the insertion
+/// alone on desks of few chunks.
 pub fn top() {
   println!("\nwhere the texts lie, less the check: an append, and 200 edits in one list");
   print!("{:<30} {:>10} {:>10}", "", "Rust ns", "ns");
   println!(" {:>10} {:>10} {:>8} {:>10}", "Rust us", "us", "ratio", "laid anew");
+  let insertion = [Append { text: b"inserted".to_vec() }];
   let short = desks::edited(2_048, 100);
   let some = papers::edits(&Desk::build(Limits::FULL, &short), 11);
   let full = desks::nearly_full(100);
   let same = UpdateWith { start: 20, end: 40, overwrite: 1, text: b"inserted".to_vec() };
   let same = vec![same; some.len()];
   for (name, desk, edits, style) in [
-    ("at the front", &short, &some, Style::tight()),
-    ("at the top, gaps below", &short, &some, Style::at_top()),
+    ("100 chunks, at the front", &short, &some, Style::tight()),
+    ("100 chunks, at the top", &short, &some, Style::at_top()),
     ("nearly all of the store", &full, &same, Style::tight()),
   ] {
     let image = encode_in(style, desk, &mut Random::new(1));
-    let insertion = [Append { text: b"inserted".to_vec() }];
     let one = [rust_per_edit(desk, &insertion), per_edit(&image, &insertion)];
     let [theirs, ours] = [rust_per_edit(desk, edits), per_edit(&image, edits)]
       .map(|each| each * edits.len() as f64 / 1_000.0);
     print!("{name:<30} {:>10.0} {:>10.0} {theirs:>10.1} {ours:>10.1}", one[0], one[1]);
     println!(" {:>8.2} {:>10}", ours / theirs, laid_anew(&image, edits));
+  }
+  for chunks in [10, 50] {
+    let desk = desks::edited(2_048, chunks);
+    for (name, style) in [("front", Style::tight()), ("top", Style::at_top())] {
+      let image = encode_in(style, &desk, &mut Random::new(1));
+      let [theirs, ours] = [rust_per_edit(&desk, &insertion), per_edit(&image, &insertion)];
+      println!("{:<30} {theirs:>10.0} {ours:>10.0}", format!("{chunks} chunks, at the {name}"));
+    }
   }
 }

@@ -1,5 +1,6 @@
 use mathlib.Core.Path.{sym}
 use native.Mathlib.Omega.{arith}
+use Rattle.memory_layout.specs.Layout.{SOURCE-BYTES}
 use Rattle.memory.proofs.Desks.{zeros-length}
 use borrow.Author.Needs.{needs}
 use Rattle.indent.proofs.by_guess.Statement.{statement}
@@ -9,12 +10,12 @@ array-borrow-prefix-out : tie.Need-array-borrow-prefix-out
 array-borrow-prefix-out c = search needs
 
 slice-aggregate-guessed-in : tie.Need-slice-aggregate-guessed-in
-slice-aggregate-guessed-in c = sym (zeros-length 16384 16384 (omega arith))
+slice-aggregate-guessed-in c = sym (zeros-length SOURCE-BYTES SOURCE-BYTES (omega arith))
 
 guessed-in-requires : tie.Need-guessed-in-requires
 guessed-in-requires c κs =
     let start = c .before .before .before .before .before .before .before .before .before in
-    (start .pre .0, (rw (zeros-length 16384 16384 (omega arith)) (omega arith), (start .pre .1 .0, start .pre .1 .1)))
+    (start .pre .0, (rw (zeros-length SOURCE-BYTES SOURCE-BYTES (omega arith)) (omega arith), (start .pre .1 .0, start .pre .1 .1)))
 
 same-length : tie.Need-same-length
 same-length c = search needs

@@ -1,5 +1,6 @@
 use mathlib.Core.Path.{sym}
 use native.Mathlib.Omega.{arith}
+use Rattle.memory_layout.specs.Layout.{SCRATCH-LEN, INDENT-PIECES-LEN, INDENT-STORE-LEN}
 use Rattle.memory.proofs.Desks.{zeros-length, zeros-at}
 use borrow.Author.Needs.{needs}
 use Rattle.indent.proofs.indent_tables.Statement.{statement}
@@ -9,28 +10,28 @@ array-borrow-prefix-t : tie.Need-array-borrow-prefix-t
 array-borrow-prefix-t c = search needs
 
 slice-aggregate-indent-by : tie.Need-slice-aggregate-indent-by
-slice-aggregate-indent-by c = sym (zeros-length 6192 6192 (omega arith))
+slice-aggregate-indent-by c = sym (zeros-length SCRATCH-LEN SCRATCH-LEN (omega arith))
 
 array-borrow-prefix-p : tie.Need-array-borrow-prefix-p
 array-borrow-prefix-p c = search needs
 
 slice-aggregate-indent-by-2 : tie.Need-slice-aggregate-indent-by-2
-slice-aggregate-indent-by-2 c = sym (zeros-length 7170 7170 (omega arith))
+slice-aggregate-indent-by-2 c = sym (zeros-length INDENT-PIECES-LEN INDENT-PIECES-LEN (omega arith))
 
 array-borrow-prefix-s : tie.Need-array-borrow-prefix-s
 array-borrow-prefix-s c = search needs
 
 slice-aggregate-indent-by-3 : tie.Need-slice-aggregate-indent-by-3
-slice-aggregate-indent-by-3 c = sym (zeros-length 98304 98304 (omega arith))
+slice-aggregate-indent-by-3 c = sym (zeros-length INDENT-STORE-LEN INDENT-STORE-LEN (omega arith))
 
 indent-by-requires : tie.Need-indent-by-requires
 indent-by-requires c κs =
     let start = c .before .before .before .before .before .before .before .before .before .before .before .before in
-    let pieces = zeros-length 7170 7170 (omega arith) in
-    let store = zeros-length 98304 98304 (omega arith) in (
+    let pieces = zeros-length INDENT-PIECES-LEN INDENT-PIECES-LEN (omega arith) in
+    let store = zeros-length INDENT-STORE-LEN INDENT-STORE-LEN (omega arith) in (
       start .pre,
       record {
-        scratch = record { chunks = zeros-length 6192 6192 (omega arith); clear = zeros-at 6192 6192; pieces = rw pieces (omega arith); store = rw store (omega arith) };
+        scratch = record { chunks = zeros-length SCRATCH-LEN SCRATCH-LEN (omega arith); clear = zeros-at SCRATCH-LEN SCRATCH-LEN; pieces = rw pieces (omega arith); store = rw store (omega arith) };
         pieces = pieces;
         store = store;
       },
