@@ -74,13 +74,13 @@ fn lines(
 // Tables, a source and counts, all zeros at first.
 fn replay(input: &[u8], tally: &mut [u32]) {
     let most = 20480usize;
-    let words = 6156usize;
-    let rows = 4096usize;
-    let size = 32768usize;
+    let words = layout::CHUNKS_LEN;
+    let rows = layout::PIECES_LEN;
+    let size = layout::STORE_LEN;
     let mut source = [0u8; 20480];
-    let mut chunks = [0u32; 6156];
-    let mut pieces = [0u32; 4096];
-    let mut store = [0u8; 32768];
+    let mut chunks = [0u32; layout::CHUNKS_LEN];
+    let mut pieces = [0u32; layout::PIECES_LEN];
+    let mut store = [0u8; layout::STORE_LEN];
     lines(
         input,
         &mut source[..most],

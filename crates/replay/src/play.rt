@@ -97,12 +97,12 @@ pub fn play(
         (now (chunks .entry)) (now (pieces .entry)) (now (store .entry)) (now (chunks .exit)) (now (pieces .exit)) (now (store .exit))
         (now (bytes .entry)) (now (out .exit))) ⌝ }
 {
-    let words = 6156usize;
-    let rows = 4096usize;
-    let size = 32768usize;
-    let mut was_chunks = [0u32; 6156];
-    let mut was_pieces = [0u32; 4096];
-    let mut was_store = [0u8; 32768];
+    let words = layout::CHUNKS_LEN;
+    let rows = layout::PIECES_LEN;
+    let size = layout::STORE_LEN;
+    let mut was_chunks = [0u32; layout::CHUNKS_LEN];
+    let mut was_pieces = [0u32; layout::PIECES_LEN];
+    let mut was_store = [0u8; layout::STORE_LEN];
     play_by(
         k,
         e,
