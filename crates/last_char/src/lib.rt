@@ -15,8 +15,8 @@ ghost use Rattle.memory.specs.Calls.{Told};
 ghost use Rattle.texts.specs.Texts.{SpanIn};
 ghost use Rattle.fragments.specs.Sections.{fragmentsOf};
 ghost use Rattle.last_char.specs.Last.{Gives, lastOf};
-use table::Row;
 use memory::Answer;
+use table::Row;
 use utf8::Decoded;
 
 // No code point.

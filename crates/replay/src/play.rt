@@ -2,9 +2,9 @@
 ghost use mathlib.Core.Path.{_≡_};
 ghost use mathlib.Core.Bool.{true, false};
 ghost use Rattle.replay_judge.specs.Agreed.{Agreed};
+use memory::Answer;
 use replay_record::Call;
 use replay_record::Expected;
-use memory::Answer;
 
 pub struct Outcome {
     pub agrees: bool,
