@@ -20,6 +20,7 @@ use Rattle.edit_room_above.specs.Run.{TopRoom, Lengthened}
 use Rattle.memory_table.specs.Sides.{side, with-side}
 use Rattle.edit_insert_side.specs.Piece.{Spare, Longer, PieceAdded}
 use Rattle.edit_insert_in_place.proofs.Added.{added-on-top}
+use Rattle.memory_layout.specs.Layout.{PIECE-ROWS, PIECES-LEN, STORE-LEN}
 
 -- the front of a longer list
 front-of : (n : ℕ) (p b q : List ℕ) → q ≡ p ++ b → length p ≤ n → take n q ≡ p ++ take (n - length p) b
@@ -40,23 +41,23 @@ longer-front p y s z {front} {text} {x} h l =
 
 module _ {p s p1 s1 : List ℕ} (h : Spare p s p1 s1) (x : Place) (k : RunIn p s x) where
   abbrev y : List ℕ
-  y = take (4096 - length p) (h .behind)
+  y = take (PIECES-LEN - length p) (h .behind)
 
   abbrev z : List ℕ
-  z = take (32768 - length s) (h .after)
+  z = take (STORE-LEN - length s) (h .after)
 
-  rows-front : take (2048 * 2) p1 ≡ p ++ y
-  rows-front = front-of 4096 p (h .behind) p1 (h .pieces) (h .lent-pieces)
+  rows-front : take (PIECE-ROWS * 2) p1 ≡ p ++ y
+  rows-front = front-of PIECES-LEN p (h .behind) p1 (h .pieces) (h .lent-pieces)
 
-  bytes-front : take 32768 s1 ≡ s ++ z
-  bytes-front = front-of 32768 s (h .after) s1 (h .store) (h .lent-store)
+  bytes-front : take STORE-LEN s1 ≡ s ++ z
+  bytes-front = front-of STORE-LEN s (h .after) s1 (h .store) (h .lent-store)
 
   -- the run lies in the front
-  pub front-in : RunIn (take (2048 * 2) p1) (take 32768 s1) x
+  pub front-in : RunIn (take (PIECE-ROWS * 2) p1) (take STORE-LEN s1) x
   front-in = rw (rows-front, bytes-front) (run-in-front p s y z x k)
 
   -- with room behind it
-  pub behind-room : (text : List ℕ) → RunSmall p s x → length text ≤ 32768 → TopRoom x text p1 s1 2048 32768
+  pub behind-room : (text : List ℕ) → RunSmall p s x → length text ≤ STORE-LEN → TopRoom x text p1 s1 PIECE-ROWS STORE-LEN
   behind-room text f l =
       record {
         under = λ g. let q = run-piece p s (x .0) (x .1) (x .1 - 1) k (omega arith) .row in omega (arith, h .lent-pieces);
@@ -68,17 +69,17 @@ module _ {p s p1 s1 : List ℕ} (h : Spare p s p1 s1) (x : Place) (k : RunIn p s
 -- the row read, its run lengthened, and the row written
 pub piece-added : (outro front : Bool) (text : List ℕ) {p s p1 s1 p' s' t t' : List ℕ} (i : ℕ) (r : Row) (run : Piece) (first : ℕ) {x : Row}
     → r ≡ rowAt t i → (run .at, run .n) ≡ side outro (entryOf r) → RunIn p s (side outro (entryAt t i)) → RunSmall p s (side outro (entryAt t i)) → Spare p s p1 s1
-    → length text ≤ 32768 → Lengthened front text (run .at, run .n) 2048 32768 p1 s1 p' s' first → x ≡ with-side outro (first, run .n + 1) r → Put t t' i x
+    → length text ≤ STORE-LEN → Lengthened front text (run .at, run .n) PIECE-ROWS STORE-LEN p1 s1 p' s' first → x ≡ with-side outro (first, run .n + 1) r → Put t t' i x
     → PieceAdded outro front text p s t t' p' s' i
 piece-added outro front text {p} {s} {p1} {s1} {p'} {s'} {t} {t'} i r run first er eu k f h l d ex pt =
     let v = side outro (entryAt t i) in
     let room = behind-room h v k text f l in
-    let a = added-on-top outro front text i 2048 32768 r run first (first + run .n + 1) er eu room (front-in h v k) d ex pt refl .added in
+    let a = added-on-top outro front text i PIECE-ROWS STORE-LEN r run first (first + run .n + 1) er eu room (front-in h v k) d ex pt refl .added in
     record {
       run = a .run;
       longer =
           longer-front p (y h v k) s (z h v k) k
           (subst (λ (b : List ℕ). Longer b (s ++ z h v k) front text v p' s' (a .run)) (rows-front h v k)
-          (subst (λ (b : List ℕ). Longer (take (2048 * 2) p1) b front text v p' s' (a .run)) (bytes-front h v k) (a .longer)));
+          (subst (λ (b : List ℕ). Longer (take (PIECE-ROWS * 2) p1) b front text v p' s' (a .run)) (bytes-front h v k) (a .longer)));
       put = a .put;
     }

@@ -1,4 +1,4 @@
--- Tables of 64 chunk rows, 128 piece rows and 4,096 bytes hold what keeps their limits.
+-- Small tables hold what keeps their limits.
 use mathlib.Core.Path.{_≡_, ap, _∙_}
 use mathlib.Core.Bool.{true}
 use mathlib.Core.List.{List, []}
@@ -9,16 +9,18 @@ use Rattle.model.specs.Limits.{Limits, within}
 use Rattle.memory.specs.Layout.{magicStringOf}
 use Rattle.memory.specs.WellFormed.{limitsBy, limitsOf}
 use Rattle.edit_small_tables.specs.Small.{Fits}
+use Rattle.memory_layout.specs.Layout.{ROW, PIECE, SMALL-CHUNKS, SMALL-PIECES, SMALL-CHUNKS-LEN, SMALL-PIECES-LEN, SMALL-STORE-LEN}
 
-pub small-fits : {t p s t₀ p₀ s₀ : List ℕ} → length t₀ ≡ 768 → length p₀ ≡ 256 → length s₀ ≡ 4096 → within (limitsBy 63 64 4096) (magicStringOf [] t p s) ≡ true
+pub small-fits : {t p s t₀ p₀ s₀ : List ℕ} → length t₀ ≡ SMALL-CHUNKS-LEN → length p₀ ≡ SMALL-PIECES-LEN → length s₀ ≡ SMALL-STORE-LEN →
+    within (limitsBy SMALL-CHUNKS SMALL-PIECES SMALL-STORE-LEN) (magicStringOf [] t p s) ≡ true
     → Fits t p s t₀ p₀ s₀
 small-fits {t} {p} {s} {t₀} {p₀} {s₀} a b c e =
-    let k : limitsOf t₀ p₀ s₀ ≡ limitsBy 63 64 4096 = rw (a, b, c) in
+    let k : limitsOf t₀ p₀ s₀ ≡ limitsBy SMALL-CHUNKS SMALL-PIECES SMALL-STORE-LEN = rw (a, b, c) in
     record {
       sized =
           record {
-            whole-chunks = ap (λ (n : ℕ). n % 12) a;
-            whole-pieces = ap (λ (n : ℕ). n % 2) b;
+            whole-chunks = ap (λ (n : ℕ). n % ROW) a;
+            whole-pieces = ap (λ (n : ℕ). n % PIECE) b;
             some = omega arith;
             chunks = omega arith;
             pieces = omega arith;

@@ -2,6 +2,7 @@
 ghost use mathlib.Core.Path.{_≡_};
 ghost use mathlib.Core.Bool.{true, false};
 ghost use mathlib.Core.List.{[]};
+ghost use Rattle.memory_layout.specs.Layout.{SMALL-CHUNKS, SMALL-PIECES, SMALL-STORE-LEN};
 ghost use Rattle.model.specs.Limits.{within};
 ghost use Rattle.memory.specs.Layout.{magicStringOf};
 ghost use Rattle.memory.specs.WellFormed.{limitsBy, WellFormed};
@@ -118,16 +119,16 @@ fn insert_with(
     front: bool,
 ) -> Outcome
     requires { ⌜ WellFormed (now source) (now chunks) (now pieces) (now store) ⌝ }
-    requires { ⌜ within (limitsBy 63 64 4096) (magicStringOf [] (now chunks) (now pieces) (now store)) ≡ true ⌝ }
+    requires { ⌜ within (limitsBy SMALL-CHUNKS SMALL-PIECES SMALL-STORE-LEN) (magicStringOf [] (now chunks) (now pieces) (now store)) ≡ true ⌝ }
     ensures { λ o. ⌜ Tried (adding whole left front q (now (text .entry))) (now (source .entry)) (now (chunks .entry)) (now (pieces .entry)) (now (store .entry))
         (now (chunks .exit)) (now (pieces .exit)) (now (store .exit)) o ⌝ }
 {
-    let rows = 768usize;
-    let words = 256usize;
-    let size = 4096usize;
-    let mut t = [0u32; 768];
-    let mut p = [0u32; 256];
-    let mut s = [0u8; 4096];
+    let rows = memory_layout::SMALL_CHUNKS_LEN;
+    let words = memory_layout::SMALL_PIECES_LEN;
+    let size = memory_layout::SMALL_STORE_LEN;
+    let mut t = [0u32; memory_layout::SMALL_CHUNKS_LEN];
+    let mut p = [0u32; memory_layout::SMALL_PIECES_LEN];
+    let mut s = [0u8; memory_layout::SMALL_STORE_LEN];
     insert_by(
         source,
         chunks,
@@ -161,7 +162,14 @@ pub fn insert_small(
     ensures { λ o. ⌜ Tried (adding whole left front q (now (text .entry))) (now (source .entry)) (now (chunks .entry)) (now (pieces .entry)) (now (store .entry))
         (now (chunks .exit)) (now (pieces .exit)) (now (store .exit)) o ⌝ }
 {
-    if edit_scratch::keeps(chunks, pieces, store, 63, 64, 4096) {
+    if edit_scratch::keeps(
+        chunks,
+        pieces,
+        store,
+        memory_layout::SMALL_CHUNKS,
+        memory_layout::SMALL_PIECES,
+        memory_layout::SMALL_STORE_LEN,
+    ) {
         return insert_with(source, chunks, pieces, store, text, whole, q, left, front);
     }
     Outcome { number: 13, used }

@@ -146,3 +146,19 @@ INDENT-BYTE = 2 * STORE-LEN
 
 abbrev pub INDENT-STORE-LEN : ℕ
 INDENT-STORE-LEN = 3 * STORE-LEN
+
+-- small tables, for a small desk
+abbrev pub SMALL-CHUNKS : ℕ
+SMALL-CHUNKS = 63
+
+abbrev pub SMALL-PIECES : ℕ
+SMALL-PIECES = 64
+
+abbrev pub SMALL-CHUNKS-LEN : ℕ
+SMALL-CHUNKS-LEN = (1 + SMALL-CHUNKS) * ROW
+
+abbrev pub SMALL-PIECES-LEN : ℕ
+SMALL-PIECES-LEN = SMALL-PIECES * PIECE-ROOM
+
+abbrev pub SMALL-STORE-LEN : ℕ
+SMALL-STORE-LEN = 4096

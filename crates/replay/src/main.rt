@@ -74,13 +74,13 @@ fn lines(
 // Tables, a source and counts, all zeros at first.
 fn replay(input: &[u8], tally: &mut [u32]) {
     let most = 20480usize;
-    let words = 6156usize;
-    let rows = 4096usize;
-    let size = 32768usize;
+    let words = memory_layout::CHUNKS_LEN;
+    let rows = memory_layout::PIECES_LEN;
+    let size = memory_layout::STORE_LEN;
     let mut source = [0u8; 20480];
-    let mut chunks = [0u32; 6156];
-    let mut pieces = [0u32; 4096];
-    let mut store = [0u8; 32768];
+    let mut chunks = [0u32; memory_layout::CHUNKS_LEN];
+    let mut pieces = [0u32; memory_layout::PIECES_LEN];
+    let mut store = [0u8; memory_layout::STORE_LEN];
     lines(
         input,
         &mut source[..most],

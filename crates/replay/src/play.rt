@@ -2,9 +2,9 @@
 ghost use mathlib.Core.Path.{_≡_};
 ghost use mathlib.Core.Bool.{true};
 ghost use Rattle.replay_judge.specs.Agreed.{Agreed};
+use memory::Answer;
 use replay_record::Call;
 use replay_record::Expected;
-use memory::Answer;
 
 pub struct Outcome {
     pub agrees: bool,
@@ -97,12 +97,12 @@ pub fn play(
         (now (chunks .entry)) (now (pieces .entry)) (now (store .entry)) (now (chunks .exit)) (now (pieces .exit)) (now (store .exit))
         (now (bytes .entry)) (now (out .exit))) ⌝ }
 {
-    let words = 6156usize;
-    let rows = 4096usize;
-    let size = 32768usize;
-    let mut was_chunks = [0u32; 6156];
-    let mut was_pieces = [0u32; 4096];
-    let mut was_store = [0u8; 32768];
+    let words = memory_layout::CHUNKS_LEN;
+    let rows = memory_layout::PIECES_LEN;
+    let size = memory_layout::STORE_LEN;
+    let mut was_chunks = [0u32; memory_layout::CHUNKS_LEN];
+    let mut was_pieces = [0u32; memory_layout::PIECES_LEN];
+    let mut was_store = [0u8; memory_layout::STORE_LEN];
     play_by(
         k,
         e,

@@ -82,7 +82,10 @@ fn record_by(
     )
 }
 
-// The same with room for the texts: as long as the longest output, and longer than the store.
+// Room for a text: as long as the longest output, and longer than the store.
+const BUFFER: usize = 65536;
+
+// The same with room for the texts.
 pub fn record(
     line: &[u8],
     source: &mut [u8],
@@ -95,11 +98,11 @@ pub fn record(
     ensures { λ r. ⌜ r .source ≤ length (now (source .exit)) ⌝ }
 {
     let count = 64usize;
-    let size = 65536usize;
+    let size = BUFFER;
     let mut numbers = [0u32; 64];
-    let mut text = [0u8; 65536];
-    let mut bytes = [0u8; 65536];
-    let mut out = [0u8; 65536];
+    let mut text = [0u8; BUFFER];
+    let mut bytes = [0u8; BUFFER];
+    let mut out = [0u8; BUFFER];
     record_by(
         line,
         source,

@@ -1,8 +1,8 @@
 // Kinds 0 to 10 of crates/replay_read/src/names.rt: an opening, an edit of a range, an insertion or an update, made through the exported functions.
 use magic_string::exported_desk;
 use magic_string::exported_edits;
-use replay_record::Call;
 use memory::Answer;
+use replay_record::Call;
 
 // No call has this number.
 fn no_call() -> Answer {

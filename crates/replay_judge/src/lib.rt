@@ -4,8 +4,8 @@ ghost use mathlib.Core.Bool.{true, false};
 ghost use Rattle.memory_counting.specs.Counts.{Decides};
 ghost use Rattle.replay_compare.specs.Compare.{Kept};
 ghost use Rattle.replay_judge.specs.Agreed.{Answered, HasDigest, TablesAre, Agreed};
-use replay_record::Expected;
 use memory::Answer;
+use replay_record::Expected;
 
 fn answered(got: Answer, e: Expected) -> bool
     ensures { λ r. ⌜ Decides r (Answered (got .number) (got .value) (e .number) (e .value)) ⌝ }

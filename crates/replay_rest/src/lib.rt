@@ -2,8 +2,8 @@
 use magic_string::exported_desk;
 use magic_string::exported_edits;
 use magic_string::exported_reports;
-use replay_record::Call;
 use memory::Answer;
+use replay_record::Call;
 
 // No call has this number.
 fn no_call() -> Answer {

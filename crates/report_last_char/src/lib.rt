@@ -15,8 +15,8 @@ ghost use Rattle.memory.specs.Calls.{Told};
 ghost use Rattle.memory_texts.specs.Texts.{SpanIn};
 ghost use Rattle.memory_fragments.specs.Sections.{fragmentsOf};
 ghost use Rattle.report_last_char.specs.Last.{Gives, lastOf};
-use memory_table::Row;
 use memory::Answer;
+use memory_table::Row;
 use utf8::Decoded;
 
 // No code point.

@@ -13,7 +13,12 @@ pub struct LineStart {
 }
 
 // Where the last line begins: backwards over sections, fragments and bytes, left at the first line feed.
-pub fn line_start<'a>(source: &'a [u8], chunks: &[u32], pieces: &[u32], store: &'a [u8]) -> LineStart
+pub fn line_start<'a>(
+    source: &'a [u8],
+    chunks: &[u32],
+    pieces: &[u32],
+    store: &'a [u8],
+) -> LineStart
     requires { ⌜ WellFormed (now source) (now chunks) (now pieces) (now store) ⌝ }
     ensures { λ r. ⌜ LineFrom (now (source .entry)) (now (chunks .entry)) (now (pieces .entry)) (now (store .entry)) (r .section) (r .row) (r .item) (r .at) (r .n) ⌝ }
 {

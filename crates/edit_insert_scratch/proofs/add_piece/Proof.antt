@@ -12,6 +12,7 @@ use Rattle.edit_insert_scratch.proofs.Behind.{behind-room, piece-added}
 use borrow.Author.Needs.{needs}
 use Rattle.edit_insert_scratch.proofs.add_piece.Statement.{statement}
 use Rattle.edit_insert_scratch.proofs.add_piece.Tie as tie
+use Rattle.memory_layout.specs.Layout.{PIECE-ROWS, STORE-LEN}
 
 get-row-requires : tie.Need-get-row-requires
 get-row-requires c κs = search needs
@@ -28,7 +29,7 @@ lengthen-requires c κs =
     let e : _≡_ {A = Place} (run-of .result .at, run-of .result .n) (side (a .outro) (entryAt (a .t .now) (a .i))) =
     run-of .ensures ∙ ap (λ (r : Row). side (a .outro) (entryOf r)) (get-row .ensures) in
     let room = behind-room (start .pre .1 .1 .1 .0) (side (a .outro) (entryAt (a .t .now) (a .i))) (start .pre .1 .0) (a .text .now) (start .pre .1 .1 .0) (start .pre .1 .1 .1 .1) in
-    subst (λ (x : Place). TopRoom x (a .text .now) (a .p .now) (a .s .now) 2048 32768) (sym e) room
+    subst (λ (x : Place). TopRoom x (a .text .now) (a .p .now) (a .s .now) PIECE-ROWS STORE-LEN) (sym e) room
 
 cast-with-run : tie.Need-cast-with-run
 cast-with-run c = search needs

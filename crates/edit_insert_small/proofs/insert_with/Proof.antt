@@ -6,29 +6,31 @@ use Rattle.edit_insert_small.proofs.Sizes.{small-fits}
 use borrow.Author.Needs.{needs}
 use Rattle.edit_insert_small.proofs.insert_with.Statement.{statement}
 use Rattle.edit_insert_small.proofs.insert_with.Tie as tie
+use Rattle.memory_layout.specs.Layout.{SMALL-CHUNKS-LEN, SMALL-PIECES-LEN, SMALL-STORE-LEN}
 
 array-borrow-prefix-t : tie.Need-array-borrow-prefix-t
 array-borrow-prefix-t c = search needs
 
 slice-aggregate-insert-by : tie.Need-slice-aggregate-insert-by
-slice-aggregate-insert-by c = sym (zeros-length 768 768 (omega arith))
+slice-aggregate-insert-by c = sym (zeros-length SMALL-CHUNKS-LEN SMALL-CHUNKS-LEN (omega arith))
 
 array-borrow-prefix-p : tie.Need-array-borrow-prefix-p
 array-borrow-prefix-p c = search needs
 
 slice-aggregate-insert-by-2 : tie.Need-slice-aggregate-insert-by-2
-slice-aggregate-insert-by-2 c = sym (zeros-length 256 256 (omega arith))
+slice-aggregate-insert-by-2 c = sym (zeros-length SMALL-PIECES-LEN SMALL-PIECES-LEN (omega arith))
 
 array-borrow-prefix-s : tie.Need-array-borrow-prefix-s
 array-borrow-prefix-s c = search needs
 
 slice-aggregate-insert-by-3 : tie.Need-slice-aggregate-insert-by-3
-slice-aggregate-insert-by-3 c = sym (zeros-length 4096 4096 (omega arith))
+slice-aggregate-insert-by-3 c = sym (zeros-length SMALL-STORE-LEN SMALL-STORE-LEN (omega arith))
 
 insert-by-requires : tie.Need-insert-by-requires
 insert-by-requires c κs =
     let start = c .before .before .before .before .before .before .before .before .before .before .before in
-    (start .pre .0, small-fits (zeros-length 768 768 (omega arith)) (zeros-length 256 256 (omega arith)) (zeros-length 4096 4096 (omega arith)) (start .pre .1))
+    (start .pre .0, small-fits (zeros-length SMALL-CHUNKS-LEN SMALL-CHUNKS-LEN (omega arith)) (zeros-length SMALL-PIECES-LEN SMALL-PIECES-LEN (omega arith))
+        (zeros-length SMALL-STORE-LEN SMALL-STORE-LEN (omega arith)) (start .pre .1))
 
 same-length : tie.Need-same-length
 same-length c = search needs

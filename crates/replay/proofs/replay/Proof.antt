@@ -4,6 +4,7 @@ use mathlib.Core.Path.{sym}
 use borrow.Author.Needs.{needs}
 use Rattle.replay.proofs.replay.Statement.{statement}
 use Rattle.replay.proofs.replay.Tie as tie
+use Rattle.memory_layout.specs.Layout.{CHUNKS-LEN, PIECES-LEN, STORE-LEN}
 
 array-borrow-prefix-source : tie.Need-array-borrow-prefix-source
 array-borrow-prefix-source c = search needs
@@ -15,19 +16,19 @@ array-borrow-prefix-chunks : tie.Need-array-borrow-prefix-chunks
 array-borrow-prefix-chunks c = search needs
 
 slice-aggregate-lines-2 : tie.Need-slice-aggregate-lines-2
-slice-aggregate-lines-2 c = sym (zeros-length 6156 6156 (omega arith))
+slice-aggregate-lines-2 c = sym (zeros-length CHUNKS-LEN CHUNKS-LEN (omega arith))
 
 array-borrow-prefix-pieces : tie.Need-array-borrow-prefix-pieces
 array-borrow-prefix-pieces c = search needs
 
 slice-aggregate-lines-3 : tie.Need-slice-aggregate-lines-3
-slice-aggregate-lines-3 c = sym (zeros-length 4096 4096 (omega arith))
+slice-aggregate-lines-3 c = sym (zeros-length PIECES-LEN PIECES-LEN (omega arith))
 
 array-borrow-prefix-store : tie.Need-array-borrow-prefix-store
 array-borrow-prefix-store c = search needs
 
 slice-aggregate-lines-4 : tie.Need-slice-aggregate-lines-4
-slice-aggregate-lines-4 c = sym (zeros-length 32768 32768 (omega arith))
+slice-aggregate-lines-4 c = sym (zeros-length STORE-LEN STORE-LEN (omega arith))
 
 lines-requires : tie.Need-lines-requires
 lines-requires c κs = search needs

@@ -4,24 +4,25 @@ use Rattle.memory.proofs.Desks.{zeros-length}
 use borrow.Author.Needs.{needs}
 use Rattle.replay.proofs.play.play.Statement.{statement}
 use Rattle.replay.proofs.play.play.Tie as tie
+use Rattle.memory_layout.specs.Layout.{CHUNKS-LEN, PIECES-LEN, STORE-LEN}
 
 array-borrow-prefix-was-chunks : tie.Need-array-borrow-prefix-was-chunks
 array-borrow-prefix-was-chunks c = search needs
 
 slice-aggregate-play-by : tie.Need-slice-aggregate-play-by
-slice-aggregate-play-by c = sym (zeros-length 6156 6156 (omega arith))
+slice-aggregate-play-by c = sym (zeros-length CHUNKS-LEN CHUNKS-LEN (omega arith))
 
 array-borrow-prefix-was-pieces : tie.Need-array-borrow-prefix-was-pieces
 array-borrow-prefix-was-pieces c = search needs
 
 slice-aggregate-play-by-2 : tie.Need-slice-aggregate-play-by-2
-slice-aggregate-play-by-2 c = sym (zeros-length 4096 4096 (omega arith))
+slice-aggregate-play-by-2 c = sym (zeros-length PIECES-LEN PIECES-LEN (omega arith))
 
 array-borrow-prefix-was-store : tie.Need-array-borrow-prefix-was-store
 array-borrow-prefix-was-store c = search needs
 
 slice-aggregate-play-by-3 : tie.Need-slice-aggregate-play-by-3
-slice-aggregate-play-by-3 c = sym (zeros-length 32768 32768 (omega arith))
+slice-aggregate-play-by-3 c = sym (zeros-length STORE-LEN STORE-LEN (omega arith))
 
 play-by-requires : tie.Need-play-by-requires
 play-by-requires c κs = search needs
