@@ -16,7 +16,7 @@ use Rattle.model.specs.Indent.{indent-frag, Pieces, then-piece, indent-pieces}
 use Rattle.model.specs.WellFormed.{Valid}
 use Rattle.model.specs.Lists.{clash}
 use Rattle.memory.specs.Layout.{bytesAt, pieceAt, tabulate, runOf}
-use Rattle.memory.specs.WellFormed.{RunIn}
+use Rattle.memory.specs.WellFormed.{RunIn, PieceIn}
 use Rattle.texts.specs.Over.{over, two-sets}
 use Rattle.texts.specs.Texts.{concat-nil, concat-snoc, length-tabulate, run-tabulate}
 use Rattle.texts.specs.Carry.{Pushed, Carried, RoomOf, carried-none, carried-one, carried-more}
@@ -57,6 +57,35 @@ module _ {xs s s' : List ℕ} {byte end : ℕ} {f : Bool} (x : Filling s byte xs
         };
         room = x .room;
         short = x .short;
+      }
+
+-- ---- a text of the lent tables
+pub record TextReady (pieces store p s : List ℕ) (from row byte : ℕ) : Type 0 where
+  pub inside : PieceIn pieces store from
+  pub valid : utf8 (bytesAt store (pieceAt pieces from)) ≡ true
+  pub room : PieceRoom p s row byte
+
+-- the text t with the indentor put in, and the mark behind it
+pub record TextIndented (indentor : Text) (mark : Bool) (t : Text) (p s : List ℕ) (byte row : ℕ) (p' s' : List ℕ) (fits mark' : Bool) (end : ℕ) : Type 0 where
+  pub piece : PieceIndented (indent-frag indentor mark t .text) p s byte row p' s' fits end
+  pub mark-is : fits ≡ true → mark' ≡ mark-behind mark t
+
+module _ (indentor : Text) (mark : Bool) {text t : Text} (e : text ≡ t) {p s : List ℕ} {byte row : ℕ} {p' s' : List ℕ} {fits : Bool} {end : ℕ}
+    (x : PieceIndented (indent-frag indentor mark text .text) p s byte row p' s' fits end) where
+  of-text : PieceIndented (indent-frag indentor mark t .text) p s byte row p' s' fits end
+  of-text = subst (λ (z : Text). PieceIndented (indent-frag indentor mark z .text) p s byte row p' s' fits end) e x
+
+  pub text-short : fits ≡ false → (mark' : Bool) (end' : ℕ) → TextIndented indentor mark t p s byte row p' s' false mark' end'
+  text-short k mark' end' = record { piece = record { done = λ z. clash z refl; room = λ z. clash z refl; short = λ _. of-text .short k }; mark-is = λ z. clash z refl }
+
+  pub text-end : fits ≡ true → length s < 2 ^ 32 → end < 2 ^ 32
+  text-end k narrow = omega (arith, x .done k .byte-is, x .room k)
+
+  pub text-done : fits ≡ true → (mark' : Bool) → mark' ≡ mark-behind mark text → TextIndented indentor mark t p s byte row p' s' true mark' end
+  text-done k mark' m =
+      record {
+        piece = record { done = λ _. of-text .done k; room = λ _. of-text .room k; short = λ z. clash refl z };
+        mark-is = λ _. m ∙ ap (mark-behind mark) e;
       }
 
 -- ---- a run
@@ -194,9 +223,6 @@ module _ (indentor : Text) (mark : Bool) (pieces store : List ℕ) (at n : ℕ) 
       }
 
   module _ {i next : ℕ} {p' s' : List ℕ} {m : Bool} (r : Running indentor mark (texts pieces store at) p s byte top i p' s' next m) (e : i ≡ n) where
-    pub run-next : next ≤ length s
-    run-next = omega (arith, r .carried .byte-is, r .room)
-
     pub run-done : RunIndented indentor mark (runOf pieces store (at, n)) p s byte top p' s' true m next
     run-done =
         let q : ones i ≡ indent-pieces indentor mark (runOf pieces store (at, n)) = ap ones e ∙ sym run-ones in

@@ -32,7 +32,7 @@ use Rattle.trim_run.specs.Low.{RowsKept, BytesKept, TextLow, EntryLow, run-same
 use Rattle.indent_closed.specs.Indent.{indented-chunks, indented}
 use Rattle.indent_closed.specs.Walk.{indent-by-closed}
 use Rattle.indent_closed.specs.Growth.{past-chunks, past-bytes}
-use Rattle.indent_run.specs.Own.{Runs, OwnReady, OwnDone, OwnIndented, LayRoom, Laid}
+use Rattle.indent_run.specs.Own.{Runs, OwnReady, OwnDone, OwnIndented, Laid}
 use Rattle.indent_rows.specs.Walk.{chunksOf, closedOf, bodyOf}
 use Rattle.preservation.specs.Indent.{pieces-length}
 use Rattle.indent_steps.specs.Rest.{RestReady, leftOf, tailOf, RestDone}
@@ -122,12 +122,6 @@ module _ (indentor exclude source t p s p1 s1 : List ℕ) (w : StepsReady source
   outro-valid : All model.Valid (runOf p s (entryAt t 0 .outro))
   unfolding magicStringOf
   outro-valid = w .desk .formed .outro
-
-  pub steps-head-end : (ROW ≤ length t) × (entryAt t 0 .intro .1 ≤ PIECES)
-  steps-head-end = (omega (arith, w .chunks), omega (arith, counted))
-
-  pub steps-lay : LayRoom p1 s1
-  steps-lay = record { rows = omega (arith, w .long-pieces); bytes = omega (arith, w .long-store); rows-narrow = omega (arith, w .long-pieces); narrow = omega (arith, w .long-store) }
 
   -- what the model leaves
   closed-is : indent-by indentor exclude m ≡ ok (indented indentor exclude m)
