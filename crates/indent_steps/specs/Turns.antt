@@ -24,6 +24,7 @@ use Rattle.indent_steps.specs.Rest.{rest-chunks, tail-ready, rest-tail, 
 use Rattle.indent_steps.specs.Steps.{StepsReady, IndentSteps, head-ready, steps-head, rest-ready, steps-rest}
 use Rattle.indent_steps.specs.Walk.{stopped-at, onward-at, run-from, chunks-from, left, RunEnded, PieceReady, PieceTurned, ChunkReady, ChunkTurned}
 use Rattle.indent_steps.specs.Walk.{PartReady, PartTurned, RunAt, Ends, HeadAt, ChunksAt, TailAt, Walking, TurnReady, Turned}
+use Rattle.layout.specs.Layout.{ROW, PIECES-LEN, INDENT-ROW, INDENT-BYTE}
 
 -- ---- in the head or the tail
 module _ {outro : Bool} {indentor pieces store : List ℕ} {Short : Type 0} {Next : List ℕ → List ℕ → List ℕ → Bool → ℕ → Type 0} {at : TextAt} {mark : Bool} {t p s : List ℕ}
@@ -34,7 +35,7 @@ module _ {outro : Bool} {indentor pieces store : List ℕ} {Short : Type 0} {Nex
   pub run-narrow : at .top + at .n < 4294967296
   run-narrow = omega (arith, ready .rows, ready .rows-narrow)
 
-  pub run-room : 12 ≤ length t
+  pub run-room : ROW ≤ length t
   run-room = omega (arith, h .own .linked .room)
 
   module _ (g : at .i < at .n) where
@@ -91,7 +92,7 @@ module _ {outro : Bool} {indentor pieces store : List ℕ} {Short : Type 0} {Nex
 
 -- ---- among the chunks
 module _ {indentor exclude source pieces store t₀ : List ℕ} {at : TextAt} {mark : Bool} {t p s : List ℕ} (h : ChunksAt indentor exclude source pieces store t₀ at mark t p s) where
-  pub chunk-room : 12 ≤ length t
+  pub chunk-room : ROW ≤ length t
   chunk-room = omega (arith, h .walk .linked .room)
 
   module _ (g : at .i < at .n) where
@@ -163,9 +164,9 @@ module _ {indentor exclude source pieces store t₀ : List ℕ} {at : TextAt} {m
 
 -- ---- the start
 pub head-begins : (indentor exclude source t pieces store p₀ s₀ p s : List ℕ) → StepsReady source t pieces store p₀ s₀ → Laid indentor p₀ s₀ p s → (at : TextAt)
-    → at ≡ run-from 0 (side false (runsOf (rowAt t 0))) 2049 65536 → Walking indentor exclude source pieces store t at true t p s
+    → at ≡ run-from 0 (side false (runsOf (rowAt t 0))) INDENT-ROW INDENT-BYTE → Walking indentor exclude source pieces store t at true t p s
 head-begins indentor exclude source t pieces store p₀ s₀ p s w y at ea =
-    let own : OwnReady false pieces store t p s 2049 65536 = head-ready indentor exclude source t pieces store p₀ s₀ w y in
+    let own : OwnReady false pieces store t p s INDENT-ROW INDENT-BYTE = head-ready indentor exclude source t pieces store p₀ s₀ w y in
     subst (λ (a : TextAt). Walking indentor exclude source pieces store t a true t p s) (sym ea)
     (inl (record {
       part = refl;
@@ -177,17 +178,17 @@ head-begins indentor exclude source t pieces store p₀ s₀ p s w y at ea =
             p₀ = p;
             s₀ = s;
             mark₀ = true;
-            byte₀ = 65536;
+            byte₀ = INDENT-BYTE;
             own = own;
             run-is = refl;
             inside = omega arith;
-            run = running-none indentor true (texts pieces store (side false (runsOf (rowAt t 0)) .0)) p s 65536 2049 (own .run .byte-in);
+            run = running-none indentor true (texts pieces store (side false (runsOf (rowAt t 0)) .0)) p s INDENT-BYTE INDENT-ROW (own .run .byte-in);
             short = λ l t2 p2 s2.
-                let d : OwnIndented false indentor true (runOf pieces store (entryAt t 0 .intro)) t p s 2049 65536 t p s false true 65536 =
+                let d : OwnIndented false indentor true (runOf pieces store (entryAt t 0 .intro)) t p s INDENT-ROW INDENT-BYTE t p s false true 65536 =
                 record { done = λ k. clash k refl; short = λ _. l } in
                 steps-head indentor exclude source t pieces store p₀ s₀ w y d refl t2 p2 s2;
             next = λ t2 p2 s2 mark2 byte2 o.
-                let d : OwnIndented false indentor true (runOf pieces store (entryAt t 0 .intro)) t p s 2049 65536 t2 p2 s2 true mark2 byte2 =
+                let d : OwnIndented false indentor true (runOf pieces store (entryAt t 0 .intro)) t p s INDENT-ROW INDENT-BYTE t2 p2 s2 true mark2 byte2 =
                 record { done = λ _. o; short = λ k. clash refl k } in
                 record {
                   ready = rest-ready indentor exclude source t pieces store p₀ s₀ w y d refl _ refl;
@@ -249,8 +250,8 @@ module _ {indentor exclude source pieces store t₀ : List ℕ} {at : TextAt} {m
   part-ready (inr (inr (inr h))) m = clash m (h .no-more)
 
 -- how much is left, at a place that is not over
-left-is : (at : TextAt) → at .more ≡ true → left at ≡ (3 - at .part) * 4096 + (at .n - at .i)
-left-is at m = ap (λ (b : Bool). cond b ((3 - at .part) * 4096 + (at .n - at .i)) 0) m
+left-is : (at : TextAt) → at .more ≡ true → left at ≡ (3 - at .part) * PIECES-LEN + (at .n - at .i)
+left-is at m = ap (λ (b : Bool). cond b ((3 - at .part) * PIECES-LEN + (at .n - at .i)) 0) m
 
 left-stopped : (at at' : TextAt) → at .more ≡ true → at .part ≤ 2 → left at' ≡ 0 → left at' < left at
 left-stopped at at' m l e = omega (arith, left-is at m, l, e)

@@ -20,6 +20,7 @@ use Rattle.indent_rows.specs.Chunks.{WalkAt}
 use Rattle.indent_steps.specs.declared.TextAt.{TextAt}
 use Rattle.indent_steps.specs.Rest.{RestReady, RestDone}
 use Rattle.indent_steps.specs.Steps.{IndentSteps}
+use Rattle.layout.specs.Layout.{ROW, PIECES-LEN}
 
 -- ---- places
 abbrev pub stopped-at : TextAt → TextAt
@@ -39,7 +40,7 @@ chunks-from z top byte = record { more = true; number = 0; part = 1; row = z .ne
 
 -- how much is left, for the end of the walk
 abbrev pub left : TextAt → ℕ
-left at = cond (at .more) ((3 - at .part) * 4096 + (at .n - at .i)) 0
+left at = cond (at .more) ((3 - at .part) * PIECES-LEN + (at .n - at .i)) 0
 
 -- ---- what the turns do
 pub record RunEnded (outro : Bool) (top : ℕ) (t t' : List ℕ) : Type 0 where
@@ -65,7 +66,7 @@ pub record PieceTurned (indentor pieces store : List ℕ) (at : TextAt) (mark : 
 
 pub record ChunkReady (indentor source store t p s : List ℕ) (at : TextAt) : Type 0 where
   pub inside : at .i < at .n
-  pub room : at .row * 12 + 12 ≤ length t
+  pub room : at .row * ROW + ROW ≤ length t
   pub row : RowReady indentor source store t p s (at .row) (at .top) (at .byte)
 
 pub record ChunkTurned (indentor exclude source : List ℕ) (at : TextAt) (mark : Bool) (t p s t' p' s' : List ℕ) (at' : TextAt) (mark' : Bool) : Type 0 where
@@ -79,7 +80,7 @@ pub record ChunkTurned (indentor exclude source : List ℕ) (at : TextAt) (mark 
   pub mark-is : number ≡ 0 → mark' ≡ mark₁
 
 pub record PartReady (t : List ℕ) (at : TextAt) : Type 0 where
-  pub room : 12 ≤ length t
+  pub room : ROW ≤ length t
   pub narrow : (at .part ≡ 1 → ⊥) → (at .part ≡ 2 → ⊥) → at .top + at .n < 4294967296
 
 pub record PartTurned (at : TextAt) (t t' : List ℕ) (at' : TextAt) : Type 0 where
