@@ -13,7 +13,7 @@ use Rattle.utf8.specs.Rfc3629.{utf8}
 use Rattle.indent_mark.specs.Bytes.{mark-on, mark-behind, takes, indented-byte, Filling}
 use Rattle.indent_mark.proofs.Bytes.{indent-bytes}
 use Rattle.indent_mark.proofs.Fills.{fill-none, fill-then, fill-front, fill-same, fill-end}
-use Rattle.indent_mark.proofs.ByCharacters.{mark-snoc, indent-append, indent-frag-is}
+use Rattle.indent_mark.proofs.Turns.{mark-snoc, indent-append, indent-frag-is}
 
 -- ---- `indent_into`: the first i bytes are put
 
@@ -65,6 +65,11 @@ module _ {d : List ℕ} {place : ℕ} {indentor : Text} {mark : Bool} {text : Te
   putting-all u h =
       let e : i ≡ length text = omega (arith, p .inside) in
       rw (indent-frag-is indentor mark text u) (subst (λ (t : Text). Filling d place (indent-bytes indentor mark t) d' true end) (ap (λ (j : ℕ). take j text) e ∙ take-length text) (p .filled))
+
+  pub putting-mark : length text ≤ i → m ≡ mark-behind mark text
+  putting-mark h =
+      let e : i ≡ length text = omega (arith, p .inside) in
+      p .mark-is ∙ ap (mark-behind mark) (ap (λ (j : ℕ). take j text) e ∙ take-length text)
 
 -- ---- `put_indented`
 
