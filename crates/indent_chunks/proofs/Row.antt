@@ -27,7 +27,7 @@ use Rattle.memory_texts.proofs.Low.{rows-same, bytes-same, run-same, run-still}
 use Rattle.model_indent_closed.specs.Indent.{split-lines, IndentedChunks}
 use Rattle.model_indent_closed.proofs.Indent.{indented-lines, indented-excluded, indented-replaced}
 use Rattle.model_indent_closed.proofs.Growth.{lines-indentor, replaced-bytes}
-use Rattle.indent_mark.proofs.Turns.{line-starts-is}
+use Rattle.indent_mark.proofs.ByCharacters.{line-starts-is}
 use Rattle.indent_cuts.specs.Splice.{withText}
 use Rattle.indent_cuts.proofs.Splice.{spliced-same, spliced-set}
 use Rattle.indent_cuts.proofs.Lines.{leb-less, lines-parts}

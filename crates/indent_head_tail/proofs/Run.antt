@@ -21,7 +21,7 @@ use Rattle.memory.proofs.Desks.{length-tabulate}
 use Rattle.memory_texts.specs.Carry.{Carried, RoomOf}
 use Rattle.memory_texts.proofs.Carry.{carried-none, carried-one, carried-more}
 use Rattle.indent_mark.specs.Bytes.{Filling, mark-behind}
-use Rattle.indent_mark.proofs.Turns.{indent-frag-is}
+use Rattle.indent_mark.proofs.ByCharacters.{indent-frag-is}
 use Rattle.model_preservation.proofs.Indent.{pieces-length}
 use Rattle.indent_head_tail.specs.Run.{PieceRoom, PieceIndented, TextIndented, RunReady, first-ones, texts, Running}
 

@@ -1,3 +1,3 @@
 pub mod Bytes
 pub mod Fills
-pub mod Turns
+pub mod ByCharacters

@@ -14,7 +14,7 @@ use Rattle.model.specs.Text.{Text}
 use Rattle.model.specs.Indent.{Indented, indent-frag}
 use Rattle.memory.specs.Layout.{Place, bytesAt}
 use Rattle.indent_mark.specs.Bytes.{mark-behind, Filling}
-use Rattle.indent_mark.proofs.Turns.{indent-frag-is}
+use Rattle.indent_mark.proofs.ByCharacters.{indent-frag-is}
 use Rattle.indent_cuts.specs.Splice.{withText, Rewritten}
 use Rattle.indent_cuts.proofs.Splice.{rewritten-set}
 use Rattle.model.proofs.Lists.{no-tf}

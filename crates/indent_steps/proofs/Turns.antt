@@ -189,7 +189,7 @@ head-begins indentor exclude source t pieces store p₀ s₀ p s w y at ea =
             inside = omega arith;
             run = running-none indentor true (texts pieces store (side false (runsOf (rowAt t 0)) .0)) p s INDENT-BYTE INDENT-ROW (own .run .byte-in);
             short = λ l t2 p2 s2.
-                let d : OwnIndented false indentor true (runOf pieces store (entryAt t 0 .intro)) t p s INDENT-ROW INDENT-BYTE t p s false true 65536 =
+                let d : OwnIndented false indentor true (runOf pieces store (entryAt t 0 .intro)) t p s INDENT-ROW INDENT-BYTE t p s false true INDENT-BYTE =
                 record { done = λ k. clash k refl; short = λ _. l } in
                 steps-head indentor exclude source t pieces store p₀ s₀ w y d refl t2 p2 s2;
             next = λ t2 p2 s2 mark2 byte2 o.

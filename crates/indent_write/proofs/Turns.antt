@@ -13,7 +13,7 @@ use Rattle.utf8.specs.Rfc3629.{utf8}
 use Rattle.indent_mark.specs.Bytes.{mark-on, mark-behind, takes, indented-byte, Filling}
 use Rattle.indent_mark.proofs.Bytes.{indent-bytes}
 use Rattle.indent_mark.proofs.Fills.{fill-none, fill-then, fill-front, fill-same, fill-end}
-use Rattle.indent_mark.proofs.Turns.{mark-snoc, indent-append, indent-frag-is}
+use Rattle.indent_mark.proofs.ByCharacters.{mark-snoc, indent-append, indent-frag-is}
 
 -- ---- `indent_into`: the first i bytes are put
 
