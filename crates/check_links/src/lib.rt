@@ -227,7 +227,7 @@ fn walked(source: &[u8], t: &[u32], n: u32) -> bool
     ensures { λ r. ⌜ Decides r (Listed (now (source .entry)) (now (t .entry)) n) ⌝ }
 {
     let mut marks = [0u64; memory_layout::SOURCE_MARKS];
-    walk(source, t, n, &mut marks[..layout::SOURCE_MARKS])
+    walk(source, t, n, &mut marks[..memory_layout::SOURCE_MARKS])
 }
 
 // The one span of an empty source.

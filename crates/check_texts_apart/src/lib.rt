@@ -152,7 +152,7 @@ pub fn places_apart(t: &[u32], n: u32, pieces: &[u32], size: usize) -> Step
         n,
         pieces,
         &mut rows[..count],
-        &mut marks[..layout::STORE_MARKS],
+        &mut marks[..memory_layout::STORE_MARKS],
         size,
     )
 }

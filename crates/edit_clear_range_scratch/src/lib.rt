@@ -7,7 +7,7 @@ ghost use Rattle.edit_clear_range_steps.specs.Range.{Marked, RangeRan};
 use memory_used::Outcome;
 
 // Clears a range of a desk, with scratch tables lent.
-fn clear_range_on(
+fn clear_range_by(
     source: &[u8],
     chunks: &mut [u32],
     pieces: &mut [u32],
@@ -55,7 +55,7 @@ pub fn clear_range_scratch(
     let mut t = [0u32; memory_layout::SCRATCH_LEN];
     let mut p = [0u32; memory_layout::PIECES_LEN];
     let mut s = [0u8; memory_layout::STORE_LEN];
-    clear_range_on(
+    clear_range_by(
         source,
         chunks,
         pieces,

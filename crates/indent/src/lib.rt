@@ -57,7 +57,7 @@ fn indent_by(
 }
 
 // The call past its tests, by an indentor.
-fn indent_tables(
+fn indent_scratch(
     source: &[u8],
     chunks: &mut [u32],
     pieces: &mut [u32],
@@ -111,7 +111,7 @@ fn guessed_in(
     let g = report_indent_string::guess_indentor(source);
     let n = report_indent_string::indentor_len(g) as usize;
     report_indent_string::put_indentor(out, g);
-    indent_tables(source, chunks, pieces, store, &out[..n], exclude, used)
+    indent_scratch(source, chunks, pieces, store, &out[..n], exclude, used)
 }
 
 // Without an indentor: by the guess.
@@ -162,7 +162,7 @@ fn by_given(
             if indentor.len() == 0 {
                 return Outcome { number: 0, used };
             }
-            return indent_tables(source, chunks, pieces, store, indentor, exclude, used);
+            return indent_scratch(source, chunks, pieces, store, indentor, exclude, used);
         }
         return Outcome { number: 3, used };
     }

@@ -11,6 +11,7 @@ use Rattle.utf8.specs.Chars.{concat}
 use Rattle.memory_table.specs.declared.Row.{Row}
 use Rattle.memory_table.specs.Table.{rowAt, Put}
 use Rattle.model.specs.Text.{Text}
+use Rattle.model.specs.Indent.{indent-pieces}
 use Rattle.model.proofs.Lists.{clash}
 use Rattle.memory.specs.Layout.{Place, pieceAt, runOf}
 use Rattle.memory_texts.proofs.Over.{take-over}
@@ -21,8 +22,9 @@ use Rattle.memory_list.specs.Insert.{runsOf}
 use Rattle.memory_list.specs.Split.{DeskSet}
 use Rattle.memory_list.proofs.Split.{desk-set}
 use Rattle.memory_texts.proofs.Low.{rows-same, bytes-same}
-use Rattle.indent_head_tail.specs.Run.{RunReady, RunIndented}
-use Rattle.indent_head_tail.specs.Own.{RunPut, side, moved, RowWith, OwnReady, OwnIndented, LayRoom, Laid}
+use Rattle.indent_head_tail.specs.Run.{RunReady}
+use Rattle.indent_head_tail.proofs.Run.{RunIndented}
+use Rattle.indent_head_tail.specs.Own.{RunPut, side, moved, RowWith, OwnReady, OwnDone, LayRoom, Laid}
 
 -- ---- a run put into tables that only grow
 
@@ -53,6 +55,10 @@ module _ {ts : List Text} {p s : List ℕ} {byte top : ℕ} {p' s' : List ℕ} {
       }
 
 -- ---- the head or the tail
+
+pub record OwnIndented (outro : Bool) (indentor : Text) (mark : Bool) (ts : List Text) (t p s : List ℕ) (top byte : ℕ) (t' p' s' : List ℕ) (fits mark' : Bool) (byte' : ℕ) : Type 0 where
+  pub done : fits ≡ true → OwnDone outro indentor mark ts t p s top byte t' p' s' mark' byte'
+  pub short : fits ≡ false → length s < byte + length (concat (indent-pieces indentor mark ts .pieces))
 
 module _ (outro : Bool) (indentor : Text) (mark : Bool) (pieces store t p s : List ℕ) (top byte : ℕ) (h : OwnReady outro pieces store t p s top byte) (z : Row) (ez : z ≡ rowAt t 0)
     (q : Place) (eq : q ≡ side outro (runsOf z)) where

@@ -13,7 +13,7 @@ use Rattle.utf8.specs.Chars.{concat}
 use Rattle.model.specs.Text.{Text}
 use Rattle.model.specs.Indent.{indent-frag, Pieces, then-piece, indent-pieces}
 use Rattle.model.proofs.Lists.{clash}
-use Rattle.memory.specs.Layout.{bytesAt, pieceAt, tabulate, runOf}
+use Rattle.memory.specs.Layout.{tabulate, runOf}
 use Rattle.memory_texts.specs.Over.{over}
 use Rattle.memory_texts.proofs.Over.{two-sets}
 use Rattle.memory_texts.proofs.Texts.{concat-nil, concat-snoc, run-tabulate}
@@ -23,7 +23,7 @@ use Rattle.memory_texts.proofs.Carry.{carried-none, carried-one, carried-more}
 use Rattle.indent_mark.specs.Bytes.{Filling, mark-behind}
 use Rattle.indent_mark.proofs.ByCharacters.{indent-frag-is}
 use Rattle.model_preservation.proofs.Indent.{pieces-length}
-use Rattle.indent_head_tail.specs.Run.{PieceRoom, PieceIndented, RunReady, RunIndented}
+use Rattle.indent_head_tail.specs.Run.{PieceRoom, PieceIndented, TextIndented, RunReady, first-ones, texts, Running}
 
 -- ---- one text
 
@@ -50,7 +50,34 @@ module _ {xs s s' : List ℕ} {byte end : ℕ} {f : Bool} (x : Filling s byte xs
         short = x .short;
       }
 
+-- ---- a text of the lent tables
+
+module _ (indentor : Text) (mark : Bool) {text t : Text} (e : text ≡ t) {p s : List ℕ} {byte row : ℕ} {p' s' : List ℕ} {fits : Bool} {end : ℕ}
+    (x : PieceIndented (indent-frag indentor mark text .text) p s byte row p' s' fits end) where
+  of-text : PieceIndented (indent-frag indentor mark t .text) p s byte row p' s' fits end
+  of-text = subst (λ (z : Text). PieceIndented (indent-frag indentor mark z .text) p s byte row p' s' fits end) e x
+
+  pub text-short : fits ≡ false → (mark' : Bool) (end' : ℕ) → TextIndented indentor mark t p s byte row p' s' false mark' end'
+  text-short k mark' end' = record { piece = record { done = λ z. clash z refl; room = λ z. clash z refl; short = λ _. of-text .short k }; mark-is = λ z. clash z refl }
+
+  pub text-end : fits ≡ true → length s < 2 ^ 32 → end < 2 ^ 32
+  text-end k narrow = omega (arith, x .done k .byte-is, x .room k)
+
+  pub text-done : fits ≡ true → (mark' : Bool) → mark' ≡ mark-behind mark text → TextIndented indentor mark t p s byte row p' s' true mark' end
+  text-done k mark' m =
+      record {
+        piece = record { done = λ _. of-text .done k; room = λ _. of-text .room k; short = λ z. clash refl z };
+        mark-is = λ _. m ∙ ap (mark-behind mark) e;
+      }
+
 -- ---- a run
+
+-- the texts are put from a byte and a row on, and the mark behind them is the model's; or they are too long
+pub record RunIndented (indentor : Text) (mark : Bool) (ts : List Text) (p s : List ℕ) (byte top : ℕ) (p' s' : List ℕ) (fits mark' : Bool) (byte' : ℕ) : Type 0 where
+  pub done : fits ≡ true → Carried (indent-pieces indentor mark ts .pieces) p s byte top p' s' byte' (top + length ts)
+  pub room : fits ≡ true → RoomOf (indent-pieces indentor mark ts .pieces) p s byte top
+  pub mark-is : fits ≡ true → mark' ≡ indent-pieces indentor mark ts .mark
+  pub short : fits ≡ false → length s < byte + length (concat (indent-pieces indentor mark ts .pieces))
 
 -- one text more
 indent-snoc : (indentor : Text) (mark : Bool) (l : List Text) (t : Text)
@@ -59,21 +86,6 @@ indent-snoc : (indentor : Text) (mark : Bool) (l : List Text) (t : Text)
         (indent-frag indentor (indent-pieces indentor mark l .mark) t .text ∷ []) }
 indent-snoc indentor mark [] t = refl
 indent-snoc indentor mark (x ∷ l) t = ap (then-piece (indent-frag indentor mark x .text)) (indent-snoc indentor (indent-frag indentor mark x .mark) l t)
-
--- the first i texts of f 0, f 1, ..
-abbrev pub first-ones : Text → Bool → (ℕ → Text) → ℕ → Pieces
-first-ones indentor mark f i = indent-pieces indentor mark (tabulate f i)
-
--- the texts of a run, by number
-abbrev pub texts : List ℕ → List ℕ → ℕ → ℕ → Text
-texts p s at k = bytesAt s (pieceAt p (at + k))
-
-pub record Running (indentor : Text) (mark : Bool) (f : ℕ → Text) (p s : List ℕ) (byte top i : ℕ) (p' s' : List ℕ) (next : ℕ) (m : Bool) : Type 0 where
-  pub mark-is : m ≡ first-ones indentor mark f i .mark
-  pub carried : Carried (first-ones indentor mark f i .pieces) p s byte top p' s' next (top + i)
-  pub room : byte + length (concat (first-ones indentor mark f i .pieces)) ≤ length s
-  pub same-rows : length p' ≡ length p
-  pub same-bytes : length s' ≡ length s
 
 module _ (indentor : Text) (mark : Bool) (f : ℕ → Text) (p s : List ℕ) (byte top : ℕ) where
   pub running-none : byte ≤ length s → Running indentor mark f p s byte top 0 p s byte mark

@@ -1,6 +1,6 @@
 -- The head or the tail indented, with row 0 naming the new run; and the indentor as a piece of its own.
 use mathlib.Core.Path.{_≡_}
-use mathlib.Core.Bool.{Bool, true, false, cond}
+use mathlib.Core.Bool.{Bool, cond}
 use mathlib.Core.List.{List, [], _∷_}
 use Prim.Native.Nat.{ℕ, _+_, _*_, _^_, _≤_, _<_}
 use lib.ListN.{length}
@@ -63,10 +63,6 @@ pub record OwnDone (outro : Bool) (indentor : Text) (mark : Bool) (ts : List Tex
   pub len : length t' ≡ length t
   pub put : RunPut (indent-pieces indentor mark ts .pieces) p s byte top p' s' byte'
   pub mark-is : mark' ≡ indent-pieces indentor mark ts .mark
-
-pub record OwnIndented (outro : Bool) (indentor : Text) (mark : Bool) (ts : List Text) (t p s : List ℕ) (top byte : ℕ) (t' p' s' : List ℕ) (fits mark' : Bool) (byte' : ℕ) : Type 0 where
-  pub done : fits ≡ true → OwnDone outro indentor mark ts t p s top byte t' p' s' mark' byte'
-  pub short : fits ≡ false → length s < byte + length (concat (indent-pieces indentor mark ts .pieces))
 
 -- ---- the indentor
 

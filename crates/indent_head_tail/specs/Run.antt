@@ -4,13 +4,15 @@ use mathlib.Core.Bool.{Bool, true, false}
 use mathlib.Core.List.{List}
 use Prim.Native.Nat.{ℕ, _+_, _*_, _^_, _≤_, _<_}
 use lib.ListN.{length}
+use Rattle.utf8.specs.Rfc3629.{utf8}
 use Rattle.utf8.specs.Chars.{All, concat}
 use Rattle.model.specs.Text.{Text}
-use Rattle.model.specs.Indent.{indent-pieces}
+use Rattle.model.specs.Indent.{indent-frag, Pieces, indent-pieces}
 use Rattle.model.specs.WellFormed.{Valid}
-use Rattle.memory.specs.Layout.{runOf}
-use Rattle.memory.specs.WellFormed.{RunIn}
-use Rattle.memory_texts.specs.Carry.{Pushed, Carried, RoomOf}
+use Rattle.memory.specs.Layout.{bytesAt, pieceAt, tabulate, runOf}
+use Rattle.memory.specs.WellFormed.{RunIn, PieceIn}
+use Rattle.memory_texts.specs.Carry.{Pushed, Carried}
+use Rattle.indent_mark.specs.Bytes.{mark-behind}
 
 -- ---- one text
 
@@ -25,6 +27,18 @@ pub record PieceIndented (xs p s : List ℕ) (byte row : ℕ) (p' s' : List ℕ)
   pub room : fits ≡ true → byte + length xs ≤ length s
   pub short : fits ≡ false → length s < byte + length xs
 
+-- ---- a text of the lent tables
+
+pub record TextReady (pieces store p s : List ℕ) (from row byte : ℕ) : Type 0 where
+  pub inside : PieceIn pieces store from
+  pub valid : utf8 (bytesAt store (pieceAt pieces from)) ≡ true
+  pub room : PieceRoom p s row byte
+
+-- the text t with the indentor put in, and the mark behind it
+pub record TextIndented (indentor : Text) (mark : Bool) (t : Text) (p s : List ℕ) (byte row : ℕ) (p' s' : List ℕ) (fits mark' : Bool) (end : ℕ) : Type 0 where
+  pub piece : PieceIndented (indent-frag indentor mark t .text) p s byte row p' s' fits end
+  pub mark-is : fits ≡ true → mark' ≡ mark-behind mark t
+
 -- ---- a run
 
 -- a run of the lent tables, and room for as many rows
@@ -36,9 +50,17 @@ pub record RunReady (pieces store : List ℕ) (at n : ℕ) (p s : List ℕ) (top
   pub byte-in : byte ≤ length s
   pub narrow : length s < 2 ^ 32
 
--- the texts are put from a byte and a row on, and the mark behind them is the model's; or they are too long
-pub record RunIndented (indentor : Text) (mark : Bool) (ts : List Text) (p s : List ℕ) (byte top : ℕ) (p' s' : List ℕ) (fits mark' : Bool) (byte' : ℕ) : Type 0 where
-  pub done : fits ≡ true → Carried (indent-pieces indentor mark ts .pieces) p s byte top p' s' byte' (top + length ts)
-  pub room : fits ≡ true → RoomOf (indent-pieces indentor mark ts .pieces) p s byte top
-  pub mark-is : fits ≡ true → mark' ≡ indent-pieces indentor mark ts .mark
-  pub short : fits ≡ false → length s < byte + length (concat (indent-pieces indentor mark ts .pieces))
+-- the first i texts of f 0, f 1, ..
+abbrev pub first-ones : Text → Bool → (ℕ → Text) → ℕ → Pieces
+first-ones indentor mark f i = indent-pieces indentor mark (tabulate f i)
+
+-- the texts of a run, by number
+abbrev pub texts : List ℕ → List ℕ → ℕ → ℕ → Text
+texts p s at k = bytesAt s (pieceAt p (at + k))
+
+pub record Running (indentor : Text) (mark : Bool) (f : ℕ → Text) (p s : List ℕ) (byte top i : ℕ) (p' s' : List ℕ) (next : ℕ) (m : Bool) : Type 0 where
+  pub mark-is : m ≡ first-ones indentor mark f i .mark
+  pub carried : Carried (first-ones indentor mark f i .pieces) p s byte top p' s' next (top + i)
+  pub room : byte + length (concat (first-ones indentor mark f i .pieces)) ≤ length s
+  pub same-rows : length p' ≡ length p
+  pub same-bytes : length s' ≡ length s

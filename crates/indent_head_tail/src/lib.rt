@@ -1,14 +1,14 @@
-// indent.rs on the head and the tail: each piece in turn, written behind the texts in use with the indentor put in.
+// indent.rs on a piece of the head or the tail, written behind the texts in use with the indentor put in; and row 0's two runs.
 ghost use mathlib.Core.Path.{_≡_};
 ghost use mathlib.Core.Bool.{true};
-ghost use Rattle.memory_table.specs.Table.{rowAt};
 ghost use Rattle.memory_list.specs.Insert.{runsOf};
 ghost use Rattle.utf8.specs.Rfc3629.{utf8 as isText};
 ghost use Rattle.model.specs.Indent.{indent-frag};
-ghost use Rattle.memory.specs.Layout.{runOf};
-ghost use Rattle.indent_head_tail.specs.Run.{PieceRoom, PieceIndented, RunReady, RunIndented};
-ghost use Rattle.indent_head_tail.specs.Own.{placeOf, side, RowWith, OwnReady, OwnIndented, LayRoom, Laid};
-use indent_write::Filled;
+ghost use Rattle.indent_mark.specs.Bytes.{mark-behind};
+ghost use Rattle.memory.specs.Layout.{bytesAt, pieceAt};
+ghost use Rattle.indent_head_tail.specs.Run.{PieceRoom, PieceIndented, TextReady, TextIndented};
+ghost use Rattle.indent_head_tail.specs.Own.{placeOf, side, RowWith, LayRoom, Laid};
+use indent_write::FilledText;
 
 // One text, with the indentor put in: its bytes at a byte of the store, its place at a row of the pieces.
 fn indent_piece(
@@ -19,11 +19,11 @@ fn indent_piece(
     row: usize,
     byte: usize,
     mark: bool,
-) -> Filled
+) -> FilledText
     requires { ⌜ isText (now text) ≡ true ⌝ }
     requires { ⌜ PieceRoom (now p) (now s) row byte ⌝ }
     ensures { λ r. ⌜ PieceIndented (indent-frag (now (indentor .entry)) mark (now (text .entry)) .text) (now (p .entry)) (now (s .entry)) byte row
-        (now (p .exit)) (now (s .exit)) (r .fits) (r .end) ⌝ }
+        (now (p .exit)) (now (s .exit)) (r .fits) (r .end) × (r .fits ≡ true → r .mark ≡ mark-behind mark (now (text .entry))) ⌝ }
 {
     let w = indent_write::indent_into(text, indentor, s, byte, mark);
     if !w.fits {
@@ -36,59 +36,47 @@ fn indent_piece(
     w
 }
 
-// Whether a run's texts fitted; then the mark behind them and the byte behind the last.
+// Whether a text fitted; then the mark behind it and the byte behind it.
 pub struct Indented {
     pub fits: bool,
     pub mark: bool,
     pub byte: u32,
 }
 
-// A run of the lent tables, each text with the indentor put in: bytes from `byte` on, rows from `top` on.
-pub fn indent_run(
+// The text of a lent piece row, with the indentor put in, from `byte` on; its place in row `row`.
+pub fn indent_at(
     pieces: &[u32],
     store: &[u8],
+    indentor: &[u8],
     p: &mut [u32],
     s: &mut [u8],
-    at: u32,
-    n: u32,
-    top: u32,
+    from: usize,
+    row: usize,
     byte: u32,
     mark: bool,
-    indentor: &[u8],
 ) -> Indented
-    requires { ⌜ RunReady (now pieces) (now store) at n (now p) (now s) top byte ⌝ }
-    ensures { λ r. ⌜ RunIndented (now (indentor .entry)) mark (runOf (now (pieces .entry)) (now (store .entry)) (at, n)) (now (p .entry)) (now (s .entry)) byte top
+    requires { ⌜ TextReady (now pieces) (now store) (now p) (now s) from row byte ⌝ }
+    ensures { λ r. ⌜ TextIndented (now (indentor .entry)) mark (bytesAt (now (store .entry)) (pieceAt (now (pieces .entry)) from)) (now (p .entry)) (now (s .entry)) byte row
         (now (p .exit)) (now (s .exit)) (r .fits) (r .mark) (r .byte) ⌝ }
 {
-    let first = at as usize;
-    let count = n as usize;
-    let row = top as usize;
-    let mut i: usize = 0;
-    let mut next = byte as usize;
-    let mut m = mark;
-    while i < count {
-        let text = memory_texts::text_of(pieces, store, first + i);
-        let w = indent_piece(text, indentor, p, s, row + i, next, m);
-        if !w.fits {
-            return Indented {
-                fits: false,
-                mark,
-                byte,
-            };
-        }
-        m = indent_mark::mark_text(m, text);
-        next = w.end;
-        i += 1;
+    let text = memory_texts::text_of(pieces, store, from);
+    let w = indent_piece(text, indentor, p, s, row, byte as usize, mark);
+    if !w.fits {
+        return Indented {
+            fits: false,
+            mark,
+            byte,
+        };
     }
     Indented {
         fits: true,
-        mark: m,
-        byte: next as u32,
+        mark: w.mark,
+        byte: w.end as u32,
     }
 }
 
 // Row 0's outro, or its intro: the tail, or the head.
-fn own_run(r: memory_table::Row, outro: bool) -> memory_table::Piece
+pub fn own_run(r: memory_table::Row, outro: bool) -> memory_table::Piece
     ensures { λ q. ⌜ placeOf q ≡ side outro (runsOf r) ⌝ }
 {
     if outro {
@@ -104,7 +92,7 @@ fn own_run(r: memory_table::Row, outro: bool) -> memory_table::Piece
 }
 
 // The row with an outro, or an intro, of as many pieces from another row on.
-fn with_own(r: memory_table::Row, outro: bool, at: u32) -> memory_table::Row
+pub fn with_own(r: memory_table::Row, outro: bool, at: u32) -> memory_table::Row
     ensures { λ q. ⌜ RowWith outro at r q ⌝ }
 {
     let mut q = r;
@@ -114,33 +102,6 @@ fn with_own(r: memory_table::Row, outro: bool, at: u32) -> memory_table::Row
     }
     q.intro_at = at;
     q
-}
-
-// The head or the tail, indented: row 0 names the new run.
-pub fn indent_own(
-    pieces: &[u32],
-    store: &[u8],
-    t: &mut [u32],
-    p: &mut [u32],
-    s: &mut [u8],
-    outro: bool,
-    top: u32,
-    byte: u32,
-    mark: bool,
-    indentor: &[u8],
-) -> Indented
-    requires { ⌜ OwnReady outro (now pieces) (now store) (now t) (now p) (now s) top byte ⌝ }
-    ensures { λ r. ⌜ OwnIndented outro (now (indentor .entry)) mark (runOf (now (pieces .entry)) (now (store .entry)) (side outro (runsOf (rowAt (now (t .entry)) 0))))
-        (now (t .entry)) (now (p .entry)) (now (s .entry)) top byte (now (t .exit)) (now (p .exit)) (now (s .exit)) (r .fits) (r .mark) (r .byte) ⌝ }
-{
-    let z = memory_table::get_row(t, 0);
-    let q = own_run(z, outro);
-    let r = indent_run(pieces, store, p, s, q.at, q.n, top, byte, mark, indentor);
-    if !r.fits {
-        return r;
-    }
-    memory_table::put_row(t, 0, with_own(z, outro, top));
-    r
 }
 
 // The indentor as the first piece row behind the lent ones, with its bytes behind the lent ones. One that no store holds has no row.

@@ -5,12 +5,12 @@ use mathlib.Core.List.{List, [], _∷_}
 use Prim.Native.Nat.{ℕ, suc, _+_, _-_, _≤_, _<_}
 use native.Mathlib.Omega.{arith}
 use native.Mathlib.Numerals.{add-one}
-use lib.Dec.{leb, ltb}
+use lib.Dec.{eqb, leb, ltb}
 use lib.ListN.{length, getD, take, drop, length-drop}
 use lib.Seq.{drop-cons}
-use Rattle.model.specs.Text.{Text}
+use Rattle.model.specs.Text.{Text, LF, CR}
 use Rattle.model.specs.Indent.{excluded, Starts, then-start}
-use Rattle.indent_mark.specs.Bytes.{begins-line, mark-past, starts-from, part, NextStart}
+use Rattle.indent_mark.specs.Bytes.{mark-on, begins-line, mark-past, starts-from, part, NextStart}
 
 -- ---- `is_excluded`: the pairs before k do not hold i
 
@@ -123,3 +123,12 @@ module _ (m l x : Bool) where
 
   pub other-past : m ≡ false → l ≡ false → false ≡ (m || (l && not x))
   other-past h k = rw (h, k)
+
+-- where the mark is not set, a line feed alone sets it
+pub mark-clear : (m : Bool) (b : ℕ) → m ≡ false → mark-on m b ≡ eqb b LF
+mark-clear m b e = ap (λ (x : Bool). mark-on x b) e ∙ go (eqb b LF) (eqb b CR)
+  where
+    go : (x y : Bool) → cond x true (y && false) ≡ x
+    go true y = refl
+    go false true = refl
+    go false false = refl

@@ -71,7 +71,7 @@ fn mark_past_byte(b: u8, exclude: &[u32], i: u32, mark: bool) -> bool
     if mark {
         return true;
     }
-    if b == 10 {
+    if indent_mark::mark_on(mark, b) {
         return !is_excluded(exclude, i);
     }
     false

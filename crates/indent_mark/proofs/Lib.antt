@@ -1,4 +1,3 @@
-pub mod Turns
 pub mod Bytes
 pub mod Fills
 pub mod ByCharacters

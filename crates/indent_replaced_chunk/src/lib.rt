@@ -55,7 +55,7 @@ fn write_indented(
     }
     Written {
         fits: true,
-        mark: indent_mark::mark_text(mark, text),
+        mark: f.mark,
         end: f.end as u32,
     }
 }

@@ -1,2 +1,5 @@
+pub mod Again
 pub mod Rest
 pub mod Steps
+pub mod Turns
+pub mod Walk

@@ -22,8 +22,10 @@ use Rattle.memory_texts.specs.Low.{DeskLow}
 use Rattle.memory_texts.proofs.Low.{desk-in, run-same, run-still, entries-same, entries-still}
 use Rattle.model_indent_closed.specs.Indent.{IndentedChunks}
 use Rattle.indent_head_tail.specs.Run.{RunReady}
-use Rattle.indent_head_tail.specs.Own.{Runs, side, OwnReady, OwnDone, OwnIndented}
-use Rattle.indent_chunks.specs.Walk.{closedOf, ChunksIndented, WalkDone}
+use Rattle.indent_head_tail.specs.Own.{Runs, side, OwnReady, OwnDone}
+use Rattle.indent_head_tail.proofs.Own.{OwnIndented}
+use Rattle.indent_chunks.specs.Walk.{closedOf}
+use Rattle.indent_chunks.proofs.Walk.{ChunksIndented, WalkDone}
 use Rattle.model_preservation.proofs.Indent.{pieces-length}
 use Rattle.indent_steps.specs.Rest.{RestReady, tailOf, RestDone}
 

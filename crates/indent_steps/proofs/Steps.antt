@@ -9,7 +9,7 @@ use lib.Dec.{leb}
 use lib.ListN.{length, take}
 use lib.Seq.{take-at, take-take}
 use borrow.Author.Tests.{leb-true}
-use Rattle.memory_layout.specs.Layout.{ROW, SOURCE-BYTES, CHUNKS, PIECES, PIECE-ROWS, PIECES-LEN, STORE-LEN, INDENT-ROW, INDENT-BYTE}
+use Rattle.memory_layout.specs.Layout.{SOURCE-BYTES, CHUNKS, PIECES, PIECE-ROWS, PIECES-LEN, STORE-LEN, INDENT-ROW, INDENT-BYTE}
 use Rattle.utf8.specs.Chars.{All, nil, cons, concat}
 use Rattle.memory_table.specs.Order.{Entry, entryAt, entries}
 use Rattle.model.specs.Text.{sum}
@@ -33,7 +33,8 @@ use Rattle.model_indent_closed.specs.Indent.{indented-chunks}
 use Rattle.model_indent_closed.proofs.Indent.{indented}
 use Rattle.model_indent_closed.proofs.Walk.{indent-by-closed}
 use Rattle.model_indent_closed.proofs.Growth.{past-chunks, past-bytes}
-use Rattle.indent_head_tail.specs.Own.{Runs, OwnReady, OwnDone, OwnIndented, LayRoom, Laid}
+use Rattle.indent_head_tail.specs.Own.{Runs, OwnReady, OwnDone, Laid}
+use Rattle.indent_head_tail.proofs.Own.{OwnIndented}
 use Rattle.indent_chunks.specs.Walk.{chunksOf, closedOf, bodyOf}
 use Rattle.model_preservation.proofs.Indent.{pieces-length}
 use Rattle.indent_steps.specs.Rest.{RestReady, leftOf, tailOf, RestDone}
@@ -107,12 +108,6 @@ module _ (indentor exclude source t p s p1 s1 : List ℕ) (w : StepsReady source
   outro-valid : All model.Valid (runOf p s (entryAt t 0 .outro))
   unfolding magicStringOf
   outro-valid = w .desk .formed .outro
-
-  pub steps-head-end : (ROW ≤ length t) × (entryAt t 0 .intro .1 ≤ PIECES)
-  steps-head-end = (omega (arith, w .chunks), omega (arith, counted))
-
-  pub steps-lay : LayRoom p1 s1
-  steps-lay = record { rows = omega (arith, w .long-pieces); bytes = omega (arith, w .long-store); rows-narrow = omega (arith, w .long-pieces); narrow = omega (arith, w .long-store) }
 
   -- what the model leaves
   closed-is : indent-by indentor exclude m ≡ ok (indented indentor exclude m)

@@ -1,63 +1,302 @@
-// indent.rs: the steps of `indent_with` on scratch tables: the head, the chunks, the tail.
+// indent.rs: the steps of `indent_with` on scratch tables: the head, the chunks, the tail, text by text. One state lives through the walk, and each turn is lent it.
 ghost use mathlib.Core.Path.{_≡_};
 ghost use mathlib.Core.Bool.{true};
-ghost use Prim.Native.Nat.{_+_, _≤_};
+ghost use Prim.Native.Nat.{_+_, _≤_, _<_};
 ghost use lib.ListN.{length};
-ghost use Rattle.memory_layout.specs.Layout.{ROW, PIECES, INDENT-ROW};
-ghost use Rattle.memory_table.specs.Order.{entryAt};
-ghost use Rattle.indent_steps.specs.Rest.{RestReady, RestDone};
+ghost use Rattle.memory_layout.specs.Layout.{ROW};
+ghost use Rattle.memory_table.specs.Table.{rowAt};
+ghost use Rattle.memory_list.specs.Insert.{runsOf};
+ghost use Rattle.indent_head_tail.specs.Own.{side};
 ghost use Rattle.indent_steps.specs.Steps.{StepsReady, IndentSteps};
+ghost use Rattle.indent_steps.specs.Walk.{stopped-at, onward-at, run-from, chunks-from, over-at, RunEnded, PieceReady, PieceTurned, ChunkReady, ChunkTurned, PartReady};
+ghost use Rattle.indent_steps.specs.Walk.{PartTurned, Walking, TurnReady, Turned};
 
-// Behind the head, which ends before row `top`: the chunks, then the tail. 13 where the desk would pass a limit.
-fn indent_rest(
-    source: &[u8],
+// Whether the next character begins a line: `IndentReplacer`, without its indentor.
+pub struct IndentState {
+    pub should_indent_next_char: bool,
+}
+
+// The parts of the desk, in the order of the walk.
+const HEAD: u32 = 0;
+
+const CHUNKS: u32 = 1;
+
+const TAIL: u32 = 2;
+
+// A place on the walk: the part, the text in it (a lent piece row behind `row`, or the chunk row `row`), how many of n are done, and the piece row and the byte behind those in use.
+// Where there is no more, the number is the walk's answer.
+pub struct TextAt {
+    pub more: bool,
+    pub number: u32,
+    pub part: u32,
+    pub row: u32,
+    pub n: u32,
+    pub i: u32,
+    pub top: u32,
+    pub byte: u32,
+}
+
+// The place behind a turn, and the mark behind its text.
+pub struct Texted {
+    pub at: TextAt,
+    pub mark: bool,
+}
+
+// 13: the desk would pass a limit.
+fn stopped(at: TextAt) -> TextAt
+    ensures { λ r. ⌜ r ≡ stopped-at at ⌝ }
+{
+    let mut q = at;
+    q.more = false;
+    q.number = 13;
+    q
+}
+
+// Behind a text.
+fn onward(at: TextAt, row: u32, top: u32, byte: u32) -> TextAt
+    requires { ⌜ at .i < at .n ⌝ }
+    ensures { λ r. ⌜ r ≡ onward-at at row top byte ⌝ }
+{
+    let mut q = at;
+    q.row = row;
+    q.i = at.i + 1;
+    q.top = top;
+    q.byte = byte;
+    q
+}
+
+// A piece of the head or the tail.
+fn piece_turn(
     pieces: &[u32],
     store: &[u8],
+    indentor: &[u8],
+    p: &mut [u32],
+    s: &mut [u8],
+    at: TextAt,
+    mark: bool,
+) -> Texted
+    requires { ⌜ PieceReady (now pieces) (now store) (now p) (now s) at ⌝ }
+    ensures { λ r. ⌜ PieceTurned (now (indentor .entry)) (now (pieces .entry)) (now (store .entry)) at mark (now (p .entry)) (now (s .entry)) (now (p .exit)) (now (s .exit)) (r .at) (r .mark) ⌝ }
+{
+    let from = at.row as usize + at.i as usize;
+    let row = at.top as usize + at.i as usize;
+    let w = indent_head_tail::indent_at(pieces, store, indentor, p, s, from, row, at.byte, mark);
+    if !w.fits {
+        return Texted {
+            at: stopped(at),
+            mark,
+        };
+    }
+    Texted {
+        at: onward(at, at.row, at.top, w.byte),
+        mark: w.mark,
+    }
+}
+
+// A chunk: its part of the source, or its replacement.
+fn chunk_turn(
+    source: &[u8],
+    store: &[u8],
+    indentor: &[u8],
+    exclude: &[u32],
     t: &mut [u32],
     p: &mut [u32],
     s: &mut [u8],
-    indentor: &[u8],
-    exclude: &[u32],
+    at: TextAt,
     mark: bool,
-    top: u32,
-    byte: u32,
-) -> u32
-    requires { ⌜ RestReady (now indentor) (now source) (now pieces) (now store) (now t) (now p) (now s) top byte ⌝ }
-    ensures { λ r. ⌜ RestDone (now (indentor .entry)) (now (exclude .entry)) (now (source .entry)) (now (pieces .entry)) (now (store .entry))
-        (now (t .entry)) (now (p .entry)) (now (s .entry)) mark byte (now (t .exit)) (now (p .exit)) (now (s .exit)) r ⌝ }
+) -> Texted
+    requires { ⌜ ChunkReady (now indentor) (now source) (now store) (now t) (now p) (now s) at ⌝ }
+    ensures { λ r. ⌜ ChunkTurned (now (indentor .entry)) (now (exclude .entry)) (now (source .entry)) at mark (now (t .entry)) (now (p .entry)) (now (s .entry))
+        (now (t .exit)) (now (p .exit)) (now (s .exit)) (r .at) (r .mark) ⌝ }
 {
-    let w = indent_chunks::indent_chunks(source, store, indentor, exclude, t, p, s, mark, top, byte);
-    if w.number != 0 {
-        return 13;
-    }
-    let r = indent_head_tail::indent_own(
-        pieces,
+    let r = memory_table::get_row(t, at.row);
+    let w = indent_chunks::indent_row(
+        source,
         store,
+        indentor,
+        exclude,
         t,
         p,
         s,
-        true,
-        w.top,
-        w.byte,
-        w.mark,
-        indentor,
+        at.row,
+        mark,
+        at.top,
+        at.byte,
     );
-    if !r.fits {
-        return 13;
+    if w.number != 0 {
+        return Texted {
+            at: stopped(at),
+            mark,
+        };
     }
-    0
+    Texted {
+        at: onward(at, r.next, w.top, w.byte),
+        mark: w.mark,
+    }
 }
 
-// The row behind those that the head takes from `INDENT_ROW` on.
-fn head_end(t: &[u32]) -> u32
-    requires { ⌜ (ROW ≤ length (now t)) × (entryAt (now t) 0 .intro .1 ≤ PIECES) ⌝ }
-    ensures { λ r. ⌜ r ≡ INDENT-ROW + entryAt (now (t .entry)) 0 .intro .1 ⌝ }
+// The start of the head or the tail, as row 0 names it.
+fn run_begins(t: &[u32], part: u32, outro: bool, top: u32, byte: u32) -> TextAt
+    requires { ⌜ ROW ≤ length (now t) ⌝ }
+    ensures { λ r. ⌜ r ≡ run-from part (side outro (runsOf (rowAt (now (t .entry)) 0))) top byte ⌝ }
 {
     let z = memory_table::get_row(t, 0);
-    memory_layout::INDENT_ROW + z.intro_n
+    let q = indent_head_tail::own_run(z, outro);
+    TextAt {
+        more: true,
+        number: 0,
+        part,
+        row: q.at,
+        n: q.n,
+        i: 0,
+        top,
+        byte,
+    }
 }
 
-// The indentor as a piece, the head from `INDENT_ROW` and `INDENT_BYTE` on, then the rest. The desk lies in the rows t and the lent pieces and store.
+// Row 0 names the run that was written from row top on.
+fn run_ends(t: &mut [u32], outro: bool, top: u32)
+    requires { ⌜ ROW ≤ length (now t) ⌝ }
+    ensures { λ _. ⌜ RunEnded outro top (now (t .entry)) (now (t .exit)) ⌝ }
+{
+    let z = memory_table::get_row(t, 0);
+    memory_table::put_row(t, 0, indent_head_tail::with_own(z, outro, top));
+}
+
+// The start of the chunks.
+fn chunks_begin(t: &[u32], top: u32, byte: u32) -> TextAt
+    requires { ⌜ ROW ≤ length (now t) ⌝ }
+    ensures { λ r. ⌜ r ≡ chunks-from (rowAt (now (t .entry)) 0) top byte ⌝ }
+{
+    let z = memory_table::get_row(t, 0);
+    TextAt {
+        more: true,
+        number: 0,
+        part: CHUNKS,
+        row: z.next,
+        n: z.start,
+        i: 0,
+        top,
+        byte,
+    }
+}
+
+// The end of the walk.
+fn over(at: TextAt) -> TextAt
+    ensures { λ r. ⌜ r ≡ over-at at ⌝ }
+{
+    let mut q = at;
+    q.more = false;
+    q
+}
+
+// Behind the last text of a part: the next part, or the end.
+fn part_turn(t: &mut [u32], at: TextAt) -> TextAt
+    requires { ⌜ PartReady (now t) at ⌝ }
+    ensures { λ r. ⌜ PartTurned at (now (t .entry)) (now (t .exit)) r ⌝ }
+{
+    if at.part == CHUNKS {
+        return run_begins(t, TAIL, true, at.top, at.byte);
+    }
+    if at.part == TAIL {
+        run_ends(t, true, at.top);
+        return over(at);
+    }
+    run_ends(t, false, at.top);
+    chunks_begin(t, at.top + at.n, at.byte)
+}
+
+// A turn: a text, with the mark in front of it; or the next part, which leaves the mark.
+fn turn<'l>(
+    source: &[u8],
+    pieces: &[u32],
+    store: &[u8],
+    indentor: &[u8],
+    exclude: &[u32],
+    t: &'l mut [u32],
+    p: &'l mut [u32],
+    s: &'l mut [u8],
+    at: TextAt,
+    mark: bool,
+) -> Texted
+    requires { ⌜ TurnReady (now indentor) (now exclude) (now source) (now pieces) (now store) at mark (now t) (now p) (now s) ⌝ }
+    ensures { λ r. ⌜ Turned (now (indentor .entry)) (now (exclude .entry)) (now (source .entry)) (now (pieces .entry)) (now (store .entry)) at mark (now (t .entry)) (now (p .entry)) (now (s .entry))
+        (r .at) (r .mark) (now (t .exit)) (now (p .exit)) (now (s .exit)) ⌝ }
+{
+    if at.i == at.n {
+        return Texted {
+            at: part_turn(t, at),
+            mark,
+        };
+    }
+    if at.part == CHUNKS {
+        return chunk_turn(source, store, indentor, exclude, t, p, s, at, mark);
+    }
+    piece_turn(pieces, store, indentor, p, s, at, mark)
+}
+
+// One text of the walk: the state is taken apart, and the mark behind the text stored.
+fn next_text<'s, 'l>(
+    state: &'s mut IndentState,
+    source: &[u8],
+    pieces: &[u32],
+    store: &[u8],
+    indentor: &[u8],
+    exclude: &[u32],
+    t: &'l mut [u32],
+    p: &'l mut [u32],
+    s: &'l mut [u8],
+    at: TextAt,
+) -> TextAt
+    requires { ⌜ TurnReady (now indentor) (now exclude) (now source) (now pieces) (now store) at (now state .«should_indent_next_char») (now t) (now p) (now s) ⌝ }
+    ensures { λ r. ⌜ Turned (now (indentor .entry)) (now (exclude .entry)) (now (source .entry)) (now (pieces .entry)) (now (store .entry)) at
+        (now (state .entry) .«should_indent_next_char») (now (t .entry)) (now (p .entry)) (now (s .entry))
+        r (now (state .exit) .«should_indent_next_char») (now (t .exit)) (now (p .exit)) (now (s .exit)) ⌝ }
+{
+    let mark = state.should_indent_next_char;
+    let r = turn(source, pieces, store, indentor, exclude, t, p, s, at, mark);
+    state.should_indent_next_char = r.mark;
+    r.at
+}
+
+// The walk: the state is made, and lent to one text after another.
+fn walk_texts(
+    source: &[u8],
+    pieces: &[u32],
+    store: &[u8],
+    indentor: &[u8],
+    exclude: &[u32],
+    t: &mut [u32],
+    p: &mut [u32],
+    s: &mut [u8],
+    first: TextAt,
+) -> u32
+    requires { ⌜ Walking (now indentor) (now exclude) (now source) (now pieces) (now store) (now t) first true (now t) (now p) (now s) ⌝ }
+    ensures { λ r. ⌜ IndentSteps (now (indentor .entry)) (now (exclude .entry)) (now (source .entry)) (now (t .entry)) (now (pieces .entry)) (now (store .entry))
+        (now (t .exit)) (now (p .exit)) (now (s .exit)) r ⌝ }
+{
+    let mut state = IndentState {
+        should_indent_next_char: true,
+    };
+    let mut at = first;
+    while at.more {
+        at = next_text(
+            &mut state,
+            source,
+            pieces,
+            store,
+            indentor,
+            exclude,
+            t,
+            p,
+            s,
+            at,
+        );
+    }
+    at.number
+}
+
+// The indentor as a piece, then the walk, from `INDENT_ROW` and `INDENT_BYTE` on. The desk lies in the rows t and the lent pieces and store.
 pub fn indent_steps(
     source: &[u8],
     pieces: &[u32],
@@ -72,34 +311,7 @@ pub fn indent_steps(
     ensures { λ r. ⌜ IndentSteps (now (indentor .entry)) (now (exclude .entry)) (now (source .entry)) (now (t .entry)) (now (pieces .entry)) (now (store .entry))
         (now (t .exit)) (now (p .exit)) (now (s .exit)) r ⌝ }
 {
-    let top = head_end(t);
     indent_head_tail::lay_indentor(p, s, indentor);
-    let h = indent_head_tail::indent_own(
-        pieces,
-        store,
-        t,
-        p,
-        s,
-        false,
-        memory_layout::INDENT_ROW,
-        memory_layout::INDENT_BYTE,
-        true,
-        indentor,
-    );
-    if !h.fits {
-        return 13;
-    }
-    indent_rest(
-        source,
-        pieces,
-        store,
-        t,
-        p,
-        s,
-        indentor,
-        exclude,
-        h.mark,
-        top,
-        h.byte,
-    )
+    let first = run_begins(t, HEAD, false, memory_layout::INDENT_ROW, memory_layout::INDENT_BYTE);
+    walk_texts(source, pieces, store, indentor, exclude, t, p, s, first)
 }

@@ -66,6 +66,11 @@ module _ {d : List ℕ} {place : ℕ} {indentor : Text} {mark : Bool} {text : Te
       let e : i ≡ length text = omega (arith, p .inside) in
       rw (indent-frag-is indentor mark text u) (subst (λ (t : Text). Filling d place (indent-bytes indentor mark t) d' true end) (ap (λ (j : ℕ). take j text) e ∙ take-length text) (p .filled))
 
+  pub putting-mark : length text ≤ i → m ≡ mark-behind mark text
+  putting-mark h =
+      let e : i ≡ length text = omega (arith, p .inside) in
+      p .mark-is ∙ ap (mark-behind mark) (ap (λ (j : ℕ). take j text) e ∙ take-length text)
+
 -- ---- `put_indented`
 
 pub plain-byte : {d : List ℕ} {place : ℕ} (indentor : Text) (mark : Bool) (b : ℕ) {d' : List ℕ} {f : Bool} {end : ℕ} (r : Bool) → r ≡ takes mark b →

@@ -6,7 +6,7 @@ ghost use Prim.Native.Nat.{_+_, _≤_};
 ghost use lib.ListN.{length};
 ghost use Rattle.utf8.specs.Rfc3629.{utf8 as isText};
 ghost use Rattle.model.specs.Indent.{indent-frag};
-ghost use Rattle.indent_mark.specs.Bytes.{mark-on, indented-byte, Filling};
+ghost use Rattle.indent_mark.specs.Bytes.{mark-behind, indented-byte, Filling};
 
 // Whether a text fitted into a buffer, and the place behind it.
 pub struct Filled {
@@ -14,17 +14,11 @@ pub struct Filled {
     pub end: usize,
 }
 
-// The mark behind a byte.
-fn mark_on(mark: bool, b: u8) -> bool
-    ensures { λ r. ⌜ r ≡ mark-on mark b ⌝ }
-{
-    if b == 10 {
-        return true;
-    }
-    if b == 13 {
-        return mark;
-    }
-    false
+// The same of a text with the indentor put in, and the mark behind it.
+pub struct FilledText {
+    pub fits: bool,
+    pub end: usize,
+    pub mark: bool,
 }
 
 // Puts a text into `out` at a place, if it fits.
@@ -78,11 +72,18 @@ fn put_indented(b: u8, indentor: &[u8], out: &mut [u8], place: usize, mark: bool
     put_byte(b, out, front.end)
 }
 
-// `indent_frag`: puts the text, with the indentor put in, into `out` at a place.
-pub fn indent_into(text: &[u8], indentor: &[u8], out: &mut [u8], place: usize, mark: bool) -> Filled
+// `indent_frag`: puts the text, with the indentor put in, into `out` at a place, and gives the mark behind it.
+pub fn indent_into(
+    text: &[u8],
+    indentor: &[u8],
+    out: &mut [u8],
+    place: usize,
+    mark: bool,
+) -> FilledText
     requires { ⌜ isText (now text) ≡ true ⌝ }
     requires { ⌜ place ≤ length (now out) ⌝ }
-    ensures { λ r. ⌜ Filling (now (out .entry)) place (indent-frag (now (indentor .entry)) mark (now (text .entry)) .text) (now (out .exit)) (r .fits) (r .end) ⌝ }
+    ensures { λ r. ⌜ Filling (now (out .entry)) place (indent-frag (now (indentor .entry)) mark (now (text .entry)) .text) (now (out .exit)) (r .fits) (r .end)
+        × (r .fits ≡ true → r .mark ≡ mark-behind mark (now (text .entry))) ⌝ }
 {
     let mut end = place;
     let mut m = mark;
@@ -91,11 +92,19 @@ pub fn indent_into(text: &[u8], indentor: &[u8], out: &mut [u8], place: usize, m
         let b = text[i];
         let next = put_indented(b, indentor, out, end, m);
         if !next.fits {
-            return next;
+            return FilledText {
+                fits: next.fits,
+                end: next.end,
+                mark: m,
+            };
         }
         end = next.end;
-        m = mark_on(m, b);
+        m = indent_mark::mark_on(m, b);
         i += 1;
     }
-    Filled { fits: true, end }
+    FilledText {
+        fits: true,
+        end,
+        mark: m,
+    }
 }

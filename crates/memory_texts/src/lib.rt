@@ -73,7 +73,7 @@ pub fn own_row(z: memory_table::Row) -> memory_table::Row
     let mut r = z;
     r.start = 0;
     r.end = 0;
-    r.text_at = NONE;
+    r.text_at = memory_layout::NONE;
     r.text_n = 0;
     r
 }

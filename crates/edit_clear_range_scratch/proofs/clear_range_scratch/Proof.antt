@@ -10,26 +10,26 @@ use Rattle.edit_clear_range_scratch.proofs.clear_range_scratch.Tie as t
 array-borrow-prefix-t : tie.Need-array-borrow-prefix-t
 array-borrow-prefix-t c = search needs
 
-slice-aggregate-clear-range-on : tie.Need-slice-aggregate-clear-range-on
-slice-aggregate-clear-range-on c =
+slice-aggregate-clear-range-by : tie.Need-slice-aggregate-clear-range-by
+slice-aggregate-clear-range-by c =
     sym (zeros-length SCRATCH-LEN SCRATCH-LEN (omega arith))
 
 array-borrow-prefix-p : tie.Need-array-borrow-prefix-p
 array-borrow-prefix-p c = search needs
 
-slice-aggregate-clear-range-on-2 : tie.Need-slice-aggregate-clear-range-on-2
-slice-aggregate-clear-range-on-2 c =
+slice-aggregate-clear-range-by-2 : tie.Need-slice-aggregate-clear-range-by-2
+slice-aggregate-clear-range-by-2 c =
     sym (zeros-length PIECES-LEN PIECES-LEN (omega arith))
 
 array-borrow-prefix-s : tie.Need-array-borrow-prefix-s
 array-borrow-prefix-s c = search needs
 
-slice-aggregate-clear-range-on-3 : tie.Need-slice-aggregate-clear-range-on-3
-slice-aggregate-clear-range-on-3 c =
+slice-aggregate-clear-range-by-3 : tie.Need-slice-aggregate-clear-range-by-3
+slice-aggregate-clear-range-by-3 c =
     sym (zeros-length STORE-LEN STORE-LEN (omega arith))
 
-clear-range-on-requires : tie.Need-clear-range-on-requires
-clear-range-on-requires c κs =
+clear-range-by-requires : tie.Need-clear-range-by-requires
+clear-range-by-requires c κs =
     let start = c .before .before .before .before .before .before .before .before .before .before in
     (start .pre .0, (zeros-scratch SCRATCH-LEN PIECES-LEN STORE-LEN refl (omega arith) (omega arith), start .pre .1))
 
@@ -50,12 +50,12 @@ clear-range-scratch-spec =
     tie.close
     (tie.spec
     array-borrow-prefix-t
-    slice-aggregate-clear-range-on
+    slice-aggregate-clear-range-by
     array-borrow-prefix-p
-    slice-aggregate-clear-range-on-2
+    slice-aggregate-clear-range-by-2
     array-borrow-prefix-s
-    slice-aggregate-clear-range-on-3
-    clear-range-on-requires
+    slice-aggregate-clear-range-by-3
+    clear-range-by-requires
     same-length
     same-length-2
     same-length-3

@@ -23,10 +23,9 @@ returns c =
 
 insert-scratch-requires : tie.Need-insert-scratch-requires
 insert-scratch-requires c κs =
-    let small = c .before .before .before .before .before .before .before .before .before .before .before .insert-small .ensures in
-    tried-formed small (c .before .before .before .if1 .left)
-        (c .before .before .before .before .before .before .before .before .before .before .before .before .before .before .before .before .before
-        .before .before .before .pre .well-formed)
+    let small = c .before .before .before .before .before .before .before .before .before .before .before in
+    let start = small .before .before .before .before .before .before .before .before .before in
+    tried-formed (small .insert-small .ensures) (c .before .before .before .if1 .left) (start .pre .well-formed)
 
 same-length-4 : tie.Need-same-length-4
 same-length-4 c = search needs

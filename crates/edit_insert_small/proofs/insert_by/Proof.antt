@@ -9,21 +9,22 @@ use Rattle.edit_insert_small.proofs.insert_by.Tie as tie
 
 lay-requires : tie.Need-lay-requires
 lay-requires c κs =
-    let start = c .before .before .before .before .before .before .before .before .before .before .before .before .before .before in
+    let known = c .before .before .before .before .before .before .before in
+    let start = known .before .before .before .before .before .before .before in
     (start .pre .0 .readable, start .pre .1)
 
 attempt-requires : tie.Need-attempt-requires
 attempt-requires c κs =
-    let start = c .before .before .before .before .before .before .before .before .before .before .before .before .before .before .before .before .before
-        .before .before .before .before .before .before .before in
-    laid-desk (start .pre .0) (c .before .before .before .before .before .before .before .before .before .lay .ensures)
+    let laid = c .before .before .before .before .before .before .before .before .before in
+    let start = laid .before .before .before .before .before .before .before .before .before .before .before .before .before .before .before in
+    laid-desk (start .pre .0) (laid .lay .ensures)
 
 finish-requires : tie.Need-finish-requires
 finish-requires c κs =
-    let start = c .before .before .before .before .before .before .before .before .before .before .before .before .before .before .before .before .before
-        .before .before .before .before .before .before .before .before .before .before .before .before .before .before .before .before .before .before
-        .before .before in
-    (c .before .before .before .before .before .before .before .before .before .before .before .before .attempt .ensures .readable, formed-usable (start .pre .0))
+    let attempted = c .before .before .before .before .before .before .before .before .before .before .before .before in
+    let laid = attempted .before .before .before .before .before .before .before .before .before .before in
+    let start = laid .before .before .before .before .before .before .before .before .before .before .before .before .before .before .before in
+    (attempted .attempt .ensures .readable, formed-usable (start .pre .0))
 
 same-length : tie.Need-same-length
 same-length c = search needs
@@ -45,15 +46,13 @@ same-length-6 c = search needs
 
 returns : tie.Need-returns
 returns c =
-    let start = c .before .before .before .before .before .before .before .before .before .before .before .before .before .before .before .before .before
-        .before .before .before .before .before .before .before .before .before .before .before .before .before .before .before .before .before .before
-        .before .before .before .before .before .before .before .before .before in
+    let attempted = c .before .before .before .before .before .before .before .before .before .before .before .before .before .before .before .before .before .before .before in
+    let laid = attempted .before .before .before .before .before .before .before .before .before .before in
+    let start = laid .before .before .before .before .before .before .before .before .before .before .before .before .before .before .before in
     let a = start .args in
-    let attempt = c .before .before .before .before .before .before .before .before .before .before .before .before .before .before .before .before .before .before .before .attempt in
     let finish = c .before .before .before .before .before .before .finish in
-    tried (start .pre .0) (c .before .before .before .before .before .before .before .before .before .before .before .before .before .before .before
-        .before .before .before .before .before .before .before .before .before .before .before .before .before .before .lay .ensures) (attempt .ensures)
-        (adding-stays (a .whole) (a .left) (a .front) (a .q) (a .text .now)) (finish .ensures .0) (finish .result) refl (finish .ensures .1)
+    let stays = adding-stays (a .whole) (a .left) (a .front) (a .q) (a .text .now) in
+    tried (start .pre .0) (laid .lay .ensures) (attempted .attempt .ensures) stays (finish .ensures .0) (finish .result) refl (finish .ensures .1)
 
 pub insert-by-spec : {M : Type 1} → statement M
 insert-by-spec =

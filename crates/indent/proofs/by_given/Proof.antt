@@ -23,8 +23,8 @@ returns c =
     (sym (positions-between .ensures) ∙ if2 .taken) (c .if3 .taken) in
     record { ran = ran; above = start .pre .0 .above }
 
-indent-tables-requires : tie.Need-indent-tables-requires
-indent-tables-requires c κs =
+indent-scratch-requires : tie.Need-indent-scratch-requires
+indent-scratch-requires c κs =
     let start = c .before .before .before .before .before .before .before .before .before .before .before .before .before .before in
     start .pre .0
 
@@ -40,7 +40,7 @@ same-length-3 c = search needs
 returns-2 : tie.Need-returns-2
 returns-2 c =
     let start = c .before .before .before .before .before .before .before .before .before .before .before .before .before .before .before .before .before .before .before .before .before in
-    let tables = c .before .before .before .before .before .before .indent-tables in
+    let tables = c .before .before .before .before .before .before .indent-scratch in
     let valid = c .before .before .before .before .before .before .before .before .before .before .before .before .before .before .valid in
     let if1 = c .before .before .before .before .before .before .before .before .before .before .before .before .before .if1 in
     let positions-between = c .before .before .before .before .before .before .before .before .before .before .before .before .positions-between in
@@ -75,7 +75,7 @@ by-given-spec =
     valid-requires
     positions-between-requires
     returns
-    indent-tables-requires
+    indent-scratch-requires
     same-length
     same-length-2
     same-length-3

@@ -27,16 +27,16 @@ slice-reshare-prefix-indent-tables c =
     let put-indentor = c .before .before .before .before .before .put-indentor in
     guess-in (start .args .source .now) (guess-indentor .result) (guess-indentor .ensures) _ _ (indentor-len .result) (indentor-len .ensures) (put-indentor .ensures)
 
-slice-aggregate-indent-tables : tie.Need-slice-aggregate-indent-tables
-slice-aggregate-indent-tables c =
+slice-aggregate-indent-scratch : tie.Need-slice-aggregate-indent-scratch
+slice-aggregate-indent-scratch c =
     let start = c .before .before .before .before .before .before .before .before .before .before .before .before .before .before .before .before in
     let guess-indentor = c .before .before .before .before .before .before .before .before .before .guess-indentor in
     let indentor-len = c .before .before .before .before .before .before .before .before .indentor-len in
     let put-indentor = c .before .before .before .before .before .before .put-indentor in
     guess-part (start .args .source .now) (guess-indentor .result) (guess-indentor .ensures) _ _ (indentor-len .result) (indentor-len .ensures) (put-indentor .ensures)
 
-indent-tables-requires : tie.Need-indent-tables-requires
-indent-tables-requires c κs =
+indent-scratch-requires : tie.Need-indent-scratch-requires
+indent-scratch-requires c κs =
     let start = c .before .before .before .before .before .before .before .before .before .before .before .before .before .before .before .before in
     start .pre .0
 
@@ -56,7 +56,7 @@ returns : tie.Need-returns
 returns c =
     let start = c .before .before .before .before .before .before .before .before .before .before .before .before .before .before .before .before .before
         .before .before .before .before .before .before in
-    let tables = c .before .before .before .before .before .before .indent-tables in
+    let tables = c .before .before .before .before .before .before .indent-scratch in
     let guess-indentor = c .before .before .before .before .before .before .before .before .before .before .before .before .before .before .before .before .guess-indentor in
     let indentor-len = c .before .before .before .before .before .before .before .before .before .before .before .before .before .before .before .indentor-len in
     let put-indentor = c .before .before .before .before .before .before .before .before .before .before .before .before .before .put-indentor in
@@ -75,8 +75,8 @@ guessed-in-spec =
     cast-n
     put-indentor-requires
     slice-reshare-prefix-indent-tables
-    slice-aggregate-indent-tables
-    indent-tables-requires
+    slice-aggregate-indent-scratch
+    indent-scratch-requires
     same-length
     same-length-2
     same-length-3

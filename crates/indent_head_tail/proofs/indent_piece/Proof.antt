@@ -2,6 +2,7 @@ use native.Mathlib.Omega.{arith}
 use lib.ListN.{length-set}
 use borrow.Author.Tests.{not-true, not-false}
 use Rattle.indent_head_tail.proofs.Run.{piece-short, piece-size, piece-end, piece-done}
+use Rattle.model.proofs.Lists.{clash}
 use borrow.Author.Needs.{needs}
 use Rattle.indent_head_tail.proofs.indent_piece.Statement.{statement}
 use Rattle.indent_head_tail.proofs.indent_piece.Tie as tie
@@ -13,10 +14,10 @@ same-length : tie.Need-same-length
 same-length c = search needs
 
 returns : tie.Need-returns
-returns c = piece-short (c .before .before .before .before .indent-into .ensures) (not-true _ (c .if1 .taken))
+returns c = (piece-short (c .before .before .before .before .indent-into .ensures .0) (not-true _ (c .if1 .taken)), λ k. clash k (not-true _ (c .if1 .taken)))
 
 sub-n : tie.Need-sub-n
-sub-n c = piece-size (c .before .before .before .before .indent-into .ensures) (not-false _ (c .if1 .left))
+sub-n c = piece-size (c .before .before .before .before .indent-into .ensures .0) (not-false _ (c .if1 .left))
 
 cast-p : tie.Need-cast-p
 cast-p c = search needs
@@ -31,7 +32,7 @@ slice-write-p : tie.Need-slice-write-p
 slice-write-p c = search needs
 
 cast-p-2 : tie.Need-cast-p-2
-cast-p-2 c = omega (arith, piece-end (c .before .before .before .before .indent-into .ensures) (not-false _ (c .if1 .left)),
+cast-p-2 c = omega (arith, piece-end (c .before .before .before .before .indent-into .ensures .0) (not-false _ (c .if1 .left)),
     c .before .before .before .before .before .before .before .before .before .before .pre .1 .narrow)
 
 mul-p-3 : tie.Need-mul-p-3
@@ -55,7 +56,8 @@ same-length-3 c = search needs
 returns-2 : tie.Need-returns-2
 returns-2 c =
     let start = c .before .before .before .before .before .before .before .before .before .before in
-    piece-done (c .before .before .before .before .indent-into .ensures) (start .args .p .now) (start .args .row) (not-false _ (c .if1 .left)) (start .pre .1 .row-in)
+    (piece-done (c .before .before .before .before .indent-into .ensures .0) (start .args .p .now) (start .args .row) (not-false _ (c .if1 .left)) (start .pre .1 .row-in),
+        c .before .before .before .before .indent-into .ensures .1)
 
 pub indent-piece-spec : {M : Type 1} → statement M
 indent-piece-spec =

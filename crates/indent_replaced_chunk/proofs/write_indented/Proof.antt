@@ -35,28 +35,25 @@ returns c =
     let a = c .before .before .before .before .before .before .before .before .before .before .args in
     let z : a .at + a .n - a .at ≡ a .n = omega arith in
     written-short (a .indentor .now) (a .mark) (bytesAt (a .store .now) (a .at, a .n)) _ (ap (λ (k : ℕ). take k (drop (a .at) (a .store .now))) z)
-        (c .before .before .before .before .indent-into .ensures) (not-true _ (c .if1 .taken))
-
-mark-text-requires : tie.Need-mark-text-requires
-mark-text-requires c κs = search needs
+        (c .before .before .before .before .indent-into .ensures .0) (not-true _ (c .if1 .taken))
 
 cast-t18 : tie.Need-cast-t18
 cast-t18 c =
-    let f = c .before .before .before .before .before .before .indent-into .ensures in
-    let e = not-false _ (c .before .before .if1 .left) in
-    omega (arith, f .done e .next-is, f .room e, c .before .before .before .before .before .before .before .before .before .before .before .before .pre .1 .1 .1)
+    let f = c .before .before .before .before .before .indent-into .ensures .0 in
+    let e = not-false _ (c .before .if1 .left) in
+    omega (arith, f .done e .next-is, f .room e, c .before .before .before .before .before .before .before .before .before .before .before .pre .1 .1 .1)
 
 same-length-2 : tie.Need-same-length-2
 same-length-2 c = search needs
 
 returns-2 : tie.Need-returns-2
 returns-2 c =
-    let a = c .before .before .before .before .before .before .before .before .before .before .before .before .args in
+    let a = c .before .before .before .before .before .before .before .before .before .before .before .args in
     let z : a .at + a .n - a .at ≡ a .n = omega arith in
-    written-fits (a .indentor .now) (a .mark) (bytesAt (a .store .now) (a .at, a .n)) _ (ap (λ (k : ℕ). take k (drop (a .at) (a .store .now))) z)
-        (c .before .before .before .before .before .before .before .before .before .before .before .before .pre .1 .0)
-        (c .before .before .before .before .before .before .indent-into .ensures) (not-false _ (c .before .before .if1 .left))
-        (c .before .mark-text .ensures)
+    let k = not-false _ (c .before .if1 .left) in
+    written-fits (a .indentor .now) (a .mark) (bytesAt (a .store .now) (a .at, a .n)) _ (ap (λ (j : ℕ). take j (drop (a .at) (a .store .now))) z)
+    (c .before .before .before .before .before .before .before .before .before .before .before .pre .1 .0)
+        (c .before .before .before .before .before .indent-into .ensures .0) k (c .before .before .before .before .before .indent-into .ensures .1 k)
 
 pub write-indented-spec : {M : Type 1} → statement M
 write-indented-spec =
@@ -69,7 +66,6 @@ write-indented-spec =
     indent-into-requires
     same-length
     returns
-    mark-text-requires
     cast-t18
     same-length-2
     returns-2)

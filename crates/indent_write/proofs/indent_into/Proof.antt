@@ -4,7 +4,8 @@ use Prim.Native.Nat.{_-_}
 use native.Mathlib.Omega.{arith}
 use lib.ListN.{length}
 use borrow.Author.Tests.{not-true, not-false}
-use Rattle.indent_write.proofs.Turns.{Putting, putting-none, putting-room, putting-same, putting-more, putting-short, putting-all}
+use Rattle.indent_write.proofs.Turns.{Putting, putting-none, putting-room, putting-same, putting-more, putting-short, putting-all, putting-mark}
+use Rattle.model.proofs.Lists.{clash}
 use borrow.Author.Needs.{needs}
 use Rattle.indent_write.proofs.indent_into.Statement.{statement}
 use Rattle.indent_write.proofs.indent_into.Tie as tie
@@ -28,11 +29,13 @@ same-length : tie.Need-same-length Inv-loop μ-loop
 same-length c = c .before .before .before .before .put-indented .kept .1 .1 .0 ∙ putting-same (c .before .before .before .before .before .before .before .before .loop .inv)
 
 returns : tie.Need-returns Inv-loop μ-loop
-returns c =
-    putting-short (c .before .before .before .before .before .before .before .before .loop .inv)
-        (c .before .before .before .before .before .before .before .before .before .before .before .before .pre .0)
-        (c .before .before .before .before .before .before .before .loop-test .taken)
-    (c .before .before .before .before .put-indented .ensures) (not-true _ (c .if1 .taken))
+returns c = (
+  putting-short (c .before .before .before .before .before .before .before .before .loop .inv)
+      (c .before .before .before .before .before .before .before .before .before .before .before .before .pre .0)
+      (c .before .before .before .before .before .before .before .loop-test .taken)
+      (c .before .before .before .before .put-indented .ensures) (not-true _ (c .if1 .taken)),
+  λ k. clash k (not-true _ (c .if1 .taken)),
+)
 
 mark-on-requires : tie.Need-mark-on-requires Inv-loop μ-loop
 mark-on-requires c κs = search needs
@@ -52,7 +55,10 @@ same-length-2 : tie.Need-same-length-2 Inv-loop μ-loop
 same-length-2 c = putting-same (c .before .loop .inv)
 
 returns-2 : tie.Need-returns-2 Inv-loop μ-loop
-returns-2 c = putting-all (c .before .loop .inv) (c .before .before .before .before .before .pre .0) (c .loop-test .left)
+returns-2 c = (
+  putting-all (c .before .loop .inv) (c .before .before .before .before .before .pre .0) (c .loop-test .left),
+  λ _. putting-mark (c .before .loop .inv) (c .loop-test .left),
+)
 
 pub indent-into-spec : {M : Type 1} → statement M
 indent-into-spec =

@@ -3,8 +3,8 @@ use Rattle.edit_scratch.proofs.Tables.{loaded-roomy}
 use Rattle.edit_room_above.proofs.Finishing.{formed-usable}
 use Rattle.edit_clear_range_steps.proofs.Range.{range-readable, range-ran}
 use borrow.Author.Needs.{needs}
-use Rattle.edit_clear_range_scratch.proofs.clear_range_on.Statement.{statement}
-use Rattle.edit_clear_range_scratch.proofs.clear_range_on.Tie as tie
+use Rattle.edit_clear_range_scratch.proofs.clear_range_by.Statement.{statement}
+use Rattle.edit_clear_range_scratch.proofs.clear_range_by.Tie as tie
 
 load-requires : tie.Need-load-requires
 load-requires c κs =
@@ -56,8 +56,8 @@ returns c =
     let finish = c .before .before .before .before .before .before .finish in
     (range-ran (start .pre .0) (start .pre .1 .0) (load .ensures) (clear-range .ensures) (finish .ensures .0), finish .ensures .1)
 
-pub clear-range-on-spec : {M : Type 1} → statement M
-clear-range-on-spec =
+pub clear-range-by-spec : {M : Type 1} → statement M
+clear-range-by-spec =
     tie.close
     (tie.spec
     load-requires

@@ -3,8 +3,8 @@ use native.Mathlib.Omega.{arith}
 use Rattle.memory_layout.specs.Layout.{SCRATCH-LEN, INDENT-PIECES-LEN, INDENT-STORE-LEN}
 use Rattle.memory.proofs.Desks.{zeros-length, zeros-at}
 use borrow.Author.Needs.{needs}
-use Rattle.indent.proofs.indent_tables.Statement.{statement}
-use Rattle.indent.proofs.indent_tables.Tie as tie
+use Rattle.indent.proofs.indent_scratch.Statement.{statement}
+use Rattle.indent.proofs.indent_scratch.Tie as tie
 
 array-borrow-prefix-t : tie.Need-array-borrow-prefix-t
 array-borrow-prefix-t c = search needs
@@ -49,8 +49,8 @@ same-length-3 c = search needs
 returns : tie.Need-returns
 returns c = search needs
 
-pub indent-tables-spec : {M : Type 1} → statement M
-indent-tables-spec =
+pub indent-scratch-spec : {M : Type 1} → statement M
+indent-scratch-spec =
     tie.close
     (tie.spec
     array-borrow-prefix-t

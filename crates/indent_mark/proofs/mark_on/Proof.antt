@@ -1,7 +1,7 @@
--- `indent_into::mark_on` meets its contract.
+-- `indent_text::mark_on` meets its contract.
 use borrow.Author.Tests.{eq-eqb, ne-eqb}
-use Rattle.indent_write.proofs.mark_on.Statement.{statement}
-use Rattle.indent_write.proofs.mark_on.Tie as tie
+use Rattle.indent_mark.proofs.mark_on.Statement.{statement}
+use Rattle.indent_mark.proofs.mark_on.Tie as tie
 
 returns : tie.Need-returns
 returns c = rw (eq-eqb _ _ (c .if1 .taken))
