@@ -116,7 +116,7 @@ pub fn insert_either(
     insert_anew(source, chunks, pieces, store, text, q, left, front, used)
 }
 
-// `append` and `prepend` past the test of the text: as `insert_with`, without a cut.
+// `append` and `prepend` past the test of the text: as `insert_either`, without a cut.
 pub fn whole_either(
     source: &[u8],
     chunks: &mut [u32],

@@ -110,7 +110,7 @@ pub fn insert_in_place(
     grown(l, row, text.len())
 }
 
-// The piece for the tail or the head: as `insert_on_top`, without a cut.
+// The piece for the tail or the head: as `insert_in_place`, without a cut.
 pub fn whole_in_place(
     source: &[u8],
     chunks: &mut [u32],

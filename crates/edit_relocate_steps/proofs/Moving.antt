@@ -1,4 +1,4 @@
--- `move_range` and `relocate_rows` leave what the model's steps leave.
+-- `move_range` and `relocate_steps` leave what the model's steps leave.
 use mathlib.Core.Path.{_≡_, refl, sym, ap, ap₂, _∙_, subst, fun-ext}
 use mathlib.Core.Bool.{Bool, true, false, cond}
 use mathlib.Core.List.{List, [], _∷_, _++_, map}
