@@ -120,11 +120,13 @@ pub const INDENT_BYTE: u32 = 2 * NEW_BYTE;
 pub const INDENT_STORE_LEN: usize = 3 * STORE_LEN;
 
 // Small tables, for a small desk: clearing them takes a tenth of the time.
-pub const SMALL_CHUNKS: usize = 63;
+pub const SMALL_CHUNKS: u32 = 63;
+
+pub const SMALL_ROWS: u32 = 1 + SMALL_CHUNKS;
 
 pub const SMALL_PIECES: usize = 64;
 
-pub const SMALL_CHUNKS_LEN: usize = (1 + SMALL_CHUNKS) * ROW;
+pub const SMALL_CHUNKS_LEN: usize = SMALL_ROWS as usize * ROW;
 
 pub const SMALL_PIECES_LEN: usize = SMALL_PIECES * PIECE_ROOM;
 

@@ -1,6 +1,6 @@
-//! `stack [LIMIT [SEED [COUNT]]]`: the most stack that the calls of each group
-//! used, on chosen desks and on random papers of COUNT calls. It fails where a call
-//! used more than LIMIT kB (1,000 bytes each), or did not answer as the oracle.
+//! `stack [SEED [COUNT]]`: the most stack that the calls of each group used, on
+//! chosen desks and on random papers of COUNT calls. It fails where a call used more
+//! than include/magic_string.h says of its kind, or did not answer as the oracle.
 
 mod chosen;
 mod measured;
@@ -15,13 +15,12 @@ use oracle::random::Random;
 fn main() -> ExitCode {
   let arguments: Vec<Option<u64>> =
     std::env::args().skip(1).map(|word| word.parse().ok()).collect();
-  let (limit, seed, count) = match arguments[..] {
-    [] => (128, 1, 20_000),
-    [Some(limit)] => (limit, 1, 20_000),
-    [Some(limit), Some(seed)] => (limit, seed, 20_000),
-    [Some(limit), Some(seed), Some(count)] => (limit, seed, count),
+  let (seed, count) = match arguments[..] {
+    [] => (1, 20_000),
+    [Some(seed)] => (seed, 20_000),
+    [Some(seed), Some(count)] => (seed, count),
     _ => {
-      eprintln!("usage: stack [LIMIT [SEED [COUNT]]]");
+      eprintln!("usage: stack [SEED [COUNT]]");
       return ExitCode::from(2);
     }
   };
@@ -38,21 +37,37 @@ fn main() -> ExitCode {
   }
 
   println!("bytes of stack at most, with the caller's frame:");
+  let limits = limits();
   let mut above = 0;
-  for group in GROUPS {
+  for (group, kind) in GROUPS {
     let most = core.most.entry(group).or_default();
     let call = if group == most.call { String::new() } else { format!(" ({})", most.call) };
-    let is_above = most.bytes as u64 > limit * 1_000 || most.calls == 0;
+    let is_above = most.bytes > limits[kind] * 1_000 || most.calls == 0;
     let mark = if is_above { ": TOO MUCH" } else { "" };
-    println!("{:>8}  {group}{call}, {} calls{mark}", most.bytes, most.calls);
+    let limit = limits[kind];
+    println!("{:>8}  {group}{call}, {} calls, up to {limit} kB{mark}", most.bytes, most.calls);
     above += is_above as u64;
   }
   if above > 0 {
-    println!("groups above {limit} kB, or without a call: {above}");
+    println!("groups above what the header says, or without a call: {above}");
     return ExitCode::FAILURE;
   }
-  println!("all within {limit} kB");
+  println!("all within what the header says");
   ExitCode::SUCCESS
+}
+
+/// What the header says of an indent, of other edits, and of the check and reports,
+/// in kB of 1,000 bytes.
+fn limits() -> [usize; 3] {
+  let header = include_str!("../../../include/magic_string.h");
+  let (_, said) = header.split_once("Its stack, measured:").expect("the header's sentence");
+  let (said, _) = said.split_once('.').expect("its end");
+  let words: Vec<&str> = said.split_whitespace().collect();
+  let figures: Vec<usize> = (words.windows(2))
+    .filter(|pair| pair[1].starts_with("kB"))
+    .map(|pair| pair[0].parse().expect("a number before kB"))
+    .collect();
+  figures.try_into().expect("three figures")
 }
 
 /// Random papers of one kind.

@@ -8,19 +8,28 @@ use oracle::Call;
 
 use crate::painted::Painted;
 
-/// The groups, in the order in which they are printed.
-pub const GROUPS: [&str; 10] = [
-  "open",
-  "well_formed",
-  "remove, reset",
-  "append_left, append_right, prepend_left, prepend_right, append, prepend",
-  "update_with",
-  "relocate",
-  "trim, trim_start, trim_end, trim_lines",
-  "indent_with",
-  "slice, to_string, last_line, get_indent_string",
-  "len, len_utf16, line_count, is_empty, has_changed, last_char, is_range_within_edited_chunk",
+/// The groups, in the order in which they are printed, each with its kind.
+pub const GROUPS: [(&str, usize); 10] = [
+  ("open", REPORT),
+  ("well_formed", REPORT),
+  ("remove, reset", EDIT),
+  ("append_left, append_right, prepend_left, prepend_right, append, prepend", EDIT),
+  ("update_with", EDIT),
+  ("relocate", EDIT),
+  ("trim, trim_start, trim_end, trim_lines", EDIT),
+  ("indent_with", INDENT),
+  ("slice, to_string, last_line, get_indent_string", REPORT),
+  (
+    "len, len_utf16, line_count, is_empty, has_changed, last_char, is_range_within_edited_chunk",
+    REPORT,
+  ),
 ];
+
+/// The kinds of which the header gives a figure, in its order: an indent, another
+/// edit, the check and a report.
+const INDENT: usize = 0;
+const EDIT: usize = 1;
+const REPORT: usize = 2;
 
 /// The most that a call of a group used, which call that was, and how many calls
 /// were measured.
@@ -43,8 +52,9 @@ impl<C: Core> Measured<C> {
   }
 
   fn note(&mut self, name: &str, bytes: usize) {
-    let of_group = |group: &&str| group.split(", ").any(|member| member == name);
-    let group = GROUPS.into_iter().find(of_group).unwrap_or_else(|| panic!("{name} has no group"));
+    let of_group = |(group, _): &(&str, usize)| group.split(", ").any(|member| member == name);
+    let (group, _) =
+      GROUPS.into_iter().find(of_group).unwrap_or_else(|| panic!("{name} has no group"));
     let most = self.most.entry(group).or_default();
     most.calls += 1;
     if bytes > most.bytes {
