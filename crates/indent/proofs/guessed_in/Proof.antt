@@ -19,8 +19,8 @@ put-indentor-requires c κs =
     let guess-indentor = c .before .before .guess-indentor in
     guess-room (start .args .source .now) (guess-indentor .result) (guess-indentor .ensures) (short-source (start .pre .0 .well-formed)) (start .args .out .now) (start .pre .1 .0)
 
-slice-reshare-prefix-indent-tables : tie.Need-slice-reshare-prefix-indent-tables
-slice-reshare-prefix-indent-tables c =
+slice-reshare-prefix-indent-scratch : tie.Need-slice-reshare-prefix-indent-scratch
+slice-reshare-prefix-indent-scratch c =
     let start = c .before .before .before .before .before .before .before .before .before .before .before .before .before .before .before in
     let guess-indentor = c .before .before .before .before .before .before .before .before .guess-indentor in
     let indentor-len = c .before .before .before .before .before .before .before .indentor-len in
@@ -74,7 +74,7 @@ guessed-in-spec =
     indentor-len-requires
     cast-n
     put-indentor-requires
-    slice-reshare-prefix-indent-tables
+    slice-reshare-prefix-indent-scratch
     slice-aggregate-indent-scratch
     indent-scratch-requires
     same-length
