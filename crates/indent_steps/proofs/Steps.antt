@@ -30,7 +30,7 @@ use Rattle.edit_scratch.proofs.Tables.{few-chunks}
 use Rattle.memory_texts.specs.Low.{RowsKept, BytesKept, TextLow, EntryLow}
 use Rattle.memory_texts.proofs.Low.{run-same, run-still, entries-same, entries-still}
 use Rattle.model_indent_closed.specs.Indent.{indented-chunks}
-use Rattle.model_indent_closed.proofs.Indent.{indented}
+use Rattle.model_indent_closed.specs.Indent.{indented}
 use Rattle.model_indent_closed.proofs.Walk.{indent-by-closed}
 use Rattle.model_indent_closed.proofs.Growth.{past-chunks, past-bytes}
 use Rattle.indent_head_tail.specs.Own.{Runs, OwnReady, OwnDone, Laid}

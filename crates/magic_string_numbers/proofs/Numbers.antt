@@ -5,13 +5,13 @@ use mathlib.Core.Bool.{true, true≢false}
 use mathlib.Core.List.{List, [], _∷_}
 use Rattle.model.specs.MagicString.{new}
 use Rattle.model.proofs.Lists.{bool-elim}
-use Rattle.model.specs.Call.{Edit, Report, change, report, on-desk, «open», edit-numbers, report-numbers, numbers-of}
+use Rattle.model.specs.Call.{edit-numbers, report-numbers}
 use Rattle.memory.specs.Layout.{magicStringOf}
 use Rattle.memory.specs.WellFormed.{limitsOf, Full, Taken}
-use Rattle.memory.specs.Calls.{Edited, Reported, Opened}
 use Rattle.model_preservation.specs.Refusals.{among}
 use Rattle.model_preservation.proofs.Refusals.{answer-listed}
 use Rattle.model_preservation.proofs.Numbers.{listed-behind, report-listed, opened-listed}
+use Rattle.magic_string_numbers.specs.Listed.{EditedListed, ReportedListed, OpenedNumberListed}
 
 -- a number that is 2 where P does not hold, and one of the others where it does
 either : {P : Type 0} (n : ℕ) (ns : List ℕ) → ((P → ⊥) → n ≡ 2) → (P → among n ns ≡ true) → among n (2 ∷ ns) ≡ true
@@ -19,18 +19,18 @@ either n ns two one =
     bool-elim (among n (2 ∷ ns)) (λ z. z)
     (λ z. let none = two (λ w. true≢false (sym (listed-behind n 2 ns (one w)) ∙ z)) in absurd (true≢false (sym (ap (λ (k : ℕ). among k (2 ∷ ns)) none) ∙ z)))
 
-pub edited-listed : {e : Edit} {source t p s t′ p′ s′ : List ℕ} {number : ℕ} → Edited e source t p s t′ p′ s′ number → among number (numbers-of (on-desk (change e))) ≡ true
-edited-listed {e} {source} {t} {p} {s} {number = n} x =
+pub edited-listed : EditedListed
+edited-listed e source t p s t′ p′ s′ n x =
     either n (edit-numbers e) (λ none. x .not-well-formed none .0)
     (λ (w : Taken source t p s).
     ap (λ (k : ℕ). among k (edit-numbers e)) (x .well-formed w .number-is) ∙ answer-listed (limitsOf t p s) e (magicStringOf source t p s) (w .well-formed .desk .formed))
 
-pub reported-listed : {q : Report} {source t p s out out′ : List ℕ} {number value : ℕ} → Reported q source t p s out out′ number value → among number (numbers-of (on-desk (report q))) ≡ true
-reported-listed {q} {source} {t} {p} {s} {number = n} x =
+pub reported-listed : ReportedListed
+reported-listed q source t p s out out′ n value x =
     either n (report-numbers q) (λ none. x .not-well-formed none .0)
     (λ (w : Taken source t p s). ap (λ (k : ℕ). among k (report-numbers q)) (x .well-formed w .number-is) ∙ report-listed q (magicStringOf source t p s))
 
-pub opened-number-listed : {source t p s t′ p′ s′ : List ℕ} {number : ℕ} → Opened source t p s t′ p′ s′ number → among number (numbers-of («open» source)) ≡ true
-opened-number-listed {source} {t} {p} {s} {number = n} x =
+pub opened-number-listed : OpenedNumberListed
+opened-number-listed source t p s t′ p′ s′ n x =
     either n (13 ∷ 1 ∷ []) (x .not-sized)
     (λ (w : Full t p s). ap (λ (k : ℕ). among k (13 ∷ 1 ∷ [])) (x .number-is w) ∙ opened-listed (limitsOf t p s) source (new []))

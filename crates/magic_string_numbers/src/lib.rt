@@ -1,1 +1,1 @@
-// The numbers that exported calls may give: laws, in proofs/.
+// The numbers that exported calls may give: statements in specs/, proofs in proofs/.

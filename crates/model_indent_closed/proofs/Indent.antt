@@ -8,9 +8,8 @@ use borrow.Author.Tests.{lt-ltb, le-ltb}
 use Rattle.utf8.specs.Chars.{chars}
 use Rattle.model.specs.Text.{Text}
 use Rattle.model.specs.Chunk.{Chunk, with-texts, start-of, span-text, first-half, second-half, prepend-intro, edit}
-use Rattle.model.specs.MagicString.{MagicString}
-use Rattle.model.specs.Indent.{Indented, indent-frag, Pieces, indent-pieces, excluded, Starts, line-starts}
-use Rattle.model_indent_closed.specs.Indent.{split-lines, IndentedChunks, indented-chunk, indented-chunks}
+use Rattle.model.specs.Indent.{Indented, indent-frag, excluded, Starts, line-starts}
+use Rattle.model_indent_closed.specs.Indent.{split-lines, indented-chunk}
 
 -- a line start inside the chunk, and one at its start
 pub split-lines-inside : (indentor : Text) (c : Chunk) (i : ℕ) (l : List ℕ) → start-of c < i
@@ -41,15 +40,3 @@ module _ (indentor : Text) (exclude : List ℕ) (source : Text) (mark : Bool) (c
       indented-chunk indentor exclude source mark c ≡ record { mark = r .mark; chunks = with-texts (edit (r .text) false) c ∷ [] }
   unfolding indented-chunk
   indented-replaced e x = rw (e, x, indented-chunk)
-
--- the desk that `indent_with` leaves, past its tests
-unfoldable pub indented : Text → List ℕ → MagicString → MagicString
-indented indentor exclude m =
-    let head : Pieces = indent-pieces indentor true (m .intro) in
-    let body : IndentedChunks = indented-chunks indentor exclude (m .source) (head .mark) (m .chunks) in
-    record {
-      source = m .source;
-      intro = head .pieces;
-      outro = indent-pieces indentor (body .mark) (m .outro) .pieces;
-      chunks = body .chunks;
-    }

@@ -29,8 +29,8 @@ use Rattle.model_closed_forms.proofs.Steps.{cover-proper}
 use Rattle.model_closed_forms.proofs.Found.{start-at, start-set, some-is}
 use Rattle.model_preservation.proofs.Lists.{of-either, all-key, sum-key}
 use Rattle.model_preservation.proofs.Indent.{chars-some}
-use Rattle.model_indent_closed.specs.Indent.{split-lines, IndentedChunks, indented-chunk, indented-chunks}
-use Rattle.model_indent_closed.proofs.Indent.{split-lines-inside, split-lines-at-start, indented}
+use Rattle.model_indent_closed.specs.Indent.{split-lines, IndentedChunks, indented-chunk, indented-chunks, indented}
+use Rattle.model_indent_closed.proofs.Indent.{split-lines-inside, split-lines-at-start}
 
 -- ── spans ──
 -- the same spans with other texts

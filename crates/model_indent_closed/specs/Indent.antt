@@ -8,7 +8,8 @@ use lib.Dec.{ltb}
 use Rattle.utf8.specs.Chars.{chars}
 use Rattle.model.specs.Text.{Text}
 use Rattle.model.specs.Chunk.{Chunk, with-texts, start-of, span-text, first-half, second-half, prepend-intro, edit}
-use Rattle.model.specs.Indent.{Indented, indent-frag, excluded, Starts, line-starts}
+use Rattle.model.specs.MagicString.{MagicString}
+use Rattle.model.specs.Indent.{Indented, indent-frag, Pieces, indent-pieces, excluded, Starts, line-starts}
 
 -- `prepend_right` of the indentor at each line start of a source chunk: the chunk is cut there, and the part that begins there has the indentor as its first intro piece
 abbrev pub split-lines : Text → Chunk → List ℕ → List Chunk
@@ -46,3 +47,15 @@ indented-chunks indentor exclude source mark [] = record { mark = mark; chunks =
 indented-chunks indentor exclude source mark (c ∷ cs) =
     let r : IndentedChunks = indented-chunk indentor exclude source mark c in
     then-chunks (r .chunks) (indented-chunks indentor exclude source (r .mark) cs)
+
+-- the desk that `indent_with` leaves, past its tests
+unfoldable pub indented : Text → List ℕ → MagicString → MagicString
+indented indentor exclude m =
+    let head : Pieces = indent-pieces indentor true (m .intro) in
+    let body : IndentedChunks = indented-chunks indentor exclude (m .source) (head .mark) (m .chunks) in
+    record {
+      source = m .source;
+      intro = head .pieces;
+      outro = indent-pieces indentor (body .mark) (m .outro) .pieces;
+      chunks = body .chunks;
+    }

@@ -30,6 +30,7 @@ use Rattle.model_preservation.proofs.Relocate.{relocate-keeps}
 use Rattle.model_preservation.proofs.Trim.{trim-start-keeps, trim-end-keeps, trim-keeps}
 use Rattle.model_preservation.proofs.Indent.{indent-with-keeps}
 use Rattle.model_preservation.proofs.IndentAccepted.{indent-with-accepted}
+use Rattle.model_preservation.specs.Results.{OpenedKeeps, PerformKeeps}
 
 -- ---- what 15, 1 and 3 leave
 
@@ -126,13 +127,13 @@ opened-cases k source m l P h i g =
     (λ v. g (record { formed = new-formed source v; limits = new-within k source (leb-true (length source) (k .most-source) a) l })))
 
 -- the limits must let a desk have its one chunk
-pub opened-keeps : (k : Limits) (source : Text) (m : MagicString) → 1 ≤ k .most-chunks → opened k source m .number ≡ 0 → WellFormed k (opened k source m .desk)
+pub opened-keeps : OpenedKeeps
 opened-keeps k source m l =
     opened-cases k source m l (λ r. r .number ≡ 0 → WellFormed k (r .desk)) (λ z. absurd (omega arith)) (λ z. absurd (omega arith)) (λ w _. w)
 
 -- ---- any call
 
-pub perform-keeps : (k : Limits) (c : Call) (m : MagicString) → 1 ≤ k .most-chunks → WellFormed k m → WellFormed k (perform k c m .desk)
+pub perform-keeps : PerformKeeps
 unfolding perform
 perform-keeps k («open» source) m l w = opened-cases k source m l (λ r. WellFormed k (r .desk)) w w (λ n. n)
 perform-keeps k (on-desk (change e)) m l w = run-keeps k e m w

@@ -15,6 +15,7 @@ use Rattle.model.specs.WellFormed.{Valid, ValidTexts, Formed}
 use Rattle.model.proofs.Lists.{neither}
 use Rattle.model_preservation.proofs.Lists.{of-cond}
 use Rattle.model_preservation.proofs.Spans.{Rearranged, same-spans, rearranged-covered, split-all, split-covered}
+use Rattle.model_preservation.specs.Results.{SplitAtKeeps}
 
 -- ---- one step behind the other
 
@@ -78,7 +79,7 @@ split-desk P p m h g = split-cases (λ r. P (r .desk)) p m h (λ _. h) g
 pub split-at-source : (p : ℕ) (m : MagicString) → split-at p m .desk .source ≡ m .source
 split-at-source p m = split-desk (λ n. n .source ≡ m .source) p m refl (λ _. refl)
 
-pub split-at-keeps : (p : ℕ) (m : MagicString) → Formed m → between (m .source) p ≡ true → Formed (split-at p m .desk)
+pub split-at-keeps : SplitAtKeeps
 split-at-keeps p m f b =
     split-desk Formed p m f
     (λ l. record {

@@ -21,6 +21,7 @@ use Rattle.model.specs.Call.{perform}
 use Rattle.model_preservation.proofs.Lists.{of-cond, of-either, of-guard}
 use Rattle.model_preservation.specs.Refusals.{among}
 use Rattle.model_preservation.proofs.Refusals.{answer-listed}
+use Rattle.model_preservation.specs.Results.{CallListed}
 
 -- ---- reports
 
@@ -100,7 +101,7 @@ listed-behind n k ns h = go (eqb n 0) (eqb n k) (any (eqb n) ns) h
     go false true c h = refl
     go false false c h = h
 
-pub call-listed : (k : Limits) (c : Call) (m : MagicString) → Formed m → among (perform k c m .shown .number) (numbers-of c) ≡ true
+pub call-listed : CallListed
 unfolding perform
 call-listed k («open» source) m f = listed-behind (opened k source m .number) 2 (13 ∷ 1 ∷ []) (opened-listed k source m)
 call-listed k (on-desk (change e)) m f = listed-behind (run k e m .number) 2 (edit-numbers e) (answer-listed k e m f)

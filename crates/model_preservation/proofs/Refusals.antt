@@ -27,6 +27,7 @@ use Rattle.model_preservation.proofs.Lists.{of-cond, of-guard, of-optio
 use Rattle.model_preservation.proofs.Desk.{split-cases}
 use Rattle.model_preservation.proofs.IndentAccepted.{indent-with-accepted}
 use Rattle.model_preservation.specs.Refusals.{among}
+use Rattle.model_preservation.specs.Results.{RefusalChangesNothing}
 
 -- ---- steps that give no other number
 
@@ -199,7 +200,7 @@ answer-listed k e m f =
     (λ n q. subst (λ (x : ℕ). among x (edit-numbers e) ≡ true) q (before-listed m e))
 
 -- a call that is refused with a number that leaves nothing leaves the desk as it was
-pub refusal-changes-nothing : (k : Limits) (e : Edit) (m : MagicString) → Formed m → may-change e (run k e m .number) ≡ false → run k e m .desk ≡ m
+pub refusal-changes-nothing : RefusalChangesNothing
 unfolding run judged
 refusal-changes-nothing k e m f =
     let P : Result → Type 0 = λ r. may-change e (r .number) ≡ false → r .desk ≡ m in

@@ -17,6 +17,7 @@ use Rattle.model.specs.Chunk as chunk
 use Rattle.model.specs.MagicString.{MagicString, chunk-fragments, fragments, to-string, len, output-len, has-changed, Scan, scan-last-line, unless-done, scan-chunks, last-line}
 use Rattle.model.proofs.Lists.{sum-append, concat-sum}
 use Rattle.model_preservation.proofs.Lists.{of-option}
+use Rattle.model_preservation.specs.Results.{last-line-of, LastLineIs}
 
 -- ---- lengths
 
@@ -83,10 +84,6 @@ behind-front [] t h = h
 behind-front (a ∷ s) t h = ap (behind-step (eqb a LF) (s ++ t)) (behind-front s t h) ∙ step-front (eqb a LF) s t (behind-last-line-feed s)
 
 -- ---- `last_line`
-
--- the text behind the last line feed, or the whole text if there is none
-unfoldable pub last-line-of : Text → Text
-last-line-of s = elim (behind-last-line-feed s) [ none ↦ s | some t ↦ t ]
 
 -- what a scan of a text, last byte to first, has gathered
 scanned : Text → Option Text → Scan
@@ -165,7 +162,7 @@ module _ (source : Text) where
       ∙ scan-then s (concat (chunk-fragments source (reverse cs))) (scan-chunks source cs) (λ e. scan-chunks-is cs s e) ∙ ap scan-of (sym (concat-chunk cs c line))
 
 -- the last line of the output
-pub last-line-is : (m : MagicString) → last-line m ≡ last-line-of (to-string m)
+pub last-line-is : LastLineIs
 unfolding last-line to-string
 last-line-is m =
     let cs : List Text = chunk-fragments (m .source) (m .chunks) in

@@ -14,7 +14,8 @@ use Rattle.memory_table.specs.declared.Row.{Row}
 use Rattle.memory_table.specs.Order.{Entry, entryOf, countOf, prevOf}
 use Rattle.model.specs.Text.{Text, sum, behind-last-line-feed}
 use Rattle.model.specs.MagicString.{last-line, to-string}
-use Rattle.model_preservation.proofs.Reports.{last-line-is, last-line-of, behind-back}
+use Rattle.model_preservation.specs.Results.{last-line-of}
+use Rattle.model_preservation.proofs.Reports.{last-line-is, behind-back}
 use Rattle.memory.specs.Layout.{magicStringOf}
 use Rattle.memory.specs.WellFormed.{WellFormed, EntryIn}
 use Rattle.memory_texts.specs.Texts.{SpanIn}

@@ -1,0 +1,18 @@
+-- "Either does the call or gives one of the table's numbers", of the exported calls on any memory: the statements, proved in proofs/Numbers.antt.
+use Prim.Native.Nat.{ℕ}
+use mathlib.Core.Path.{_≡_}
+use mathlib.Core.Bool.{true}
+use mathlib.Core.List.{List}
+use Rattle.model.specs.Call.{Edit, Report, change, report, on-desk, «open», numbers-of}
+use Rattle.memory.specs.Calls.{Edited, Reported, Opened}
+use Rattle.model_preservation.specs.Refusals.{among}
+
+abbrev pub EditedListed : Type 0
+EditedListed = (e : Edit) (source t p s t′ p′ s′ : List ℕ) (number : ℕ) → Edited e source t p s t′ p′ s′ number → among number (numbers-of (on-desk (change e))) ≡ true
+
+abbrev pub ReportedListed : Type 0
+ReportedListed = (q : Report) (source t p s out out′ : List ℕ) (number value : ℕ) → Reported q source t p s out out′ number value
+    → among number (numbers-of (on-desk (report q))) ≡ true
+
+abbrev pub OpenedNumberListed : Type 0
+OpenedNumberListed = (source t p s t′ p′ s′ : List ℕ) (number : ℕ) → Opened source t p s t′ p′ s′ number → among number (numbers-of («open» source)) ≡ true
