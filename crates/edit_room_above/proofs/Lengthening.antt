@@ -1,74 +1,19 @@
 -- The rows of a run with a text more: copied to the top with a row more, or left where they end there.
-use mathlib.Core.Path.{_≡_, refl, sym, ap, ap₂, _∙_, subst}
+use mathlib.Core.Path.{_≡_, refl, ap, ap₂, _∙_}
 use mathlib.Core.Bool.{true, false}
 use mathlib.Core.List.{List, [], _∷_, _++_}
-use Prim.Native.Nat.{ℕ, suc, _+_, _*_, _≤_, _<_}
+use Prim.Native.Nat.{ℕ, suc, _+_, _*_, _<_}
 use native.Mathlib.Omega.{arith}
-use native.Mathlib.Decide.{decLt}
-use lib.ListN.{length, getD, take, drop, length-append, length-drop, List·getD-append}
-use lib.Seq.{length-take-le, getD-take, getD-drop, getD-append-add}
+use lib.ListN.{length, getD, take, length-append, List·getD-append}
+use lib.Seq.{getD-append-add}
 use Rattle.memory.specs.Layout.{Place, pieceAt}
 use Rattle.memory_texts.specs.Over.{over}
-use Rattle.memory_texts.proofs.Over.{length-over, over-over, take-over, part-kept}
+use Rattle.memory_texts.proofs.Over.{length-over, over-over, take-over}
 use Rattle.memory_texts.proofs.Texts.{tabulate-ext, tabulate-cons}
 use Rattle.memory_texts.specs.Carry.{Pushed, RoomFor}
-use Rattle.edit_room_above.specs.Run.{rowWords, TopRoom, Lengthened}
-
--- ── words and places ──
-over-at : (d : List ℕ) (a : ℕ) (xs : List ℕ) (i : ℕ) → a ≤ length d → i < length xs → getD (over d a xs) (a + i) 0 ≡ getD xs i 0
-unfolding over
-over-at d a xs i h k =
-    let l : length (take a d) ≡ a = length-take-le a d h in
-    subst (λ (n : ℕ). getD (take a d ++ (xs ++ drop (a + length xs) d)) (n + i) 0 ≡ getD xs i 0) l
-    (getD-append-add (take a d) (xs ++ drop (a + length xs) d) i 0 ∙ List·getD-append xs (drop (a + length xs) d) 0 i k)
-
--- a place of a table that was written over from a row on
-place-over : (p xs : List ℕ) (row j : ℕ) → row * 2 ≤ length p → j * 2 + 1 < length xs
-    → pieceAt (over p (row * 2) xs) (row + j) ≡ (getD xs (j * 2) 0, getD xs (j * 2 + 1) 0)
-place-over p xs row j h k =
-    let e : (row + j) * 2 ≡ row * 2 + j * 2 = omega arith in
-    let f : (row + j) * 2 + 1 ≡ row * 2 + (j * 2 + 1) = omega arith in
-    ap₂ (λ (u v : ℕ). (u, v))
-    (ap (λ (n : ℕ). getD (over p (row * 2) xs) n 0) e ∙ over-at p (row * 2) xs (j * 2) h (omega arith))
-    (ap (λ (n : ℕ). getD (over p (row * 2) xs) n 0) f ∙ over-at p (row * 2) xs (j * 2 + 1) h k)
-
-words-length : (p : List ℕ) (x : Place) → (0 < x .1 → (x .0 + x .1) * 2 ≤ length p) → length (rowWords p x) ≡ x .1 * 2
-words-length p x h =
-    elim (decLt 0 (x .1)) [
-      | yes k ↦ length-take-le (x .1 * 2) (drop (x .0 * 2) p) (simp length-drop (omega (arith, h k)))
-      | no k ↦
-          let e : x .1 ≡ 0 = omega arith in
-          subst (λ (n : ℕ). length {A = ℕ} (take (n * 2) (drop (x .0 * 2) p)) ≡ n * 2) (sym e) refl
-    ]
-
-words-kept : (x : Place) (row : ℕ) (p p' : List ℕ) → (0 < x .1 → x .0 + x .1 ≤ row) → take (row * 2) p' ≡ take (row * 2) p → rowWords p' x ≡ rowWords p x
-words-kept x row p p' u e =
-    elim (decLt 0 (x .1)) [
-      | yes k ↦ part-kept (x .1 * 2) (x .0 * 2) (row * 2) p p' e (omega (arith, u k))
-      | no k ↦
-          let z : x .1 ≡ 0 = omega arith in
-          subst (λ (n : ℕ). take {A = ℕ} (n * 2) (drop (x .0 * 2) p') ≡ take (n * 2) (drop (x .0 * 2) p)) (sym z) refl
-    ]
-
-word-at : (p : List ℕ) (x : Place) (i : ℕ) → i < x .1 * 2 → getD (rowWords p x) i 0 ≡ getD p (x .0 * 2 + i) 0
-word-at p x i h = getD-take (x .1 * 2) (drop (x .0 * 2) p) i 0 h ∙ getD-drop (x .0 * 2) p i 0
-
--- place k of a run, by its words
-words-place : (p : List ℕ) (x : Place) (k : ℕ) → k < x .1
-    → _≡_ {A = Place} (getD (rowWords p x) (k * 2) 0, getD (rowWords p x) (k * 2 + 1) 0) (pieceAt p (x .0 + k))
-words-place p x k h =
-    let e : x .0 * 2 + k * 2 ≡ (x .0 + k) * 2 = omega arith in
-    let f : x .0 * 2 + (k * 2 + 1) ≡ (x .0 + k) * 2 + 1 = omega arith in
-    ap₂ (λ (u v : ℕ). (u, v))
-    (word-at p x (k * 2) (omega arith) ∙ ap (λ (n : ℕ). getD p n 0) e)
-    (word-at p x (k * 2 + 1) (omega arith) ∙ ap (λ (n : ℕ). getD p n 0) f)
-
--- a row that is not written names what it named
-row-kept : (p p' : List ℕ) (row j : ℕ) → take (row * 2) p' ≡ take (row * 2) p → j < row → pieceAt p' j ≡ pieceAt p j
-row-kept p p' row j e h = ap₂ (λ (u v : ℕ). (u, v)) (word (j * 2) (omega arith)) (word (j * 2 + 1) (omega arith))
-  where
-    word : (i : ℕ) → i < row * 2 → getD p' i 0 ≡ getD p i 0
-    word i g = sym (getD-take (row * 2) p' i 0 g) ∙ ap (λ (l : List ℕ). getD l i 0) e ∙ getD-take (row * 2) p i 0 g
+use Rattle.memory_copy.specs.Rows.{rowWords}
+use Rattle.memory_copy.proofs.Rows.{place-over, words-length, words-kept, words-place, row-kept}
+use Rattle.edit_room_above.specs.Run.{TopRoom, Lengthened}
 
 module _ (text : List ℕ) (x : Place) (row byte : ℕ) (p s : List ℕ) (room : TopRoom x text p s row byte) where
   abbrev new : List ℕ

@@ -1,5 +1,5 @@
 pub mod Passing
-pub mod Copying
+pub mod Room
 pub mod Lengthening
 pub mod Longer
 pub mod Finishing

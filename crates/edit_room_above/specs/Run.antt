@@ -3,13 +3,9 @@ use mathlib.Core.Path.{_≡_}
 use mathlib.Core.Bool.{Bool, true, false}
 use mathlib.Core.List.{List, [], _∷_, _++_}
 use Prim.Native.Nat.{ℕ, suc, _+_, _*_, _^_, _≤_, _<_}
-use lib.ListN.{length, take, drop}
+use lib.ListN.{length, take}
 use Rattle.memory.specs.Layout.{Place, pieceAt, tabulate}
 use Rattle.memory_texts.specs.Over.{over}
-
--- the words of a run's rows
-abbrev pub rowWords : List ℕ → Place → List ℕ
-rowWords p x = take (x .1 * 2) (drop (x .0 * 2) p)
 
 -- the places of a run's texts
 abbrev pub placesOf : List ℕ → Place → List Place

@@ -8,12 +8,11 @@ ghost use Rattle.memory_layout.specs.Layout.{CHUNKS-LEAST};
 ghost use Rattle.memory_table.specs.Order.{entryOf};
 ghost use Rattle.model.specs.Limits.{within};
 ghost use Rattle.memory.specs.Layout.{pieceAt, magicStringOf};
-ghost use Rattle.memory_texts.specs.Over.{over};
 ghost use Rattle.memory.specs.WellFormed.{limitsOf, Sized, RunIn, EntryIn, Readable};
 ghost use Rattle.memory_used.specs.Above.{Above};
 ghost use Rattle.edit_rebuild.specs.Rebuilt.{Finished};
 ghost use Rattle.edit_room_above.specs.Live.{LiveIn, TopRow, RunLive, EntryLive, Usable, Small, Room};
-ghost use Rattle.edit_room_above.specs.Run.{rowWords, TopRoom, Lengthened};
+ghost use Rattle.edit_room_above.specs.Run.{TopRoom, Lengthened};
 use memory_used::Outcome;
 use memory_used::Used;
 
@@ -175,22 +174,6 @@ pub fn has_room(l: Used, n: u32, len: usize, ct: usize, cp: usize, cs: usize) ->
     true
 }
 
-// The rows of a run, copied to rows above it.
-fn copy_rows(p: &mut [u32], at: u32, n: u32, to: usize)
-    requires { ⌜ (0 < n → at + n ≤ to) ⌝ }
-    requires { ⌜ (to + n) * 2 ≤ length (now p) ⌝ }
-    ensures { λ _. ⌜ now (p .exit) ≡ over (now (p .entry)) (to * 2) (rowWords (now (p .entry)) (at, n)) ⌝ }
-{
-    let from = at as usize * memory_layout::PIECE;
-    let count = n as usize * memory_layout::PIECE;
-    let start = to * memory_layout::PIECE;
-    let mut k = 0;
-    while k < count {
-        p[start + k] = p[from + k];
-        k += 1;
-    }
-}
-
 // Whether a text goes behind a run that ends at the row: then no row of it needs to be copied.
 fn ends_at(front: bool, at: u32, n: u32, row: usize) -> bool
     ensures { λ r. ⌜ (r ≡ true → (front ≡ false) × (at + n ≡ row)) ⌝ }
@@ -222,10 +205,10 @@ pub fn lengthen(
     }
     if front {
         memory_copy::push_piece(p, s, text, byte, row);
-        copy_rows(p, at, n, row + 1);
+        memory_copy::copy_rows(p, at, n, row + 1);
         return row;
     }
-    copy_rows(p, at, n, row);
+    memory_copy::copy_rows(p, at, n, row);
     memory_copy::push_piece(p, s, text, byte, row + n as usize);
     row
 }

@@ -16,8 +16,7 @@ use Rattle.memory_texts.proofs.Texts.{tabulate-ext, tabulate-cons, run-tabulate
 use Rattle.memory_used.specs.Below.{Below}
 use Rattle.memory_list.specs.Split.{RowSet}
 use Rattle.memory_texts.proofs.Low.{rows-same}
-use Rattle.trim_run.specs.Run.{Copied}
-use Rattle.trim_run.proofs.Run.{pair}
+use Rattle.memory_copy.proofs.Rows.{Copied, pair}
 use Rattle.memory.proofs.Desks.{no-run}
 use Rattle.indent_cuts.specs.Splice.{withIntro, Rewritten}
 use Rattle.indent_cuts.proofs.Splice.{rewritten-set}

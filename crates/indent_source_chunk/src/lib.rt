@@ -15,7 +15,7 @@ fn prefix_run(p: &mut [u32], at: u32, n: u32, top: u32)
 {
     let r = memory_table::get_piece(p, memory_layout::NEW_ROW);
     memory_table::put_piece(p, top, r);
-    trim_run::copy_rows(p, at, n, top + 1);
+    memory_copy::copy_rows(p, at, n, top as usize + 1);
 }
 
 // Row i begins with the indentor: alone, or in front of its intro, which is copied to row top. Returns the row behind those in use.

@@ -11,9 +11,9 @@ use Rattle.memory_table.specs.Table.{rowAt}
 use Rattle.memory_table.specs.Order.{entryAt}
 use Rattle.model.proofs.Lists.{clash}
 use Rattle.memory.specs.Layout.{bytesAt, pieceAt, runOf}
-use Rattle.memory_texts.proofs.Texts.{run-piece}
+use Rattle.memory.proofs.Desks.{tabulate-all}
+use Rattle.memory_texts.proofs.Texts.{run-piece, run-tabulate}
 use Rattle.memory_list.specs.Insert.{runsOf}
-use Rattle.trim_run.proofs.Run.{text-valid}
 use Rattle.indent_head_tail.specs.Run.{RunReady, texts}
 use Rattle.indent_head_tail.proofs.Run.{running-none, running-room, running-short, running-more, run-short, run-done}
 use Rattle.indent_head_tail.specs.Own.{side, OwnReady, Laid}
@@ -43,7 +43,7 @@ module _ {outro : Bool} {indentor pieces store : List ℕ} {Short : Type 0} {Nex
 
   module _ (g : at .i < at .n) where
     valid : utf8 (bytesAt store (pieceAt pieces (at .row + at .i))) ≡ true
-    valid = text-valid pieces store (at .row) (at .n) (at .i) (ready .valid) g
+    valid = tabulate-all (λ k. bytesAt store (pieceAt pieces (at .row + k))) (at .n) (rw run-tabulate at (ready .valid)) (at .i) g
 
     pub run-text-ready : PieceReady pieces store p s at
     run-text-ready =

@@ -1,8 +1,12 @@
-// Texts put into other tables: one text, a piece list.
-ghost use Prim.Native.Nat.{_+_};
+// Texts put into other tables: one text, a piece list. And the rows of a piece list copied in their table.
+ghost use mathlib.Core.Path.{_≡_};
+ghost use Prim.Native.Nat.{_+_, _*_, _≤_, _<_};
+ghost use lib.ListN.{length};
 ghost use Rattle.memory.specs.Layout.{runOf};
 ghost use Rattle.memory.specs.WellFormed.{RunIn};
+ghost use Rattle.memory_texts.specs.Over.{over};
 ghost use Rattle.memory_texts.specs.Carry.{Pushed, RoomFor, Carried, RoomOf};
+ghost use Rattle.memory_copy.specs.Rows.{rowWords};
 
 // A byte of the store and a row of the piece table: from where on texts are put.
 pub struct Places {
@@ -57,5 +61,21 @@ pub fn copy_run(
     Places {
         byte,
         row: row + count,
+    }
+}
+
+// The rows of a run, copied to rows above it. Their texts stay where they are.
+pub fn copy_rows(p: &mut [u32], at: u32, n: u32, to: usize)
+    requires { ⌜ (0 < n → at + n ≤ to) ⌝ }
+    requires { ⌜ (to + n) * 2 ≤ length (now p) ⌝ }
+    ensures { λ _. ⌜ now (p .exit) ≡ over (now (p .entry)) (to * 2) (rowWords (now (p .entry)) (at, n)) ⌝ }
+{
+    let from = at as usize * memory_layout::PIECE;
+    let count = n as usize * memory_layout::PIECE;
+    let start = to * memory_layout::PIECE;
+    let mut k = 0;
+    while k < count {
+        p[start + k] = p[from + k];
+        k += 1;
     }
 }

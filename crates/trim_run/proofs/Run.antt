@@ -20,11 +20,12 @@ use Rattle.memory.specs.WellFormed.{RunIn}
 use Rattle.memory.proofs.Desks.{no-run}
 use Rattle.memory_texts.proofs.Texts.{tabulate-ext, tabulate-cons, run-tabulate}
 use Rattle.memory_used.specs.Below.{Below}
+use Rattle.memory_copy.proofs.Rows.{Copied, pair}
 use Rattle.trim_text.specs.Sides.{trim-text, blank, PlaceTrimmed}
 use Rattle.model.proofs.Lists.{tests-append as all-append}
 use Rattle.trim_run.specs.Deque.{trim-deque}
 use Rattle.trim_run.proofs.Deque.{deque-front, deque-back}
-use Rattle.trim_run.specs.Run.{textAt, RunReady, BlankFront, BlankBack, RowRoom, Copied, Within, PutTrimmed, RunTrimmed}
+use Rattle.trim_run.specs.Run.{textAt, RunReady, BlankFront, BlankBack, RowRoom, Within, PutTrimmed, RunTrimmed}
 
 -- ---- runs in parts
 
@@ -136,27 +137,6 @@ back-stop pattern p s at n k b h =
           let q : all (blank pattern) (runOf p s (at, n)) ≡ true = rw (x, y) at (rw z at (b .blanks)) in
           let w : _≡_ {A = ℕ} 0 1 = cc in absurd (omega arith)
     ]
-
--- ---- rows copied
-
-pub copied-none : (p : List ℕ) (at top : ℕ) → Copied p p at 0 top
-copied-none p at top = record { kept = record { len = refl; rows = λ j h. refl }; copies = λ j h. absurd (omega arith) }
-
-pub pair : {q r : Piece} → q ≡ r → _≡_ {A = Place} (q .at, q .n) (r .at, r .n)
-pair e = ap (λ (x : Piece). (x .at, x .n)) e
-
-pub copied-more : (p p1 p2 : List ℕ) (at k top : ℕ) (r : Piece) → at + k < top → Copied p p1 at k top → r ≡ rows.pieceAt p1 (at + k) → rows.PutPiece p1 p2 (top + k) r → length p2 ≡ length p1
-    → Copied p p2 at (k + 1) top
-copied-more p p1 p2 at k top r b c e w l =
-    record {
-      kept = record { len = l ∙ c .kept .len; rows = λ j h. pair (w .off j (λ q. omega arith)) ∙ c .kept .rows j h };
-      copies =
-          λ j h.
-          elim (ℕ-discrete j k) [
-            | yes q ↦ rw q (pair (w .here) ∙ sym (pair (sym e)) ∙ c .kept .rows (at + k) b)
-            | no q ↦ pair (w .off (top + j) (λ x. q (omega arith))) ∙ c .copies j (omega arith)
-          ];
-    }
 
 -- ---- one piece trimmed
 

@@ -44,10 +44,6 @@ pub record RowRoom (p s : List ℕ) (at n top : ℕ) : Type 0 where
   pub narrow : length p ≤ 4294967296
   pub narrow-store : length s < 2 ^ 32
 
-pub record Copied (p p' : List ℕ) (at n top : ℕ) : Type 0 where
-  pub kept : RowsKept top p p'
-  pub copies : (j : ℕ) → j < n → pieceAt p' (top + j) ≡ pieceAt p (at + j)
-
 -- a place that is a part of another
 pub record Within (a r : Place) : Type 0 where
   pub first : r .0 ≤ a .0

@@ -1,12 +1,11 @@
 // trim.rs on a piece list: `trim_deque_start` and `trim_deque_end`. What is left of the list is written as a new run of rows, behind those that are in use.
 ghost use mathlib.Core.Path.{_≡_};
 ghost use mathlib.Core.Bool.{false};
-ghost use Prim.Native.Nat.{_+_, _*_, _≤_, _<_};
-ghost use lib.ListN.{length};
+ghost use Prim.Native.Nat.{_<_};
 ghost use Rattle.model.specs.Text.{all};
 ghost use Rattle.memory.specs.Layout.{runOf};
 ghost use Rattle.trim_text.specs.Sides.{blank};
-ghost use Rattle.trim_run.specs.Run.{RunReady, BlankFront, BlankBack, RowRoom, Copied, PutTrimmed, RunTrimmed};
+ghost use Rattle.trim_run.specs.Run.{RunReady, BlankFront, BlankBack, RowRoom, PutTrimmed, RunTrimmed};
 use memory_table::Piece;
 
 // How many pieces at the front are blank.
@@ -50,20 +49,7 @@ pub fn is_blank(p: &[u32], s: &[u8], at: u32, n: u32, pattern: u32) -> bool
     blank_front(p, s, at, n, pattern) == n
 }
 
-// The rows at .. at + n - 1, copied to row top.
-pub fn copy_rows(p: &mut [u32], at: u32, n: u32, top: u32)
-    requires { ⌜ (at + n ≤ top) × ((top + n) * 2 ≤ length (now p)) × (length (now p) ≤ 4294967296) ⌝ }
-    ensures { λ _. ⌜ Copied (now (p .entry)) (now (p .exit)) at n top ⌝ }
-{
-    let mut k = 0;
-    while k < n {
-        let r = memory_table::get_piece(p, at + k);
-        memory_table::put_piece(p, top + k, r);
-        k += 1;
-    }
-}
-
-// The same with piece k trimmed: its row names a part of the same bytes.
+// The rows at .. at + n - 1, copied to row top, with piece k trimmed: its row names a part of the same bytes.
 fn put_trimmed(
     p: &mut [u32],
     s: &[u8],
@@ -81,7 +67,7 @@ fn put_trimmed(
 {
     let old = memory_table::get_piece(p, at + k);
     let new = trim_text::trim_place(s, old, front, pattern);
-    copy_rows(p, at, n, top);
+    memory_copy::copy_rows(p, at, n, top as usize);
     memory_table::put_piece(p, top + k, new);
 }
 

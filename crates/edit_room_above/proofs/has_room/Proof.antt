@@ -1,5 +1,5 @@
 use native.Mathlib.Omega.{arith}
-use Rattle.edit_room_above.proofs.Copying.{refuses, accepts}
+use Rattle.edit_room_above.proofs.Room.{refuses, accepts}
 use borrow.Author.Needs.{needs}
 use Rattle.edit_room_above.proofs.has_room.Statement.{statement}
 use Rattle.edit_room_above.proofs.has_room.Tie as tie

@@ -1,3 +1,6 @@
+use Prim.Native.Nat.{_+_}
+use native.Mathlib.Omega.{arith}
+use Rattle.memory_copy.proofs.Rows.{rows-copied}
 use Rattle.indent_source_chunk.proofs.Begin.{prefixed}
 use borrow.Author.Needs.{needs}
 use Rattle.indent_source_chunk.proofs.prefix_run.Statement.{statement}
@@ -13,19 +16,25 @@ add-copy-rows : tie.Need-add-copy-rows
 add-copy-rows c = search needs
 
 copy-rows-requires : tie.Need-copy-rows-requires
-copy-rows-requires c κs = search needs
+copy-rows-requires c κs =
+    let start = c .before .before .before .before .before .before .before .before in
+    (λ _. omega (arith, start .pre .below), omega (arith, start .pre .room, c .before .before .before .put-piece .kept .0))
 
 same-length : tie.Need-same-length
 same-length c = search needs
 
 returns : tie.Need-returns
 returns c =
-    let a = c .before .before .before .before .before .before .before .before .before .before .before .args in
-    prefixed (a .p .now) (c .before .before .before .before .before .before .put-piece .last .0) (c .before .before .copy-rows .last .0) (a .at) (a .n)
-        (a .top) (c .before .before .before .before .before .before .before .before .get-piece .result)
-        (c .before .before .before .before .before .before .before .before .before .before .before .pre)
-        (c .before .before .before .before .before .before .before .before .get-piece .ensures)
-    (c .before .before .before .before .before .before .put-piece .ensures) (c .before .before .before .before .before .before .put-piece .kept .0) (c .before .before .copy-rows .ensures)
+    let start = c .before .before .before .before .before .before .before .before .before .before .before in
+    let get-piece = c .before .before .before .before .before .before .before .before .get-piece in
+    let put-piece = c .before .before .before .before .before .before .put-piece in
+    let copy-rows = c .before .before .copy-rows in
+    let a = start .args in
+    let copied =
+        rows-copied (put-piece .last .0) (copy-rows .last .0) (a .at) (a .n) (a .top + 1) (omega (arith, start .pre .below))
+        (omega (arith, start .pre .room, put-piece .kept .0)) (copy-rows .ensures) in
+    prefixed (a .p .now) (put-piece .last .0) (copy-rows .last .0) (a .at) (a .n) (a .top) (get-piece .result) (start .pre)
+    (get-piece .ensures) (put-piece .ensures) (put-piece .kept .0) copied
 
 pub prefix-run-spec : {M : Type 1} → statement M
 prefix-run-spec =

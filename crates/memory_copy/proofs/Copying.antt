@@ -1,6 +1,5 @@
--- Rows copied in one table, word by word; and what `has_room` decides.
+-- Rows copied in one table, word by word: the loop.
 use mathlib.Core.Path.{_≡_, refl, sym, ap, ap₂, _∙_}
-use mathlib.Core.Bool.{true, false}
 use mathlib.Core.List.{List, [], append-assoc}
 use Prim.Native.Nat.{ℕ, _+_, _*_, _≤_, _<_}
 use native.Mathlib.Omega.{arith}
@@ -8,9 +7,7 @@ use lib.ListN.{length, getD, take, drop, set, length-set, length-take, length-dr
 use lib.Seq.{sets, sets-eq, length-take-le, getD-take, getD-drop, take-set-le}
 use Rattle.memory_table.proofs.Words.{sets-step}
 use Rattle.memory_texts.specs.Over.{over}
-use Rattle.memory_used.specs.declared.Used.{Used}
-use Rattle.edit_room_above.specs.Live.{Room}
-use Rattle.edit_room_above.specs.Run.{rowWords}
+use Rattle.memory_copy.specs.Rows.{rowWords}
 
 -- k of m words are copied from a to b
 pub record Copying (p₀ p : List ℕ) (a b m k : ℕ) : Type 0 where
@@ -53,10 +50,3 @@ pub copy-end : (p₀ p : List ℕ) (at n to a m b k : ℕ) → a ≡ at * 2 → 
     → p ≡ over p₀ (to * 2) (rowWords p₀ (at, n))
 copy-end p₀ p at n to a m b k ea em eb r g c =
     copied p₀ p a b m k (omega arith) g c ∙ ap₂ (λ (x : ℕ) (l : List ℕ). over p₀ x l) eb (ap₂ (λ (x y : ℕ). take x (drop y p₀)) em ea)
-
--- ── room ──
-pub refuses : {ct cp cs : ℕ} (l : Used) (n len : ℕ) → (Room ct cp cs l n len → ⊥) → (false ≡ true → Room ct cp cs l n len) × (false ≡ false → Room ct cp cs l n len → ⊥)
-refuses l n len h = (λ e. let z : _≡_ {A = ℕ} 0 1 = cc in absurd (omega arith), λ _. h)
-
-pub accepts : {ct cp cs : ℕ} (l : Used) (n len : ℕ) → Room ct cp cs l n len → (true ≡ true → Room ct cp cs l n len) × (true ≡ false → Room ct cp cs l n len → ⊥)
-accepts l n len h = (λ _. h, λ e. let z : _≡_ {A = ℕ} 0 1 = cc in absurd (omega arith))

@@ -1,10 +1,10 @@
 use mathlib.Core.Path.{_≡_, refl}
 use Prim.Native.Nat.{_*_, _-_}
 use native.Mathlib.Omega.{arith}
-use Rattle.edit_room_above.proofs.Copying.{Copying, copy-start, copy-turn, copy-end}
+use Rattle.memory_copy.proofs.Copying.{Copying, copy-start, copy-turn, copy-end}
 use borrow.Author.Needs.{needs}
-use Rattle.edit_room_above.proofs.copy_rows.Statement.{statement}
-use Rattle.edit_room_above.proofs.copy_rows.Tie as tie
+use Rattle.memory_copy.proofs.copy_rows.Statement.{statement}
+use Rattle.memory_copy.proofs.copy_rows.Tie as tie
 
 abbrev Inv-loop : tie.InvT-loop
 Inv-loop p₀ at n to from count start k₀ p k = (from ≡ at * 2) × (count ≡ n * 2) × (start ≡ to * 2) × Copying p₀ p from start count k
