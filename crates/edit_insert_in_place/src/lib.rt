@@ -37,12 +37,12 @@ fn add_in_place(
         (now (chunks .exit)) (now (pieces .exit)) (now (store .exit)) i above ⌝ }
 {
     let r = memory_table::get_row(chunks, i);
-    let run = edit_insert_side::run_of(r, outro);
+    let run = memory_table::side(r, outro);
     let first = edit_room_above::lengthen(pieces, store, text, front, run.at, run.n, row, byte);
     memory_table::put_row(
         chunks,
         i,
-        edit_insert_side::with_run(r, outro, first as u32, run.n + 1),
+        memory_table::with_side(r, outro, first as u32, run.n + 1),
     );
     first + run.n as usize + 1
 }

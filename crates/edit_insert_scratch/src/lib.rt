@@ -34,12 +34,12 @@ fn add_piece(
     ensures { λ _. ⌜ PieceAdded outro front (now (text .entry)) (now (pieces .entry)) (now (store .entry)) (now (t .entry)) (now (t .exit)) (now (p .exit)) (now (s .exit)) i ⌝ }
 {
     let r = memory_table::get_row(t, i);
-    let run = edit_insert_side::run_of(r, outro);
+    let run = memory_table::side(r, outro);
     let first = edit_room_above::lengthen(p, s, text, front, run.at, run.n, memory_layout::PIECE_ROWS, memory_layout::STORE_LEN);
     memory_table::put_row(
         t,
         i,
-        edit_insert_side::with_run(r, outro, first as u32, run.n + 1),
+        memory_table::with_side(r, outro, first as u32, run.n + 1),
     );
 }
 

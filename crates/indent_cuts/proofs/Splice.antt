@@ -1,25 +1,35 @@
 -- Laws of what `Splice` in specs/ defines.
 use mathlib.Core.Path.{_≡_, refl, sym, ap, ap₂, _∙_, subst}
+use mathlib.Core.Bool.{false}
 use mathlib.Core.List.{List, [], _∷_, _++_, map, append-assoc, map-append}
 use Prim.Native.Nat.{ℕ, _+_, _≤_, _<_}
 use native.Mathlib.Omega.{arith}
 use lib.ListN.{length, length-append}
+use Rattle.memory_layout.specs.Layout.{PIECE-ROWS}
 use Rattle.memory_table.specs.declared.Row.{Row}
 use Rattle.memory_table.specs.Ring.{Each, Not}
 use Rattle.memory_table.proofs.Ring.{each-map, each-both, map-same}
 use Rattle.memory_table.specs.Table.{rowAt, Put}
 use Rattle.memory_table.specs.Order.{Entry, entryOf, entryAt, order, countOf, Linked}
+use Rattle.memory_table.specs.Sides.{with-side}
 use Rattle.memory_table.proofs.Order.{inside-at, others, ranges}
+use Rattle.memory.specs.Layout.{Place}
 use Rattle.memory_list.specs.Insert.{Placed, runsOf}
 use Rattle.memory_list.specs.Split.{first, RowSet, SplitRow}
 use Rattle.memory_list.proofs.Split.{row-set}
-use Rattle.indent_cuts.specs.Splice.{begun, Rewritten, Spliced, CutPart}
+use Rattle.indent_cuts.specs.Splice.{withIntro, begun, Rewritten, Spliced, CutPart}
 
 -- written in its place
 pub rewritten-set : {t t' : List ℕ} {i : ℕ} {r q : Row} {e : Entry} → Linked t → Placed t i → r ≡ rowAt t i → Rewritten r q e → Put t t' i q → length t' ≡ length t → RowSet t t' i e
 rewritten-set {t} {t'} {i} {r} {q} l w er c u m =
     subst (RowSet t t' i) (c .entry-is)
     (row-set t t' i q l w u (c .next ∙ ap (λ (x : Row). x .next) er) (c .prev ∙ ap (λ (x : Row). x .prev) er) m)
+
+-- with another intro
+pub intro-set : {t t' : List ℕ} {i : ℕ} {r q : Row} (run : Place) → Linked t → Placed t i → r ≡ rowAt t i → q ≡ with-side false run r → Put t t' i q → length t' ≡ length t
+    → RowSet t t' i (withIntro run (entryAt t i))
+intro-set {t} {t'} {i} {r} {q} run l w er e =
+    rewritten-set l w er (subst (λ (x : Row). Rewritten r x (withIntro run (entryAt t i))) (sym e) (record { entry-is = ap (λ (x : Row). withIntro run (entryOf x)) er; next = refl; prev = refl }))
 
 -- ---- the other rows
 
@@ -94,7 +104,7 @@ cut-part {t} {t1} {t2} {i} {n} {q} l w en d m r k =
 
 -- the writes that cut it
 pub cut-made : {t t1 t2 : List ℕ} {i q : ℕ} {z r x : Row} → Linked t → Placed t i → z ≡ rowAt t 0 → SplitRow t t1 i q → length t1 ≡ length t →
-    r ≡ rowAt t1 (z .start + 1) → Rewritten r x (begun (entryOf r))
+    r ≡ rowAt t1 (z .start + 1) → x ≡ with-side false (PIECE-ROWS, 1) r
     → Put t1 t2 (z .start + 1) x → length t2 ≡ length t1 → CutPart t t2 i (z .start + 1) q
 cut-made {t} {t1} {t2} {i} {q} {z} {r} {x} l w ez d m er c u k =
     let en : z .start + 1 ≡ countOf t + 1 = ap (λ (y : Row). y .start + 1) ez in
@@ -104,7 +114,7 @@ cut-made {t} {t1} {t2} {i} {q} {z} {r} {x} l w ez d m er c u k =
       bs = w .bs;
       place = d .order-is (w .us) (w .bs) (w .place) ∙ ap (λ (y : ℕ). w .us ++ i ∷ y ∷ w .bs) (sym en) ∙ sym (append-assoc (w .us) (i ∷ []) ((z .start + 1) ∷ w .bs));
     } in
-    cut-part l w en d m (rewritten-set (d .linked) p er (subst (λ (y : Entry). Rewritten r x (begun y)) (ap entryOf er) c) u k) k
+    cut-part l w en d m (intro-set (PIECE-ROWS, 1) (d .linked) p er c u k) k
 
 -- the new row stands in the list
 pub cut-placed : {t t' : List ℕ} {i n q : ℕ} → CutPart t t' i n q → Placed t i → Placed t' n

@@ -5,21 +5,10 @@ ghost use Prim.Native.Nat.{_+_, _*_, _≤_, _<_};
 ghost use lib.Dec.{leb};
 ghost use lib.ListN.{length};
 ghost use Rattle.memory_layout.specs.Layout.{ROW, CHUNKS};
-ghost use Rattle.memory_table.specs.Order.{Linked, entryOf, countOf};
+ghost use Rattle.memory_table.specs.Order.{Linked, countOf};
 ghost use Rattle.memory_list.specs.Insert.{Placed};
-ghost use Rattle.indent_cuts.specs.Splice.{withIntro, Rewritten, CutPart};
+ghost use Rattle.indent_cuts.specs.Splice.{CutPart};
 ghost use Rattle.indent_cuts.specs.Lines.{LinesReady, LinesDone};
-use memory_table::Row;
-
-// The row with another intro.
-pub fn with_intro(r: Row, at: u32, n: u32) -> Row
-    ensures { λ q. ⌜ Rewritten r q (withIntro (at, n) (entryOf r)) ⌝ }
-{
-    let mut q = r;
-    q.intro_at = at;
-    q.intro_n = n;
-    q
-}
 
 // Row i cut at q: the new row begins with the indentor. Returns its number.
 pub fn cut_part(t: &mut [u32], i: u32, q: u32) -> u32
@@ -32,7 +21,11 @@ pub fn cut_part(t: &mut [u32], i: u32, q: u32) -> u32
     let n = z.start + 1;
     memory_list::split_row(t, i, q);
     let r = memory_table::get_row(t, n);
-    memory_table::put_row(t, n, with_intro(r, memory_layout::NEW_ROW, 1));
+    memory_table::put_row(
+        t,
+        n,
+        memory_table::with_side(r, false, memory_layout::NEW_ROW, 1),
+    );
     n
 }
 

@@ -1,5 +1,5 @@
 -- Laws of what `Own` in specs/ defines.
-use mathlib.Core.Path.{_≡_, sym, ap, _∙_, subst}
+use mathlib.Core.Path.{_≡_, refl, sym, ap, _∙_, subst}
 use mathlib.Core.Bool.{Bool, true, false}
 use mathlib.Core.List.{List, [], _∷_, _++_, append-nil}
 use Prim.Native.Nat.{ℕ, _+_, _≤_, _<_}
@@ -8,8 +8,9 @@ use native.Mathlib.Nat.{add-zero}
 use lib.ListN.{length, take}
 use Rattle.memory_layout.specs.Layout.{PIECE-ROWS, STORE-LEN}
 use Rattle.utf8.specs.Chars.{concat}
-use Rattle.memory_table.specs.declared.Row.{Row}
 use Rattle.memory_table.specs.Table.{rowAt, Put}
+use Rattle.memory_table.specs.Order.{entryAt}
+use Rattle.memory_table.specs.Sides.{side}
 use Rattle.model.specs.Text.{Text}
 use Rattle.model.specs.Indent.{indent-pieces}
 use Rattle.model.proofs.Lists.{clash}
@@ -18,13 +19,11 @@ use Rattle.memory_texts.proofs.Over.{take-over}
 use Rattle.memory_texts.proofs.Texts.{concat-one}
 use Rattle.memory_texts.specs.Carry.{Pushed, Carried, RoomOf, RoomFor}
 use Rattle.memory_texts.proofs.Carry.{carried-one, carried-rows, carried-bytes, carried-run, carried-below, kept-piece}
-use Rattle.memory_list.specs.Insert.{runsOf}
-use Rattle.memory_list.specs.Split.{DeskSet}
 use Rattle.memory_list.proofs.Split.{desk-set}
 use Rattle.memory_texts.proofs.Low.{rows-same, bytes-same}
 use Rattle.indent_head_tail.specs.Run.{RunReady}
 use Rattle.indent_head_tail.proofs.Run.{RunIndented}
-use Rattle.indent_head_tail.specs.Own.{RunPut, side, moved, RowWith, OwnReady, OwnDone, LayRoom, Laid}
+use Rattle.indent_head_tail.specs.Own.{RunPut, moved, OwnReady, OwnDone, LayRoom, Laid}
 
 -- ---- a run put into tables that only grow
 
@@ -60,31 +59,26 @@ pub record OwnIndented (outro : Bool) (indentor : Text) (mark : Bool) (ts : List
   pub done : fits ≡ true → OwnDone outro indentor mark ts t p s top byte t' p' s' mark' byte'
   pub short : fits ≡ false → length s < byte + length (concat (indent-pieces indentor mark ts .pieces))
 
-module _ (outro : Bool) (indentor : Text) (mark : Bool) (pieces store t p s : List ℕ) (top byte : ℕ) (h : OwnReady outro pieces store t p s top byte) (z : Row) (ez : z ≡ rowAt t 0)
-    (q : Place) (eq : q ≡ side outro (runsOf z)) where
-  run-is : q ≡ side outro (runsOf (rowAt t 0))
-  run-is = eq ∙ ap (λ (r : Row). side outro (runsOf r)) ez
-
+module _ (outro : Bool) (indentor : Text) (mark : Bool) (pieces store t p s : List ℕ) (top byte : ℕ) (h : OwnReady outro pieces store t p s top byte)
+    (q : Place) (run-is : q ≡ side outro (entryAt t 0)) where
   pub own-run-ready : RunReady pieces store (q .0) (q .1) p s top byte
   own-run-ready = subst (λ (x : Place). RunReady pieces store (x .0) (x .1) p s top byte) (sym run-is) (h .run)
 
   module _ {p' s' : List ℕ} {fits mark' : Bool} {byte' : ℕ} (d : RunIndented indentor mark (runOf pieces store (q .0, q .1)) p s byte top p' s' fits mark' byte') where
     -- the run by row 0's name
-    at-row : RunIndented indentor mark (runOf pieces store (side outro (runsOf (rowAt t 0)))) p s byte top p' s' fits mark' byte'
+    at-row : RunIndented indentor mark (runOf pieces store (side outro (entryAt t 0))) p s byte top p' s' fits mark' byte'
     at-row = subst (λ (x : Place). RunIndented indentor mark (runOf pieces store x) p s byte top p' s' fits mark' byte') run-is d
 
-    pub own-short : fits ≡ false → OwnIndented outro indentor mark (runOf pieces store (side outro (runsOf (rowAt t 0)))) t p s top byte t p' s' fits mark' byte'
+    pub own-short : fits ≡ false → OwnIndented outro indentor mark (runOf pieces store (side outro (entryAt t 0))) t p s top byte t p' s' fits mark' byte'
     own-short e = record { done = λ k. clash k e; short = at-row .short }
 
-    pub own-done : fits ≡ true → (r : Row) → RowWith outro top z r → (t' : List ℕ) → Put t t' 0 r → length t' ≡ length t
-        → OwnIndented outro indentor mark (runOf pieces store (side outro (runsOf (rowAt t 0)))) t p s top byte t' p' s' fits mark' byte'
-    own-done e r w t' u m =
-        let k =
-        desk-set t t' r (h .linked) u (w .next ∙ ap (λ (x : Row). x .next) ez) (w .prev ∙ ap (λ (x : Row). x .prev) ez) (w .start ∙ ap (λ (x : Row). x .start) ez) m in
+    pub own-done : fits ≡ true → (t' : List ℕ) → Put t t' 0 (moved outro top (rowAt t 0)) → length t' ≡ length t
+        → OwnIndented outro indentor mark (runOf pieces store (side outro (entryAt t 0))) t p s top byte t' p' s' fits mark' byte'
+    own-done e t' u m =
         record {
           done = λ _.
               record {
-                desk = subst (DeskSet t t') (w .runs ∙ ap (λ (x : Row). moved outro top (runsOf x)) ez) k;
+                desk = desk-set t t' (moved outro top (rowAt t 0)) (h .linked) u refl refl refl m;
                 len = m;
                 put = run-put (at-row .done e) (at-row .room e);
                 mark-is = at-row .mark-is e;

@@ -1,18 +1,18 @@
 -- The head or the tail indented, with row 0 naming the new run; and the indentor as a piece of its own.
 use mathlib.Core.Path.{_≡_}
-use mathlib.Core.Bool.{Bool, cond}
+use mathlib.Core.Bool.{Bool}
 use mathlib.Core.List.{List, [], _∷_}
 use Prim.Native.Nat.{ℕ, _+_, _*_, _^_, _≤_, _<_}
 use lib.ListN.{length}
 use Rattle.memory_layout.specs.Layout.{PIECE, PIECE-ROWS, STORE-LEN, INDENT-ROW, INDENT-BYTE}
 use Rattle.utf8.specs.Chars.{concat}
 use Rattle.memory_table.specs.declared.Row.{Row}
-use Rattle.memory_table.specs.declared.Piece.{Piece}
 use Rattle.memory_table.specs.Table.{rowAt}
-use Rattle.memory_table.specs.Order.{Linked}
+use Rattle.memory_table.specs.Order.{entryOf, entryAt, Linked}
+use Rattle.memory_table.specs.Sides.{side, with-side}
 use Rattle.model.specs.Text.{Text}
 use Rattle.model.specs.Indent.{indent-pieces}
-use Rattle.memory.specs.Layout.{Place, runOf}
+use Rattle.memory.specs.Layout.{runOf}
 use Rattle.memory_used.specs.Below.{Below}
 use Rattle.memory_list.specs.Insert.{runsOf}
 use Rattle.memory_list.specs.Split.{DeskSet}
@@ -31,35 +31,21 @@ pub record RunPut (ts : List Text) (p s : List ℕ) (byte top : ℕ) (p' s' : Li
 
 -- ---- row 0's runs
 
-abbrev pub placeOf : Piece → Place
-placeOf q = (q .at, q .n)
-
 abbrev pub Runs : Type 0
 Runs = (ℕ × ℕ) × (ℕ × ℕ)
 
--- the outro or the intro
-abbrev pub side : Bool → Runs → Place
-side outro x = cond outro (x .1) (x .0)
-
--- from another row on
-abbrev pub moved : Bool → ℕ → Runs → Runs
-moved outro at x = (cond outro (x .0) (at, x .0 .1), cond outro (at, x .1 .1) (x .1))
-
--- the row q is r with its outro, or its intro, from another row on
-pub record RowWith (outro : Bool) (at : ℕ) (r q : Row) : Type 0 where
-  pub runs : runsOf q ≡ moved outro at (runsOf r)
-  pub start : q .start ≡ r .start
-  pub next : q .next ≡ r .next
-  pub prev : q .prev ≡ r .prev
+-- the row with its outro, or its intro, from another row on
+abbrev pub moved : Bool → ℕ → Row → Row
+moved outro at r = with-side outro (at, side outro (entryOf r) .1) r
 
 -- ---- the head or the tail
 
 pub record OwnReady (outro : Bool) (pieces store t p s : List ℕ) (top byte : ℕ) : Type 0 where
   pub linked : Linked t
-  pub run : RunReady pieces store (side outro (runsOf (rowAt t 0)) .0) (side outro (runsOf (rowAt t 0)) .1) p s top byte
+  pub run : RunReady pieces store (side outro (entryAt t 0) .0) (side outro (entryAt t 0) .1) p s top byte
 
 pub record OwnDone (outro : Bool) (indentor : Text) (mark : Bool) (ts : List Text) (t p s : List ℕ) (top byte : ℕ) (t' p' s' : List ℕ) (mark' : Bool) (byte' : ℕ) : Type 0 where
-  pub desk : DeskSet t t' (moved outro top (runsOf (rowAt t 0)))
+  pub desk : DeskSet t t' (runsOf (moved outro top (rowAt t 0)))
   pub len : length t' ≡ length t
   pub put : RunPut (indent-pieces indentor mark ts .pieces) p s byte top p' s' byte'
   pub mark-is : mark' ≡ indent-pieces indentor mark ts .mark

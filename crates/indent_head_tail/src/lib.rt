@@ -1,13 +1,12 @@
-// indent.rs on a piece of the head or the tail, written behind the texts in use with the indentor put in; and row 0's two runs.
+// indent.rs on a piece of the head or the tail, written behind the texts in use with the indentor put in; and the indentor as a piece.
 ghost use mathlib.Core.Path.{_≡_};
 ghost use mathlib.Core.Bool.{true};
-ghost use Rattle.memory_list.specs.Insert.{runsOf};
 ghost use Rattle.utf8.specs.Rfc3629.{utf8 as isText};
 ghost use Rattle.model.specs.Indent.{indent-frag};
 ghost use Rattle.indent_mark.specs.Bytes.{mark-behind};
 ghost use Rattle.memory.specs.Layout.{bytesAt, pieceAt};
 ghost use Rattle.indent_head_tail.specs.Run.{PieceRoom, PieceIndented, TextReady, TextIndented};
-ghost use Rattle.indent_head_tail.specs.Own.{placeOf, side, RowWith, LayRoom, Laid};
+ghost use Rattle.indent_head_tail.specs.Own.{LayRoom, Laid};
 use indent_write::FilledText;
 
 // One text, with the indentor put in: its bytes at a byte of the store, its place at a row of the pieces.
@@ -73,35 +72,6 @@ pub fn indent_at(
         mark: w.mark,
         byte: w.end as u32,
     }
-}
-
-// Row 0's outro, or its intro: the tail, or the head.
-pub fn own_run(r: memory_table::Row, outro: bool) -> memory_table::Piece
-    ensures { λ q. ⌜ placeOf q ≡ side outro (runsOf r) ⌝ }
-{
-    if outro {
-        return memory_table::Piece {
-            at: r.outro_at,
-            n: r.outro_n,
-        };
-    }
-    memory_table::Piece {
-        at: r.intro_at,
-        n: r.intro_n,
-    }
-}
-
-// The row with an outro, or an intro, of as many pieces from another row on.
-pub fn with_own(r: memory_table::Row, outro: bool, at: u32) -> memory_table::Row
-    ensures { λ q. ⌜ RowWith outro at r q ⌝ }
-{
-    let mut q = r;
-    if outro {
-        q.outro_at = at;
-        return q;
-    }
-    q.intro_at = at;
-    q
 }
 
 // The indentor as the first piece row behind the lent ones, with its bytes behind the lent ones. One that no store holds has no row.

@@ -1,5 +1,6 @@
 -- Laws of what `Begin` in specs/ defines.
 use mathlib.Core.Path.{_≡_, refl, sym, ap, ap₂, _∙_, subst}
+use mathlib.Core.Bool.{false}
 use mathlib.Core.List.{List, [], _∷_}
 use Prim.Native.Nat.{ℕ, zero, suc, _+_, _-_, _<_}
 use native.Mathlib.Omega.{arith}
@@ -10,6 +11,7 @@ use Rattle.memory_table.specs.declared.Row.{Row}
 use Rattle.memory_table.specs.Table.{rowAt, Put}
 use Rattle.memory_table.specs.Pieces as rows
 use Rattle.memory_table.specs.Order.{Entry, entryOf, entryAt}
+use Rattle.memory_table.specs.Sides.{with-side}
 use Rattle.model.specs.Text.{Text}
 use Rattle.memory.specs.Layout.{Place, bytesAt, pieceAt, runOf}
 use Rattle.memory_texts.proofs.Texts.{tabulate-ext, tabulate-cons, run-tabulate}
@@ -18,8 +20,8 @@ use Rattle.memory_list.specs.Split.{RowSet}
 use Rattle.memory_texts.proofs.Low.{rows-same}
 use Rattle.memory_copy.proofs.Rows.{Copied, pair}
 use Rattle.memory.proofs.Desks.{no-run}
-use Rattle.indent_cuts.specs.Splice.{withIntro, Rewritten}
-use Rattle.indent_cuts.proofs.Splice.{rewritten-set}
+use Rattle.indent_cuts.specs.Splice.{withIntro}
+use Rattle.indent_cuts.proofs.Splice.{intro-set}
 use Rattle.indent_source_chunk.specs.Begin.{PrefixRoom, Prefixed, BeginReady, Begun}
 
 -- ---- rows
@@ -95,11 +97,11 @@ module _ {t p : List ℕ} {i top : ℕ} (h : BeginReady t p i top) (r : Row) (er
       positive (suc n) z = omega arith
 
   module _ (t' : List ℕ) (q : Row) (u : Put t t' i q) (m : length t' ≡ length t) where
-    row-with : (run : Place) → Rewritten r q (withIntro run (entryOf r)) → RowSet t t' i (withIntro run (entryAt t i))
-    row-with run c = rewritten-set (h .linked) (h .placed) er (subst (λ (x : Entry). Rewritten r q (withIntro run x)) entry-is c) u m
+    row-with : (run : Place) → q ≡ with-side false run r → RowSet t t' i (withIntro run (entryAt t i))
+    row-with run c = intro-set run (h .linked) (h .placed) er c u m
 
     -- no piece: the indentor's own row
-    pub begun-alone : r .«intro_n» ≡ 0 → Rewritten r q (withIntro (PIECE-ROWS, 1) (entryOf r)) → Begun t p i top t' p top
+    pub begun-alone : r .«intro_n» ≡ 0 → q ≡ with-side false (PIECE-ROWS, 1) r → Begun t p i top t' p top
     begun-alone z c =
         let n : entryAt t i .intro .1 ≡ 0 = sym (ap (λ (x : Entry). x .intro .1) entry-is) ∙ z in
         record {
@@ -114,7 +116,7 @@ module _ {t p : List ℕ} {i top : ℕ} (h : BeginReady t p i top) (r : Row) (er
         }
 
     -- else the copy
-    pub begun-copied : (p' : List ℕ) → Prefixed p p' (r .«intro_at») (r .«intro_n») top → Rewritten r q (withIntro (top, r .«intro_n» + 1) (entryOf r)) → Begun t p i top t' p' (top + r .«intro_n» + 1)
+    pub begun-copied : (p' : List ℕ) → Prefixed p p' (r .«intro_at») (r .«intro_n») top → q ≡ with-side false (top, r .«intro_n» + 1) r → Begun t p i top t' p' (top + r .«intro_n» + 1)
     begun-copied p' d c =
         let x : _≡_ {A = Place} (r .«intro_at», r .«intro_n») (entryAt t i .intro) = ap (λ (y : Entry). y .intro) entry-is in
         let n = ap (λ (y : Entry). y .intro .1) entry-is in

@@ -26,11 +26,15 @@ fn begin_own(t: &mut [u32], p: &mut [u32], i: u32, top: u32) -> u32
     let r = memory_table::get_row(t, i);
     let n = r.intro_n;
     if n == 0 {
-        memory_table::put_row(t, i, indent_cuts::with_intro(r, memory_layout::NEW_ROW, 1));
+        memory_table::put_row(
+            t,
+            i,
+            memory_table::with_side(r, false, memory_layout::NEW_ROW, 1),
+        );
         return top;
     }
     prefix_run(p, r.intro_at, n, top);
-    memory_table::put_row(t, i, indent_cuts::with_intro(r, top, n + 1));
+    memory_table::put_row(t, i, memory_table::with_side(r, false, top, n + 1));
     top + n + 1
 }
 

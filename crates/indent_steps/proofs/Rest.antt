@@ -8,21 +8,20 @@ use native.Mathlib.Omega.{arith}
 use lib.ListN.{length}
 use Rattle.memory_layout.specs.Layout.{CHUNKS}
 use Rattle.utf8.specs.Chars.{All, concat}
-use Rattle.memory_table.specs.Table.{rowAt}
 use Rattle.memory_table.specs.Order.{entryAt}
+use Rattle.memory_table.specs.Sides.{side}
 use Rattle.model.specs.Text.{Text, sum}
 use Rattle.model.specs.Limits.{chunk-bytes}
 use Rattle.model.specs.Indent.{Pieces, indent-pieces}
 use Rattle.memory.specs.Layout.{Place, runOf, chunkOf, magicStringOf}
 use Rattle.memory_texts.proofs.Texts.{run-length}
 use Rattle.memory_used.specs.Below.{Below}
-use Rattle.memory_list.specs.Insert.{runsOf}
 use Rattle.memory.proofs.Desks.{desk-same}
 use Rattle.memory_texts.specs.Low.{DeskLow}
 use Rattle.memory_texts.proofs.Low.{desk-in, run-same, run-still, entries-same, entries-still}
 use Rattle.model_indent_closed.specs.Indent.{IndentedChunks}
 use Rattle.indent_head_tail.specs.Run.{RunReady}
-use Rattle.indent_head_tail.specs.Own.{Runs, side, OwnReady, OwnDone}
+use Rattle.indent_head_tail.specs.Own.{Runs, OwnReady, OwnDone}
 use Rattle.indent_head_tail.proofs.Own.{OwnIndented}
 use Rattle.indent_chunks.specs.Walk.{closedOf}
 use Rattle.indent_chunks.proofs.Walk.{ChunksIndented, WalkDone}
@@ -57,7 +56,7 @@ module _ (indentor exclude source pieces store t p s : List ℕ) (mark : Bool) (
       head-at : entryAt t1 0 .intro ≡ entryAt t 0 .intro
       head-at = ap (λ (x : Runs). x .0) (k .desk)
 
-      tail-at : side true (runsOf (rowAt t1 0)) ≡ entryAt t 0 .outro
+      tail-at : side true (entryAt t1 0) ≡ entryAt t 0 .outro
       tail-at = ap (λ (x : Runs). x .1) (k .desk)
 
       tail-rows : (top1 + entryAt t 0 .outro .1) * 2 ≤ length p1
@@ -80,9 +79,9 @@ module _ (indentor exclude source pieces store t p s : List ℕ) (mark : Bool) (
           }
 
       module _ {t2 p2 s2 : List ℕ} {fits mark2 : Bool} {byte2 : ℕ}
-          (d : OwnIndented true indentor mark1 (runOf pieces store (side true (runsOf (rowAt t1 0)))) t1 p1 s1 top1 byte1 t2 p2 s2 fits mark2 byte2) where
+          (d : OwnIndented true indentor mark1 (runOf pieces store (side true (entryAt t1 0))) t1 p1 s1 top1 byte1 t2 p2 s2 fits mark2 byte2) where
         -- the tail's texts
-        tail-is : indent-pieces indentor mark1 (runOf pieces store (side true (runsOf (rowAt t1 0)))) ≡ tail
+        tail-is : indent-pieces indentor mark1 (runOf pieces store (side true (entryAt t1 0))) ≡ tail
         tail-is = ap₂ (λ (m : Bool) (x : Place). indent-pieces indentor m (runOf pieces store x)) (k .mark-is) tail-at
 
         pub rest-tail : fits ≡ false → (t' p' s' : List ℕ) → RestDone indentor exclude source pieces store t p s mark byte t' p' s' 13
@@ -94,16 +93,16 @@ module _ (indentor exclude source pieces store t p s : List ℕ) (mark : Bool) (
             }
 
         module _ (e : fits ≡ true) where
-          o : OwnDone true indentor mark1 (runOf pieces store (side true (runsOf (rowAt t1 0)))) t1 p1 s1 top1 byte1 t2 p2 s2 mark2 byte2
+          o : OwnDone true indentor mark1 (runOf pieces store (side true (entryAt t1 0))) t1 p1 s1 top1 byte1 t2 p2 s2 mark2 byte2
           o = d .done e
 
           ts : List Text
-          ts = indent-pieces indentor mark1 (runOf pieces store (side true (runsOf (rowAt t1 0)))) .pieces
+          ts = indent-pieces indentor mark1 (runOf pieces store (side true (entryAt t1 0))) .pieces
 
           few-rows : length ts ≡ entryAt t 0 .outro .1
           unfolding ts
           few-rows =
-              pieces-length indentor mark1 (runOf pieces store (side true (runsOf (rowAt t1 0))))
+              pieces-length indentor mark1 (runOf pieces store (side true (entryAt t1 0)))
               ∙ ap (λ (x : Place). length (runOf pieces store x)) tail-at
               ∙ run-length pieces store (entryAt t 0 .outro .0) (entryAt t 0 .outro .1)
 

@@ -9,14 +9,14 @@ use lib.ListN.{length}
 use Rattle.utf8.specs.Rfc3629.{utf8}
 use Rattle.memory_table.specs.Table.{rowAt}
 use Rattle.memory_table.specs.Order.{entryAt}
+use Rattle.memory_table.specs.Sides.{side}
 use Rattle.model.proofs.Lists.{clash}
 use Rattle.memory.specs.Layout.{bytesAt, pieceAt, runOf}
 use Rattle.memory.proofs.Desks.{tabulate-all}
 use Rattle.memory_texts.proofs.Texts.{run-piece, run-tabulate}
-use Rattle.memory_list.specs.Insert.{runsOf}
 use Rattle.indent_head_tail.specs.Run.{RunReady, texts}
 use Rattle.indent_head_tail.proofs.Run.{running-none, running-room, running-short, running-more, run-short, run-done}
-use Rattle.indent_head_tail.specs.Own.{side, OwnReady, Laid}
+use Rattle.indent_head_tail.specs.Own.{OwnReady, Laid}
 use Rattle.indent_head_tail.proofs.Own.{OwnIndented, own-run-ready, own-short, own-done}
 use Rattle.indent_chunks.proofs.Walk.{WalkDone}
 use Rattle.indent_chunks.proofs.Chunks.{walk-start, walk-row, walk-ready, walk-past, walk-more, walk-end}
@@ -33,7 +33,7 @@ use Rattle.memory_layout.specs.Layout.{ROW, PIECES-LEN, INDENT-ROW, INDENT-BYTE
 module _ {outro : Bool} {indentor pieces store : List ℕ} {Short : Type 0} {Next : List ℕ → List ℕ → List ℕ → Bool → ℕ → Type 0} {at : TextAt} {mark : Bool} {t p s : List ℕ}
     (h : RunAt outro indentor pieces store Short Next at mark t p s) where
   ready : RunReady pieces store (at .row) (at .n) (h .p₀) (h .s₀) (at .top) (h .byte₀)
-  ready = own-run-ready outro indentor (h .mark₀) pieces store t (h .p₀) (h .s₀) (at .top) (h .byte₀) (h .own) (rowAt t 0) refl (at .row, at .n) (h .run-is)
+  ready = own-run-ready outro indentor (h .mark₀) pieces store t (h .p₀) (h .s₀) (at .top) (h .byte₀) (h .own) (at .row, at .n) (h .run-is)
 
   pub run-narrow : at .top + at .n < 4294967296
   run-narrow = omega (arith, ready .rows, ready .rows-narrow)
@@ -64,7 +64,7 @@ module _ {outro : Bool} {indentor pieces store : List ℕ} {Short : Type 0} {Nex
           running-short indentor (h .mark₀) (texts pieces store (at .row)) (h .p₀) (h .s₀) (h .byte₀) (at .top) (h .run) (at .n) g (ready .rows)
           (bytesAt store (pieceAt pieces (at .row + at .i))) refl (x .text .piece) k in
           let b = run-short indentor (h .mark₀) pieces store (at .row) (at .n) (h .p₀) (h .s₀) (h .byte₀) (at .top) ready p' s' mark (at .byte) a in
-          h .short (own-short outro indentor (h .mark₀) pieces store t (h .p₀) (h .s₀) (at .top) (h .byte₀) (h .own) (rowAt t 0) refl (at .row, at .n) (h .run-is) b refl .short refl)
+          h .short (own-short outro indentor (h .mark₀) pieces store t (h .p₀) (h .s₀) (at .top) (h .byte₀) (h .own) (at .row, at .n) (h .run-is) b refl .short refl)
 
       pub run-goes-on : x .fits ≡ true → RunAt outro indentor pieces store Short Next (onward-at at (at .row) (at .top) (x .end)) (x .mark₁) t p' s'
       run-goes-on k =
@@ -90,8 +90,8 @@ module _ {outro : Bool} {indentor pieces store : List ℕ} {Short : Type 0} {Nex
   run-finishes e {t'} x =
       let d = run-done indentor (h .mark₀) pieces store (at .row) (at .n) (h .p₀) (h .s₀) (h .byte₀) (at .top) ready (h .run) e in
       h .next t' p s mark (at .byte)
-      (own-done outro indentor (h .mark₀) pieces store t (h .p₀) (h .s₀) (at .top) (h .byte₀) (h .own) (rowAt t 0) refl (at .row, at .n)
-      (h .run-is) d refl (x .row) (x .with-run) t' (x .put) (x .len) .done refl)
+      (own-done outro indentor (h .mark₀) pieces store t (h .p₀) (h .s₀) (at .top) (h .byte₀) (h .own) (at .row, at .n)
+      (h .run-is) d refl t' (x .put) (x .len) .done refl)
 
 -- ---- among the chunks
 
@@ -136,7 +136,7 @@ module _ {indentor exclude source pieces store t₀ : List ℕ} {at : TextAt} {m
     own : OwnReady true pieces store t p s (at .top) (at .byte)
     own = tail-ready indentor exclude source pieces store (h .t₁) (h .p₁) (h .s₁) (h .mark₁) (h .top₁) (h .byte₁) (h .rest .ready) y refl
 
-    pub tail-begins : TailAt indentor exclude source pieces store t₀ (run-from 2 (side true (runsOf (rowAt t 0))) (at .top) (at .byte)) mark t p s
+    pub tail-begins : TailAt indentor exclude source pieces store t₀ (run-from 2 (side true (entryAt t 0)) (at .top) (at .byte)) mark t p s
     tail-begins =
         record {
           part = refl;
@@ -152,14 +152,14 @@ module _ {indentor exclude source pieces store t₀ : List ℕ} {at : TextAt} {m
                 own = own;
                 run-is = refl;
                 inside = omega arith;
-                run = running-none indentor mark (texts pieces store (side true (runsOf (rowAt t 0)) .0)) p s (at .byte) (at .top) (own .run .byte-in);
+                run = running-none indentor mark (texts pieces store (side true (entryAt t 0) .0)) p s (at .byte) (at .top) (own .run .byte-in);
                 short = λ l t2 p2 s2.
-                    let d : OwnIndented true indentor mark (runOf pieces store (side true (runsOf (rowAt t 0)))) t p s (at .top) (at .byte) t p s false mark (at .byte) =
+                    let d : OwnIndented true indentor mark (runOf pieces store (side true (entryAt t 0))) t p s (at .top) (at .byte) t p s false mark (at .byte) =
                     record { done = λ k. clash k refl; short = λ _. l } in
                     h .rest .then t2 p2 s2 13
                     (rest-tail indentor exclude source pieces store (h .t₁) (h .p₁) (h .s₁) (h .mark₁) (h .top₁) (h .byte₁) (h .rest .ready) y refl d refl t2 p2 s2);
                 next = λ t2 p2 s2 mark2 byte2 o.
-                    let d : OwnIndented true indentor mark (runOf pieces store (side true (runsOf (rowAt t 0)))) t p s (at .top) (at .byte) t2 p2 s2 true mark2 byte2 =
+                    let d : OwnIndented true indentor mark (runOf pieces store (side true (entryAt t 0))) t p s (at .top) (at .byte) t2 p2 s2 true mark2 byte2 =
                     record { done = λ _. o; short = λ k. clash refl k } in
                     h .rest .then t2 p2 s2 0
                     (rest-done indentor exclude source pieces store (h .t₁) (h .p₁) (h .s₁) (h .mark₁) (h .top₁) (h .byte₁) (h .rest .ready) y refl d refl);
@@ -169,7 +169,7 @@ module _ {indentor exclude source pieces store t₀ : List ℕ} {at : TextAt} {m
 -- ---- the start
 
 pub head-begins : (indentor exclude source t pieces store p₀ s₀ p s : List ℕ) → StepsReady source t pieces store p₀ s₀ → Laid indentor p₀ s₀ p s → (at : TextAt)
-    → at ≡ run-from 0 (side false (runsOf (rowAt t 0))) INDENT-ROW INDENT-BYTE → Walking indentor exclude source pieces store t at true t p s
+    → at ≡ run-from 0 (side false (entryAt t 0)) INDENT-ROW INDENT-BYTE → Walking indentor exclude source pieces store t at true t p s
 head-begins indentor exclude source t pieces store p₀ s₀ p s w y at ea =
     let own : OwnReady false pieces store t p s INDENT-ROW INDENT-BYTE = head-ready indentor exclude source t pieces store p₀ s₀ w y in
     subst (λ (a : TextAt). Walking indentor exclude source pieces store t a true t p s) (sym ea)
@@ -187,7 +187,7 @@ head-begins indentor exclude source t pieces store p₀ s₀ p s w y at ea =
             own = own;
             run-is = refl;
             inside = omega arith;
-            run = running-none indentor true (texts pieces store (side false (runsOf (rowAt t 0)) .0)) p s INDENT-BYTE INDENT-ROW (own .run .byte-in);
+            run = running-none indentor true (texts pieces store (side false (entryAt t 0) .0)) p s INDENT-BYTE INDENT-ROW (own .run .byte-in);
             short = λ l t2 p2 s2.
                 let d : OwnIndented false indentor true (runOf pieces store (entryAt t 0 .intro)) t p s INDENT-ROW INDENT-BYTE t p s false true INDENT-BYTE =
                 record { done = λ k. clash k refl; short = λ _. l } in

@@ -8,11 +8,12 @@ use lib.ListN.{length}
 use Rattle.utf8.specs.Chars.{concat}
 use Rattle.memory_table.specs.declared.Row.{Row}
 use Rattle.memory_table.specs.Table.{rowAt, Put}
+use Rattle.memory_table.specs.Order.{entryAt}
+use Rattle.memory_table.specs.Sides.{side}
 use Rattle.model.specs.Indent.{indent-pieces}
 use Rattle.memory.specs.Layout.{Place, bytesAt, pieceAt, runOf}
-use Rattle.memory_list.specs.Insert.{runsOf}
 use Rattle.indent_head_tail.specs.Run.{TextReady, TextIndented, Running, texts}
-use Rattle.indent_head_tail.specs.Own.{side, RowWith, OwnReady, OwnDone}
+use Rattle.indent_head_tail.specs.Own.{moved, OwnReady, OwnDone}
 use Rattle.indent_chunks.specs.Row.{RowReady, RowDone}
 use Rattle.indent_chunks.specs.Chunks.{WalkAt}
 use Rattle.indent_steps.specs.declared.TextAt.{TextAt}
@@ -44,9 +45,7 @@ left at = cond (at .more) ((3 - at .part) * PIECES-LEN + (at .n - at .i)) 0
 -- ---- what the turns do
 
 pub record RunEnded (outro : Bool) (top : ℕ) (t t' : List ℕ) : Type 0 where
-  pub row : Row
-  pub with-run : RowWith outro top (rowAt t 0) row
-  pub put : Put t t' 0 row
+  pub put : Put t t' 0 (moved outro top (rowAt t 0))
   pub len : length t' ≡ length t
 
 pub record PieceReady (pieces store p s : List ℕ) (at : TextAt) : Type 0 where
@@ -84,7 +83,7 @@ pub record PartReady (t : List ℕ) (at : TextAt) : Type 0 where
   pub narrow : (at .part ≡ 1 → ⊥) → (at .part ≡ 2 → ⊥) → at .top + at .n < 4294967296
 
 pub record PartTurned (at : TextAt) (t t' : List ℕ) (at' : TextAt) : Type 0 where
-  pub tail : at .part ≡ 1 → (t' ≡ t) × (at' ≡ run-from 2 (side true (runsOf (rowAt t 0))) (at .top) (at .byte))
+  pub tail : at .part ≡ 1 → (t' ≡ t) × (at' ≡ run-from 2 (side true (entryAt t 0)) (at .top) (at .byte))
   pub end : at .part ≡ 2 → RunEnded true (at .top) t t' × (at' ≡ over-at at)
   pub chunks : (at .part ≡ 1 → ⊥) → (at .part ≡ 2 → ⊥) → RunEnded false (at .top) t t' × (at' ≡ chunks-from (rowAt t' 0) (at .top + at .n) (at .byte))
 
@@ -101,12 +100,12 @@ pub record RunAt (outro : Bool) (indentor pieces store : List ℕ) (Short : Type
   pub mark₀ : Bool
   pub byte₀ : ℕ
   pub own : OwnReady outro pieces store t p₀ s₀ (at .top) byte₀
-  pub run-is : (at .row, at .n) ≡ side outro (runsOf (rowAt t 0))
+  pub run-is : (at .row, at .n) ≡ side outro (entryAt t 0)
   pub inside : at .i ≤ at .n
   pub run : Running indentor mark₀ (texts pieces store (at .row)) p₀ s₀ byte₀ (at .top) (at .i) p s (at .byte) mark
-  pub short : length s₀ < byte₀ + length (concat (indent-pieces indentor mark₀ (runOf pieces store (side outro (runsOf (rowAt t 0)))) .pieces)) → Short
+  pub short : length s₀ < byte₀ + length (concat (indent-pieces indentor mark₀ (runOf pieces store (side outro (entryAt t 0))) .pieces)) → Short
   pub next : (t' p' s' : List ℕ) (mark' : Bool) (byte' : ℕ)
-      → OwnDone outro indentor mark₀ (runOf pieces store (side outro (runsOf (rowAt t 0)))) t p₀ s₀ (at .top) byte₀ t' p' s' mark' byte' → Next t' p' s' mark' byte'
+      → OwnDone outro indentor mark₀ (runOf pieces store (side outro (entryAt t 0))) t p₀ s₀ (at .top) byte₀ t' p' s' mark' byte' → Next t' p' s' mark' byte'
 
 -- behind the head: the rest is ready, and what it leaves is what the steps leave of the rows t₀
 pub record RestFrom (indentor exclude source pieces store t₀ : List ℕ) (top : ℕ) (t p s : List ℕ) (mark : Bool) (byte : ℕ) : Type 0 where

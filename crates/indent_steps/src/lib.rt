@@ -5,8 +5,8 @@ ghost use Prim.Native.Nat.{_+_, _≤_, _<_};
 ghost use lib.ListN.{length};
 ghost use Rattle.memory_layout.specs.Layout.{ROW};
 ghost use Rattle.memory_table.specs.Table.{rowAt};
-ghost use Rattle.memory_list.specs.Insert.{runsOf};
-ghost use Rattle.indent_head_tail.specs.Own.{side};
+ghost use Rattle.memory_table.specs.Order.{entryAt};
+ghost use Rattle.memory_table.specs.Sides.{side};
 ghost use Rattle.indent_steps.specs.Steps.{StepsReady, IndentSteps};
 ghost use Rattle.indent_steps.specs.Walk.{stopped-at, onward-at, run-from, chunks-from, over-at, RunEnded, PieceReady, PieceTurned, ChunkReady, ChunkTurned, PartReady};
 ghost use Rattle.indent_steps.specs.Walk.{PartTurned, Walking, TurnReady, Turned};
@@ -138,10 +138,10 @@ fn chunk_turn(
 // The start of the head or the tail, as row 0 names it.
 fn run_begins(t: &[u32], part: u32, outro: bool, top: u32, byte: u32) -> TextAt
     requires { ⌜ ROW ≤ length (now t) ⌝ }
-    ensures { λ r. ⌜ r ≡ run-from part (side outro (runsOf (rowAt (now (t .entry)) 0))) top byte ⌝ }
+    ensures { λ r. ⌜ r ≡ run-from part (side outro (entryAt (now (t .entry)) 0)) top byte ⌝ }
 {
     let z = memory_table::get_row(t, 0);
-    let q = indent_head_tail::own_run(z, outro);
+    let q = memory_table::side(z, outro);
     TextAt {
         more: true,
         number: 0,
@@ -160,7 +160,8 @@ fn run_ends(t: &mut [u32], outro: bool, top: u32)
     ensures { λ _. ⌜ RunEnded outro top (now (t .entry)) (now (t .exit)) ⌝ }
 {
     let z = memory_table::get_row(t, 0);
-    memory_table::put_row(t, 0, indent_head_tail::with_own(z, outro, top));
+    let q = memory_table::side(z, outro);
+    memory_table::put_row(t, 0, memory_table::with_side(z, outro, top, q.n));
 }
 
 // The start of the chunks.

@@ -14,13 +14,13 @@ use Rattle.edit_insert_in_place.proofs.add_in_place.Tie as tie
 get-row-requires : tie.Need-get-row-requires
 get-row-requires c κs = search needs
 
-run-of-requires : tie.Need-run-of-requires
-run-of-requires c κs = search needs
+side-requires : tie.Need-side-requires
+side-requires c κs = search needs
 
 lengthen-requires : tie.Need-lengthen-requires
 lengthen-requires c κs =
     let start = c .before .before .before .before .before .before .before .before .before in
-    let run = c .before .before .run-of in
+    let run = c .before .before .side in
     let row = c .before .before .before .get-row in
     let a = start .args in
     let e : _≡_ {A = Place} (run .result .at, run .result .n) (side (a .outro) (entryAt (a .chunks .now) (a .i))) =
@@ -28,10 +28,10 @@ lengthen-requires c κs =
     let k = subst (λ (y : Place). TopRoom y (a .text .now) (a .pieces .now) (a .store .now) (a .row) (a .byte)) (sym e) (start .pre .1 .1 .0) in
     k
 
-cast-with-run : tie.Need-cast-with-run
-cast-with-run c =
+cast-with-side : tie.Need-cast-with-side
+cast-with-side c =
     let start = c .before .before .before .before .before .before .before .before .before .before .before .before .before .before .before in
-    let run = c .before .before .before .before .before .before .before .before .run-of in
+    let run = c .before .before .before .before .before .before .before .before .side in
     let row = c .before .before .before .before .before .before .before .before .before .get-row in
     let a = start .args in
     let e : _≡_ {A = Place} (run .result .at, run .result .n) (side (a .outro) (entryAt (a .chunks .now) (a .i))) =
@@ -39,10 +39,10 @@ cast-with-run c =
     let k = subst (λ (y : Place). TopRoom y (a .text .now) (a .pieces .now) (a .store .now) (a .row) (a .byte)) (sym e) (start .pre .1 .1 .0) in
     omega (arith, k .rows-in, start .pre .1 .0, c .before .before .before .before .before .lengthen .ensures .to)
 
-add-with-run : tie.Need-add-with-run
-add-with-run c =
+add-with-side : tie.Need-add-with-side
+add-with-side c =
     let start = c .before .before .before .before .before .before .before .before .before .before .before .before .before .before .before .before in
-    let run = c .before .before .before .before .before .before .before .before .before .run-of in
+    let run = c .before .before .before .before .before .before .before .before .before .side in
     let row = c .before .before .before .before .before .before .before .before .before .before .get-row in
     let a = start .args in
     let e : _≡_ {A = Place} (run .result .at, run .result .n) (side (a .outro) (entryAt (a .chunks .now) (a .i))) =
@@ -50,8 +50,8 @@ add-with-run c =
     let k = subst (λ (y : Place). TopRoom y (a .text .now) (a .pieces .now) (a .store .now) (a .row) (a .byte)) (sym e) (start .pre .1 .1 .0) in
     omega (arith, k .rows-in, start .pre .1 .0)
 
-with-run-requires : tie.Need-with-run-requires
-with-run-requires c κs = search needs
+with-side-requires : tie.Need-with-side-requires
+with-side-requires c κs = search needs
 
 put-row-requires : tie.Need-put-row-requires
 put-row-requires c κs = omega (arith, c .before .before .before .before .before .before .before .before .before .before .before .before .before .before .before .before .before .pre .0)
@@ -62,7 +62,7 @@ cast-result c = search needs
 add-result : tie.Need-add-result
 add-result c =
     let start = c .before .before .before .before .before .before .before .before .before .before .before .before .before .before .before .before .before .before .before .before .before in
-    let run = c .before .before .before .before .before .before .before .before .before .before .before .before .before .before .run-of in
+    let run = c .before .before .before .before .before .before .before .before .before .before .before .before .before .before .side in
     let row = c .before .before .before .before .before .before .before .before .before .before .before .before .before .before .before .get-row in
     let a = start .args in
     let e : _≡_ {A = Place} (run .result .at, run .result .n) (side (a .outro) (entryAt (a .chunks .now) (a .i))) =
@@ -73,7 +73,7 @@ add-result c =
 add-result-2 : tie.Need-add-result-2
 add-result-2 c =
     let start = c .before .before .before .before .before .before .before .before .before .before .before .before .before .before .before .before .before .before .before .before .before in
-    let run = c .before .before .before .before .before .before .before .before .before .before .before .before .before .before .run-of in
+    let run = c .before .before .before .before .before .before .before .before .before .before .before .before .before .before .side in
     let row = c .before .before .before .before .before .before .before .before .before .before .before .before .before .before .before .get-row in
     let a = start .args in
     let e : _≡_ {A = Place} (run .result .at, run .result .n) (side (a .outro) (entryAt (a .chunks .now) (a .i))) =
@@ -93,23 +93,23 @@ same-length-3 c = search needs
 returns : tie.Need-returns
 returns c =
     let start = c .before .before .before .before .before .before .before .before .before .before .before .before .before .before .before .before .before .before .before .before .before in
-    let run = c .before .before .before .before .before .before .before .before .before .before .before .before .before .before .run-of in
+    let run = c .before .before .before .before .before .before .before .before .before .before .before .before .before .before .side in
     let row = c .before .before .before .before .before .before .before .before .before .before .before .before .before .before .before .get-row in
     let lengthen = c .before .before .before .before .before .before .before .before .before .before .before .lengthen in
     let a = start .args in
     added-on-top (a .outro) (a .front) (a .text .now) (a .i) (a .row) (a .byte) (row .result) (run .result) (lengthen .result) _ (row .ensures) (run .ensures)
-    (start .pre .1 .1 .0) (start .pre .1 .1 .1) (lengthen .ensures) (c .before .before .before .before .with-run .ensures) (c .before .before .before .put-row .ensures) refl
+    (start .pre .1 .1 .0) (start .pre .1 .1 .1) (lengthen .ensures) (c .before .before .before .before .with-side .ensures) (c .before .before .before .put-row .ensures) refl
 
 pub add-in-place-spec : {M : Type 1} → statement M
 add-in-place-spec =
     tie.close
     (tie.spec
     get-row-requires
-    run-of-requires
+    side-requires
     lengthen-requires
-    cast-with-run
-    add-with-run
-    with-run-requires
+    cast-with-side
+    add-with-side
+    with-side-requires
     put-row-requires
     cast-result
     add-result

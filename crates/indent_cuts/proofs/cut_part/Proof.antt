@@ -19,8 +19,8 @@ get-row-requires-2 : tie.Need-get-row-requires-2
 get-row-requires-2 c κs = omega (arith, ap (λ (r : Row). r .start) (c .before .before .before .before .before .before .get-row .ensures),
     c .before .before .before .before .before .before .before .before .before .pre .1 .1 .0, c .before .before .before .split-row .kept .0)
 
-with-intro-requires : tie.Need-with-intro-requires
-with-intro-requires c κs = search needs
+with-side-requires : tie.Need-with-side-requires
+with-side-requires c κs = search needs
 
 put-row-requires : tie.Need-put-row-requires
 put-row-requires c κs = omega (arith, ap (λ (r : Row). r .start) (c .before .before .before .before .before .before .before .before .before .get-row .ensures),
@@ -37,7 +37,7 @@ returns c =
         (c .before .before .before .before .before .before .before .before .before .before .before .before .get-row .ensures)
         (c .before .before .before .before .before .before .before .before .before .split-row .ensures)
         (c .before .before .before .before .before .before .before .before .before .split-row .kept .0) (c .before .before .before .before .before .get-row2 .ensures)
-        (c .before .before .before .with-intro .ensures)
+        (c .before .before .before .with-side .ensures)
     (c .before .before .put-row .ensures) (c .before .before .put-row .kept .0)
 
 pub cut-part-spec : {M : Type 1} → statement M
@@ -48,7 +48,7 @@ cut-part-spec =
     add-n
     split-row-requires
     get-row-requires-2
-    with-intro-requires
+    with-side-requires
     put-row-requires
     same-length
     returns)

@@ -8,8 +8,8 @@ use Rattle.indent_source_chunk.proofs.begin_own.Tie as tie
 get-row-requires : tie.Need-get-row-requires
 get-row-requires c κs = room-i (c .before .before .before .args .t .now) (c .before .before .before .args .i) (c .before .before .before .pre .linked) (c .before .before .before .pre .placed)
 
-with-intro-requires : tie.Need-with-intro-requires
-with-intro-requires c κs = search needs
+with-side-requires : tie.Need-with-side-requires
+with-side-requires c κs = search needs
 
 put-row-requires : tie.Need-put-row-requires
 put-row-requires c κs = room-i (c .before .before .before .before .before .before .before .args .t .now) (c .before .before .before .before .before .before .before .args .i)
@@ -21,22 +21,22 @@ same-length c = search needs
 returns : tie.Need-returns
 returns c =
     begun-alone (c .before .before .before .before .before .before .before .before .before .before .pre) (c .before .before .before .before .before .before .get-row .result)
-        (c .before .before .before .before .before .before .get-row .ensures) (c .before .before .put-row .last .0) (c .before .before .before .with-intro .result)
+        (c .before .before .before .before .before .before .get-row .ensures) (c .before .before .put-row .last .0) (c .before .before .before .with-side .result)
         (c .before .before .put-row .ensures) (c .before .before .put-row .kept .0)
-    (c .before .before .before .before .before .if1 .taken) (c .before .before .before .with-intro .ensures)
+    (c .before .before .before .before .before .if1 .taken) (c .before .before .before .with-side .ensures)
 
 prefix-run-requires : tie.Need-prefix-run-requires
 prefix-run-requires c κs = begin-room (c .before .before .before .before .before .before .pre) (c .before .before .get-row .result) (c .before .before .get-row .ensures) (c .before .if1 .left)
 
-add-with-intro : tie.Need-add-with-intro
-add-with-intro c =
+add-with-side : tie.Need-add-with-side
+add-with-side c =
     let r = begin-room (c .before .before .before .before .before .before .before .before .before .before .pre)
         (c .before .before .before .before .before .before .get-row .result) (c .before .before .before .before .before .before .get-row .ensures)
         (c .before .before .before .before .before .if1 .left) in
     omega (arith, r .room, r .narrow)
 
-with-intro-requires-2 : tie.Need-with-intro-requires-2
-with-intro-requires-2 c κs = search needs
+with-side-requires-2 : tie.Need-with-side-requires-2
+with-side-requires-2 c κs = search needs
 
 put-row-requires-2 : tie.Need-put-row-requires-2
 put-row-requires-2 c κs = room-i (c .before .before .before .before .before .before .before .before .before .before .before .args .t .now)
@@ -71,22 +71,22 @@ returns-2 c =
     begun-copied (c .before .before .before .before .before .before .before .before .before .before .before .before .before .before .pre)
         (c .before .before .before .before .before .before .before .before .before .before .get-row .result)
         (c .before .before .before .before .before .before .before .before .before .before .get-row .ensures) (c .before .before .put-row2 .last .0)
-        (c .before .before .before .with-intro2 .result) (c .before .before .put-row2 .ensures) (c .before .before .put-row2 .kept .0)
+        (c .before .before .before .with-side2 .result) (c .before .before .put-row2 .ensures) (c .before .before .put-row2 .kept .0)
     (c .before .before .before .before .before .before .before .prefix-run .last .0) (c .before .before .before .before .before .before .before .prefix-run .ensures)
-        (c .before .before .before .with-intro2 .ensures)
+        (c .before .before .before .with-side2 .ensures)
 
 pub begin-own-spec : {M : Type 1} → statement M
 begin-own-spec =
     tie.close
     (tie.spec
     get-row-requires
-    with-intro-requires
+    with-side-requires
     put-row-requires
     same-length
     returns
     prefix-run-requires
-    add-with-intro
-    with-intro-requires-2
+    add-with-side
+    with-side-requires-2
     put-row-requires-2
     add-result
     add-result-2
