@@ -37,9 +37,9 @@ fn mark_piece(pieces: &[u32], marks: &mut [u64], size: usize, row: usize, byte: 
     ensures { λ r. ⌜ TextsPassed r size (now (marks .entry)) byte (λ w. pieceAt (now (pieces .entry)) row .0 + pieceAt (now (pieces .entry)) row .1 ≤ w)
         (among (pieceAt (now (pieces .entry)) row)) (now (marks .exit)) ⌝ }
 {
-    let at = memory_layout::wide(pieces[row * memory_layout::PIECE]);
-    let n = memory_layout::wide(pieces[row * memory_layout::PIECE + memory_layout::PIECE_N]);
-    mark_text(marks, size, at, n, byte)
+    let q = memory_table::piece_at(pieces, row);
+    let at = memory_layout::wide(q.at);
+    mark_text(marks, size, at, memory_layout::wide(q.n), byte)
 }
 
 // Marks the texts of n rows from at on.

@@ -51,9 +51,7 @@ fn piece_valid(pieces: &[u32], store: &[u8], row: usize) -> bool
     requires { ⌜ PieceIn (now pieces) (now store) row ⌝ }
     ensures { λ r. ⌜ r ≡ isText (bytesAt (now (store .entry)) (pieceAt (now (pieces .entry)) row)) ⌝ }
 {
-    let at = memory_layout::wide(pieces[row * memory_layout::PIECE]);
-    let n = memory_layout::wide(pieces[row * memory_layout::PIECE + memory_layout::PIECE_N]);
-    part_valid(store, at, n)
+    text_valid(memory_texts::text_of(pieces, store, row))
 }
 
 // Whether the texts of n rows from at on are UTF-8.

@@ -36,9 +36,8 @@ fn piece_end(p: &[u32], row: usize) -> usize
     requires { ⌜ row * 2 + 2 ≤ length (now p) ⌝ }
     ensures { λ r. ⌜ r ≡ pieceAt (now (p .entry)) row .0 + pieceAt (now (p .entry)) row .1 ⌝ }
 {
-    let at = wide(p[row * memory_layout::PIECE]);
-    let n = wide(p[row * memory_layout::PIECE + memory_layout::PIECE_N]);
-    at + n
+    let q = memory_table::piece_at(p, row);
+    wide(q.at) + wide(q.n)
 }
 
 // A row above a run too; an empty run is not looked at.

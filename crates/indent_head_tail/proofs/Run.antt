@@ -7,9 +7,10 @@ use native.Mathlib.Omega.{arith}
 use native.Mathlib.Numerals.{add-one}
 use native.Mathlib.Nat.{add-zero}
 use native.Mathlib.Decide.{le-ind}
-use lib.ListN.{length, set, length-append}
+use lib.ListN.{length, length-append}
 use Rattle.utf8.specs.Rfc3629.{utf8}
 use Rattle.utf8.specs.Chars.{concat}
+use Rattle.memory_table.specs.Pieces.{withPiece}
 use Rattle.model.specs.Text.{Text}
 use Rattle.model.specs.Indent.{indent-frag, Pieces, then-piece, indent-pieces}
 use Rattle.model.proofs.Lists.{clash}
@@ -37,13 +38,13 @@ module _ {xs s s' : List ℕ} {byte end : ℕ} {f : Bool} (x : Filling s byte xs
   pub piece-end : f ≡ true → end ≤ length s
   piece-end e = omega (arith, x .done e .next-is, x .room e)
 
-  pub piece-done : (p : List ℕ) (row : ℕ) → f ≡ true → row * 2 + 2 ≤ length p → PieceIndented xs p s byte row (set (set p (row * 2) byte) (row * 2 + 1) (end - byte)) s' f end
-  piece-done p row e h =
+  pub piece-done : (p p' : List ℕ) (row : ℕ) → f ≡ true → row * 2 + 2 ≤ length p → p' ≡ withPiece p row byte (end - byte) → PieceIndented xs p s byte row p' s' f end
+  piece-done p p' row e h put =
       let n : end - byte ≡ length xs = omega (arith, x .done e .next-is) in
       record {
         done = λ _. record {
           store-is = x .done e .out-is;
-          pieces-is = two-sets p (row * 2) byte (end - byte) (omega arith) ∙ ap (λ (k : ℕ). over p (row * 2) (byte ∷ k ∷ [])) n;
+          pieces-is = put ∙ two-sets p (row * 2) byte (end - byte) (omega arith) ∙ ap (λ (k : ℕ). over p (row * 2) (byte ∷ k ∷ [])) n;
           byte-is = x .done e .next-is;
         };
         room = x .room;

@@ -30,8 +30,7 @@ fn indent_piece(
     }
     let end = w.end;
     let n = end - byte;
-    p[row * memory_layout::PIECE] = byte as u32;
-    p[row * memory_layout::PIECE + memory_layout::PIECE_N] = n as u32;
+    memory_table::set_piece(p, row, byte as u32, n as u32);
     w
 }
 

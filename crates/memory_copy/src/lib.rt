@@ -27,8 +27,7 @@ pub fn push_piece(
 {
     let n = text.len();
     memory_texts::put(&mut store[byte..], text);
-    pieces[row * memory_layout::PIECE] = byte as u32;
-    pieces[row * memory_layout::PIECE + memory_layout::PIECE_N] = n as u32;
+    memory_table::set_piece(pieces, row, byte as u32, n as u32);
     byte + n
 }
 

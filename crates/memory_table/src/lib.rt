@@ -5,7 +5,7 @@ ghost use lib.ListN.{length};
 ghost use lib.Seq.{sets};
 ghost use Rattle.memory_layout.specs.Layout.{ROW, PIECE};
 ghost use Rattle.memory_table.specs.Table.{rowAt, Put};
-ghost use Rattle.memory_table.specs.Pieces.{pieceAt, PutPiece};
+ghost use Rattle.memory_table.specs.Pieces.{pieceAt, withPiece, PutPiece};
 ghost use Rattle.memory_table.specs.Order.{entryOf};
 ghost use Rattle.memory_table.specs.Sides.{side as sideOf, with-side};
 
@@ -84,23 +84,39 @@ pub struct Piece {
     pub n: u32,
 }
 
-pub fn get_piece(t: &[u32], i: u32) -> Piece
-    requires { ⌜ i * PIECE + PIECE ≤ length (now t) ⌝ }
-    ensures { λ r. ⌜ r ≡ pieceAt (now (t .entry)) i ⌝ }
+pub fn piece_at(t: &[u32], row: usize) -> Piece
+    requires { ⌜ row * PIECE + PIECE ≤ length (now t) ⌝ }
+    ensures { λ r. ⌜ r ≡ pieceAt (now (t .entry)) row ⌝ }
 {
-    let b = i as usize * memory_layout::PIECE;
+    let b = row * memory_layout::PIECE;
     Piece {
         at: t[b],
         n: t[b + memory_layout::PIECE_N],
     }
 }
 
+pub fn get_piece(t: &[u32], i: u32) -> Piece
+    requires { ⌜ i * PIECE + PIECE ≤ length (now t) ⌝ }
+    ensures { λ r. ⌜ r ≡ pieceAt (now (t .entry)) i ⌝ }
+{
+    piece_at(t, i as usize)
+}
+
+// A piece's place and length, stored at a row.
+pub fn set_piece(t: &mut [u32], row: usize, at: u32, n: u32)
+    requires { ⌜ row * PIECE + PIECE ≤ length (now t) ⌝ }
+    ensures { λ _. ⌜ now (t .exit) ≡ withPiece (now (t .entry)) row at n ⌝ }
+{
+    let b = row * memory_layout::PIECE;
+    t[b] = at;
+    t[b + memory_layout::PIECE_N] = n;
+}
+
 pub fn put_piece(t: &mut [u32], i: u32, r: Piece)
     requires { ⌜ i * PIECE + PIECE ≤ length (now t) ⌝ }
     ensures { λ _. ⌜ PutPiece (now (t .entry)) (now (t .exit)) i r ⌝ }
 {
-    let w = [r.at, r.n];
-    put_words(t, i as usize * memory_layout::PIECE, &w);
+    set_piece(t, i as usize, r.at, r.n);
 }
 
 // A row's outro, or its intro.

@@ -42,9 +42,9 @@ pub fn text_of<'a>(pieces: &[u32], store: &'a [u8], row: usize) -> &'a [u8]
     requires { ⌜ PieceIn (now pieces) (now store) row ⌝ }
     ensures { λ r. ⌜ now r ≡ bytesAt (now (store .entry)) (pieceAt (now (pieces .entry)) row) ⌝ }
 {
-    let at = memory_layout::wide(pieces[row * memory_layout::PIECE]);
-    let n = memory_layout::wide(pieces[row * memory_layout::PIECE + memory_layout::PIECE_N]);
-    &store[at..at + n]
+    let q = memory_table::piece_at(pieces, row);
+    let at = memory_layout::wide(q.at);
+    &store[at..at + memory_layout::wide(q.n)]
 }
 
 // A chunk's content: its part of the source, or its replacement in the store.

@@ -2,29 +2,11 @@ use borrow.Author.Needs.{needs}
 use Rattle.edit_room_above.proofs.piece_end.Statement.{statement}
 use Rattle.edit_room_above.proofs.piece_end.Tie as tie
 
-mul-wide : tie.Need-mul-wide
-mul-wide c = search needs
-
-mul-wide-2 : tie.Need-mul-wide-2
-mul-wide-2 c = search needs
-
-shared-slice-read-wide : tie.Need-shared-slice-read-wide
-shared-slice-read-wide c = search needs
+piece-at-requires : tie.Need-piece-at-requires
+piece-at-requires c κs = search needs
 
 wide-requires : tie.Need-wide-requires
 wide-requires c κs = search needs
-
-mul-wide-3 : tie.Need-mul-wide-3
-mul-wide-3 c = search needs
-
-add-wide : tie.Need-add-wide
-add-wide c = search needs
-
-mul-wide-4 : tie.Need-mul-wide-4
-mul-wide-4 c = search needs
-
-shared-slice-read-wide-2 : tie.Need-shared-slice-read-wide-2
-shared-slice-read-wide-2 c = search needs
 
 wide-requires-2 : tie.Need-wide-requires-2
 wide-requires-2 c κs = search needs
@@ -33,20 +15,8 @@ add-result : tie.Need-add-result
 add-result c = search needs
 
 returns : tie.Need-returns
-returns c = search needs
+returns c = rw (c .before .wide .ensures .0, c .wide2 .ensures .0, c .before .before .piece-at .ensures)
 
 pub piece-end-spec : {M : Type 1} → statement M
 piece-end-spec =
-    tie.close
-    (tie.spec
-    mul-wide
-    mul-wide-2
-    shared-slice-read-wide
-    wide-requires
-    mul-wide-3
-    add-wide
-    mul-wide-4
-    shared-slice-read-wide-2
-    wide-requires-2
-    add-result
-    returns)
+    tie.close (tie.spec piece-at-requires wide-requires wide-requires-2 add-result returns)

@@ -3,22 +3,14 @@ use borrow.Author.Needs.{needs}
 use Rattle.memory_table.proofs.put_piece.Statement.{statement}
 use Rattle.memory_table.proofs.put_piece.Tie as tie
 
-mul-put-words : tie.Need-mul-put-words
-mul-put-words c = search needs
-
-slice-aggregate-put-words : tie.Need-slice-aggregate-put-words
-slice-aggregate-put-words c = search needs
-
-put-words-requires : tie.Need-put-words-requires
-put-words-requires c κs = search needs
+set-piece-requires : tie.Need-set-piece-requires
+set-piece-requires c κs = search needs
 
 same-length : tie.Need-same-length
 same-length c = search needs
 
 returns : tie.Need-returns
-returns c = put-piece-of _ _ _ _ (search needs) (c .before .before .put-words .ensures)
+returns c = put-piece-of _ _ _ _ (search needs) (c .before .before .set-piece .ensures)
 
 pub put-piece-spec : {M : Type 1} → statement M
-put-piece-spec =
-    tie.close
-    (tie.spec mul-put-words slice-aggregate-put-words put-words-requires same-length returns)
+put-piece-spec = tie.close (tie.spec set-piece-requires same-length returns)
