@@ -69,7 +69,7 @@ accepted-after : (k : Limits) (m : MagicString) (e x : Edit) → Formed m → 0 
     EditPremises (length (m .source)) x → PairPremises (length (m .source)) e x
     → RunAccepted k e m → RunAccepted k x m
     → length (apply (plan-of e m) m .chunks) + 3 ≤ k .most-chunks → piece-count (apply (plan-of e m) m) + new-pieces x ≤ k .most-pieces →
-        byte-count (apply (plan-of e m) m) + new-bytes x ≤ k .most-bytes
+    byte-count (apply (plan-of e m) m) + new-bytes x ≤ k .most-bytes
     → RunAccepted k x (apply (plan-of e m) m)
 accepted-after k m e x f some-source se sx d ge gx kc kp kb =
     let n : ℕ = length (m .source) in
@@ -136,14 +136,14 @@ step k m e L p =
     let f′ : Formed (apply P m) = formed-run k m e f (se .listed) ge in
     let room : Space k (apply P m) L = record { chunks = omega (arith, p .space .chunks); pieces = omega (arith, p .space .pieces); bytes = omega (arith, p .space .bytes) } in
     let one : (x : Edit) → EditPremises n x × (run k x m .number ≡ 0) → PairPremises n e x × (new-pieces x ≤ sum new-pieces L) × (new-bytes x ≤ sum new-bytes L) ×
-        (1 ≤ length L) → run k x (apply P m) .number ≡ 0 =
+    (1 ≤ length L) → run k x (apply P m) .number ≡ 0 =
     λ x h q. ap (λ r. r .number) (accepted-run k x (apply P m) (h .0 .listed) f′
     (accepted-after k m e x f (p .apart .source-not-empty) se (h .0) (q .0) ge (run-accepted k x m (h .0 .listed) f (h .1)) (omega (arith, room .chunks))
-        (omega (arith, room .pieces)) (omega (arith, room .bytes)))) in
+    (omega (arith, room .pieces)) (omega (arith, room .bytes)))) in
     let sizes : All (λ x. (new-bytes x ≤ sum new-bytes L) × (1 ≤ length L)) L = all-map₂ (λ x h q. (h, q)) (sum-part new-bytes L) (length-part L) in
     let sums : All (λ x. (new-pieces x ≤ sum new-pieces L) × (new-bytes x ≤ sum new-bytes L) × (1 ≤ length L)) L = all-map₂ (λ x h q. (h, q .0, q .1)) (sum-part new-pieces L) sizes in
     let pairs : All (λ x. PairPremises n e x × (new-pieces x ≤ sum new-pieces L) × (new-bytes x ≤ sum new-bytes L) × (1 ≤ length L)) L =
-        all-map₂ (λ x h q. (h, q .0, q .1, q .2)) (pair-premises (p .apart)) sums in
+    all-map₂ (λ x h q. (h, q .0, q .1, q .2)) (pair-premises (p .apart)) sums in
     let alone : All (λ x. EditPremises n x × (run k x m .number ≡ 0)) L = all-map₂ (λ x h q. (h, q)) (rest-of (edit-premises (p .apart))) (rest-of (p .alone)) in
     record {
       well-formed = record { formed = f′; limits = ge .space };

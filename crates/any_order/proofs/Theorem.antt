@@ -104,7 +104,7 @@ same-desk k (swap x y {l = L}) m p =
     let sx : EditPremises n x = first-of (edit-premises (p .apart)) in
     let sy : EditPremises n y = first-of (rest-of (edit-premises (p .apart))) in
     let PQ : PlansApart (plan-of x m) (plan-of y m) = plans-apart (implements n x (p .apart .source-not-empty) sx) (implements n y (p .apart .source-not-empty) sy)
-        (first-of (pair-premises (p .apart))) in
+    (first-of (pair-premises (p .apart))) in
     ap (after k L)
     (two k m y x L (premises-order k m (swap x y) p)
     ∙ (sym (apply-apply (plan-of x m) (plan-of y m) PQ m (formed-proper (p .well-formed .formed) (p .apart .source-not-empty)))

@@ -139,7 +139,13 @@ fn step(source: &[u8], t: &[u32], n: u32, k: usize, side: Side, marks: &mut [u64
     let i = linked_row(t, n, k, side.row);
     if i != memory_layout::LIST_END {
         if proper(source, t, i, side.from, side.to) {
-            return turn(side, i, check_spans::start(t, i), check_spans::end(t, i), marks);
+            return turn(
+                side,
+                i,
+                check_spans::start(t, i),
+                check_spans::end(t, i),
+                marks,
+            );
         }
     }
     Side {

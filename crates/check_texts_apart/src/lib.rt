@@ -9,9 +9,9 @@ ghost use Rattle.check_bit_marks.specs.BitMarks.{bitAt};
 ghost use Rattle.check_text_marks.specs.Texts.{Enough, TextsPassed};
 ghost use Rattle.check_runs_apart.specs.Runs.{Markable};
 ghost use Rattle.check_texts_apart.specs.Places.{TextBelow, textStart, rowEntry, EntryPassed, RowsPassed, nothing, Places};
-use memory_used::Used;
 use check_runs_apart::Step;
 use check_text_marks::Top;
+use memory_used::Used;
 
 // Where the replacement of row i begins. Row 0, the desk's own, has none.
 fn text_start(t: &[u32], i: u32) -> usize

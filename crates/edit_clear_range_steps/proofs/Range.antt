@@ -74,9 +74,12 @@ range-refused a b v t t' r d n =
     record {
       leave = λ source p s h c.
           let k = d .leave source p s h c in
-          record { readable = k .readable; result = k .result (λ m. ok (with-chunks m (change-by-position (length (m .chunks)) (cleared-to v) a b (m .chunks))))
-              ∙ stop r (magicStringOf source t' p s) (λ m. ok
-              (with-chunks m (change-by-position (length (m .chunks)) (cleared-to v) a b (m .chunks)))) n };
+          record {
+            readable = k .readable;
+            result = k .result (λ m. ok (with-chunks m (change-by-position (length (m .chunks)) (cleared-to v) a b (m .chunks))))
+                ∙ stop r (magicStringOf source t' p s) (λ m. ok
+                (with-chunks m (change-by-position (length (m .chunks)) (cleared-to v) a b (m .chunks)))) n;
+          };
       readable = d .readable;
       number = d .number;
       count = omega (arith, d .count);

@@ -22,7 +22,17 @@ pub fn insert(
 {
     if utf8::valid(text) {
         if utf8::boundary(source, at as usize) {
-            return edit_insert_either::insert_either(source, chunks, pieces, store, text, at, left, front, used);
+            return edit_insert_either::insert_either(
+                source,
+                chunks,
+                pieces,
+                store,
+                text,
+                at,
+                left,
+                front,
+                used,
+            );
         }
         return Outcome { number: 3, used };
     }
@@ -44,7 +54,16 @@ pub fn insert_whole(
         (now (chunks .exit)) (now (pieces .exit)) (now (store .exit)) o ⌝ }
 {
     if utf8::valid(text) {
-        return edit_insert_either::whole_either(source, chunks, pieces, store, text, tail, !tail, used);
+        return edit_insert_either::whole_either(
+            source,
+            chunks,
+            pieces,
+            store,
+            text,
+            tail,
+            !tail,
+            used,
+        );
     }
     Outcome { number: 1, used }
 }

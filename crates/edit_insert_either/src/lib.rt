@@ -133,7 +133,16 @@ pub fn whole_either(
         × Above (now (chunks .exit)) (now (pieces .exit)) (now (store .exit)) (o .used) ⌝ }
 {
     if edit_room_above::has_room(used, 0, text.len(), chunks.len(), pieces.len(), store.len()) {
-        return edit_insert_in_place::whole_in_place(source, chunks, pieces, store, text, outro, front, used);
+        return edit_insert_in_place::whole_in_place(
+            source,
+            chunks,
+            pieces,
+            store,
+            text,
+            outro,
+            front,
+            used,
+        );
     }
     whole_anew(source, chunks, pieces, store, text, outro, front, used)
 }

@@ -274,5 +274,5 @@ found-ready outro f t P S text i l w k =
     let e = entries-at t (w .us) i (w .bs) (w .place) in
     let h = side-in outro (entryAt t i) (first-of (all-back (EntryIn p s) xs (entryAt t i ∷ ys) (subst (All (EntryIn p s)) e (k .readable .chunks))) .runs) in
     let q = ap (λ (es : List Entry). sum chunk-pieces (map (chunkOf p s) es)) e ∙ ap (sum chunk-pieces) (map-append (chunkOf p s) xs (entryAt t i ∷ ys))
-        ∙ sum-append chunk-pieces (map (chunkOf p s) xs) (map (chunkOf p s) (entryAt t i ∷ ys)) in
+    ∙ sum-append chunk-pieces (map (chunkOf p s) xs) (map (chunkOf p s) (entryAt t i ∷ ys)) in
     (room-of t P S text l (side outro (entryAt t i)) k h (side-few outro p s (entryAt t i) (l .pieces) (omega (arith, k .pieces, q))), h)

@@ -49,7 +49,6 @@ pub record OneMore (t : Text) (m m' : MagicString) : Type 0 where
   pub chunks : length (m' .chunks) ≡ length (m .chunks)
 
 module _ (q : ℕ) (f : Texts → Texts) where
-
   module _ (w : Chunk → ℕ) (n : ℕ) (more : (c : Chunk) → w (with-texts f c) ≤ w c + n) where
     end-more : (cs : List Chunk) → sum w (at-end q f cs) ≤ sum w cs + n
     end-more [] = omega arith
@@ -106,8 +105,11 @@ step-more true front q t m = go (by-end q (m .chunks))
           chunks = end-length q (add-to true front t) (m .chunks);
         }
 
-    go : (o : Option Chunk) → OneMore t m (elim o as (λ _. Result) [ none ↦ ok (with-intro m (withText front t (m .intro))) | some c ↦
-        ok (with-chunks m (at-end q (add-to true front t) (m .chunks))) ] .desk)
+    go : (o : Option Chunk) → OneMore t m (elim o as (λ _. Result) [
+      | none ↦ ok (with-intro m (withText front t (m .intro)))
+      | some c ↦
+          ok (with-chunks m (at-end q (add-to true front t) (m .chunks)))
+    ] .desk)
     go none = whole-more false front t m
     go (some c) = here
 step-more false front q t m = go (by-start q (m .chunks))
@@ -120,8 +122,11 @@ step-more false front q t m = go (by-start q (m .chunks))
           chunks = start-length q (add-to false front t) (m .chunks);
         }
 
-    go : (o : Option Chunk) → OneMore t m (elim o as (λ _. Result) [ none ↦ ok (with-outro m (withText front t (m .outro))) | some c ↦
-        ok (with-chunks m (at-start q (add-to false front t) (m .chunks))) ] .desk)
+    go : (o : Option Chunk) → OneMore t m (elim o as (λ _. Result) [
+      | none ↦ ok (with-outro m (withText front t (m .outro)))
+      | some c ↦
+          ok (with-chunks m (at-start q (add-to false front t) (m .chunks)))
+    ] .desk)
     go none = whole-more true front t m
     go (some c) = here
 

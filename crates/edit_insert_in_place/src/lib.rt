@@ -12,9 +12,9 @@ ghost use Rattle.edit_room_above.specs.Live.{Room};
 ghost use Rattle.edit_room_above.specs.Run.{TopRoom};
 ghost use Rattle.edit_insert_in_place.specs.Added.{AddedOnTop, TopReady};
 ghost use Rattle.edit_insert_in_place.specs.Calls.{InsertedTop, grown};
+use memory_list::Found;
 use memory_used::Outcome;
 use memory_used::Used;
-use memory_list::Found;
 
 // A text more in front of row i's outro or intro, or behind it, on top of the lent tables: the run's rows go to `row` or end there already, the text goes to `byte`.
 // Hands back the row above the longer run.

@@ -10,8 +10,8 @@ ghost use Rattle.edit_scratch.specs.Tables.{Roomy};
 ghost use Rattle.memory_table.specs.Sides.{side};
 ghost use Rattle.edit_insert_side.specs.Piece.{Spare, PieceAdded, LongScratch};
 ghost use Rattle.edit_insert_side.specs.Calls.{Inserted, InsertSteps, InsertRan, WholeRan};
-use memory_used::Outcome;
 use memory_list::Found;
+use memory_used::Outcome;
 
 // A text more in front of row i's outro or intro, or behind it: the rows of the run go to the spare room of the scratch tables, which begin with the lent ones, and the text
 // behind the lent store.
@@ -35,7 +35,16 @@ fn add_piece(
 {
     let r = memory_table::get_row(t, i);
     let run = memory_table::side(r, outro);
-    let first = edit_room_above::lengthen(p, s, text, front, run.at, run.n, memory_layout::PIECE_ROWS, memory_layout::STORE_LEN);
+    let first = edit_room_above::lengthen(
+        p,
+        s,
+        text,
+        front,
+        run.at,
+        run.n,
+        memory_layout::PIECE_ROWS,
+        memory_layout::STORE_LEN,
+    );
     memory_table::put_row(
         t,
         i,

@@ -121,7 +121,7 @@ module _ (a b to : ℕ) (t : List ℕ) where
     away =
         let F : ℕ → Type 0 = λ x. entryAt t x .start < entryAt t x .end in
         let o : NoneEmpty t (us ++ ((f ∷ xs) ++ ys)) = subst (NoneEmpty t) place
-            (filled-rows t (y .pieces) (y .store) (order t) (rows-proper (y .source) t (y .pieces) (y .store) (y .spans) (y .filled))) in
+        (filled-rows t (y .pieces) (y .store) (order t) (rows-proper (y .source) t (y .pieces) (y .store) (y .spans) (y .filled))) in
         let i = starts-inside t b f xs (each-left F (f ∷ xs) ys (each-right F us ((f ∷ xs) ++ ys) o)) (w .walked .follows) in
         each-map (λ x. (entryAt t f .start ≤ entryAt t x .start) × (entryAt t x .start < entryAt t (lastOf f xs) .end)) (λ x. entryAt t x .start ≡ to → ⊥)
         (λ x h e. inside-not (omega (arith, h .0, w .walked .here)) (omega (arith, h .1, ends))) (f ∷ xs) i

@@ -135,8 +135,8 @@ module _ (t : List ℕ) (k : Linked t) (to f : ℕ) (us xs ys : List ℕ) (place
         let g : None t to (us ++ ((f ∷ xs) ++ ys)) = subst (None t to) place (w .1) in
         subst (Goes t to f us xs ys l) (sym (w .0))
         (goes-last ys refl (λ h. d (h ∙ sym (w .0))) (each-append N us ys (each-left N us ((f ∷ xs) ++ ys) g) (each-right N (f ∷ xs) ys (each-right N us ((f ∷ xs) ++ ys) g))))
-
     -- ── whether the range stands there already ──
+
   module _ (p s : List ℕ) (n : ℕ) where
     there-at : (rest : List ℕ) → LeadsTo t l rest → nextOf t l ≡ n → PlaceIn t to n → stands-there (by-start to (chunksAt t p s (order t))) (chunksAt t p s rest) ≡ true
     there-at [] g e (inl w) = absurd (omega (arith, g, e, inside-at t (w .us) n (w .bs) k (w .place) .0))

@@ -55,8 +55,8 @@ module _ (t p s : List ℕ) where
 
       pub segment-broken : (entryAt t (lastOf f xs) .end ≡ b → ⊥) → Gap t (entryAt t (lastOf f xs) .end) ys → segment a b (C (us ++ f ∷ (xs ++ ys))) ≡ apart
       segment-broken n g = segment-stop us f (xs ++ ys) h e (range-broken b f xs ys w n g)
+      -- ── the place ──
 
-    -- ── the place ──
   module _ (to : ℕ) where
     pub by-start-none : (vs : List ℕ) → None t to vs → by-start to (C vs) ≡ none
     by-start-none [] h = refl

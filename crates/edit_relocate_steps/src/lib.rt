@@ -4,9 +4,9 @@ ghost use Rattle.memory_table.specs.Order.{Linked};
 ghost use Rattle.edit_scratch.specs.Tables.{Roomy};
 ghost use Rattle.edit_split_at.specs.Cuts.{CutsDone};
 ghost use Rattle.edit_relocate_steps.specs.Relocated.{PlaceIn, Spanned, Movable, RangeMoved, RelocateDone};
+use edit_relocate_range::Range;
 use memory_list::Found;
 use memory_list::Key;
-use edit_relocate_range::Range;
 
 // Three cuts, each where the one before it is not refused.
 fn split_three(t: &mut [u32], a: u32, b: u32, to: u32) -> u32

@@ -29,7 +29,16 @@ pub fn reset(
         if source.len() < end as usize {
             return Outcome { number: 10, used };
         }
-        return edit_remove::clear_range_either(source, chunks, pieces, store, start, end, NONE, used);
+        return edit_remove::clear_range_either(
+            source,
+            chunks,
+            pieces,
+            store,
+            start,
+            end,
+            NONE,
+            used,
+        );
     }
     Outcome { number: 3, used }
 }

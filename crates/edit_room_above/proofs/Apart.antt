@@ -61,8 +61,8 @@ module _ (p s : List ℕ) where
   bytes-none : (b : ℕ) {es : List Entry} → length s ≤ b → All (EntryIn p s) es → sum (byteUses p b) es ≡ 0
   bytes-none b l nil = refl
   bytes-none b l (cons {x = e} h k) = omega (arith, runs-bytes-none e b (h .runs) l, text-none (e .text) b (h .replacement) l, bytes-none b l k)
+      -- ── a longer table names the same texts ──
 
-    -- ── a longer table names the same texts ──
   module _ (y : List ℕ) (b : ℕ) where
     pub run-uses-front : (r : Place) → RunIn p s r → runUses (p ++ y) b r ≡ runUses p b r
     unfolding RunIn runUses

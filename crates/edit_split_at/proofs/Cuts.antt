@@ -99,7 +99,7 @@ none-found q t l n =
       leave = λ source p s h v.
           let m = magicStringOf source t p s in
           let c = cut-nothing q m (subst (λ x. Cover x (m .chunks)) (sym (source-of source t p s)) v)
-              (subst (All (λ d. Contains q d → ⊥)) (sym (chunks-of source t p s)) (each-all p s q t (order t) n)) in
+          (subst (All (λ d. Contains q d → ⊥)) (sym (chunks-of source t p s)) (each-all p s q t (order t) n)) in
           one-cut h (c .0) (λ _. sym (c .1));
       readable = λ p s h. h;
       small = λ p s h. h;
@@ -112,7 +112,6 @@ none-found q t l n =
     }
 
 module _ (q : ℕ) (t : List ℕ) (i : ℕ) (w : First (meets Inside q) t i) where
-
   module _ (source p s : List ℕ) (h : Readable t p s) (v : Spans source t p s) where
     abbrev m : MagicString
     m = magicStringOf source t p s
@@ -195,8 +194,18 @@ module _ (q : ℕ) (t : List ℕ) (i : ℕ) (w : First (meets Inside q) t i) whe
         }
 
   pub found-filled : Linked t → filled (entryAt t i) ≡ true → CutsDone (q ∷ []) t t 6
-  found-filled l f = record { leave = λ source p s h v. refused-leave source p s h v f; readable = λ p s h. h; small = λ p s h. h; number = inr refl; linked =
-      l; count = omega arith; kept = kept-same t; none = λ (z : length (q ∷ []) ≡ 0). absurd (omega arith); alone = λ _ _. refl }
+  found-filled l f = record {
+    leave = λ source p s h v. refused-leave source p s h v f;
+    readable = λ p s h. h;
+    small = λ p s h. h;
+    number = inr refl;
+    linked =
+        l;
+    count = omega arith;
+    kept = kept-same t;
+    none = λ (z : length (q ∷ []) ≡ 0). absurd (omega arith);
+    alone = λ _ _. refl;
+  }
 
   pub found-split : Linked t → (t' : List ℕ) → SplitRow t t' i q → filled (entryAt t i) ≡ false → CutsDone (q ∷ []) t t' 0
   found-split l t' d f =

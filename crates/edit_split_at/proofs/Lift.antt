@@ -89,7 +89,7 @@ desk-small source t p s e =
   where
     small-own : (p s : List ℕ) (e : Entry)
         → length (runOf p s (e .intro)) + length (runOf p s (e .outro)) ≤ full .most-pieces → sum length (runOf p s (e .intro)) + sum length
-            (runOf p s (e .outro)) ≤ full .most-bytes → EntrySmall p s e
+        (runOf p s (e .outro)) ≤ full .most-bytes → EntrySmall p s e
     small-own p s e h k =
         record {
           intro = record { pieces = omega arith; bytes = omega (arith, concat-sum (runOf p s (e .intro))) };

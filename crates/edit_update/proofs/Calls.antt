@@ -127,7 +127,7 @@ module _ (a b : ℕ) (text : List ℕ) (o : Bool) (n at : ℕ) (t t1 s1 : List �
               long = λ _ source p s ln rd sp.
                   ap (λ (x : Result). within full (x .desk)) (came source p s ln rd sp)
                   ∙ past-bytes (with-chunks (magicStringOf source t2 p s) (at-start a (edit text o) (magicStringOf source t2 p s .chunks)))
-                      (omega (arith, edited-big a o text p s t2 i (d .ended .1) source));
+                  (omega (arith, edited-big a o text p s t2 i (d .ended .1) source));
               writes = λ k. absurd (k refl);
               short = λ k _. omega arith;
               replaced = kept-replaced (at, length text) (kept-then (c .kept) (walked-kept d));
@@ -165,7 +165,7 @@ steps-did {text = text} {at = at} {r = r} x k source p s y z ln rd sp e ls =
 -- ── the call ──
 module _ {a b : ℕ} {text : List ℕ} {o : Bool} {n : ℕ} {source t p s t₀ p₀ s₀ t1 p1 s1 t2 s2 : List ℕ} {r : ℕ} (ab : a < b) (w : WellFormed source t p s)
     (h : refused-before (magicStringOf source t p s) (update-with a b text o) ≡ 0) (f : UpdateScratch t₀ p₀ s₀) (d : Loaded t p s t₀ p₀ s₀ t1 p1 s1)
-        (x : UpdateSteps a b text o n (length s) t1 s1 t2 s2 r)
+    (x : UpdateSteps a b text o n (length s) t1 s1 t2 s2 r)
     (ln : length source ≡ n) where
   did : (r ≡ 13 → ⊥) → Did (update-past a b text o) source t1 p s t2 p1 s2 r
   did k =
@@ -184,5 +184,8 @@ module _ {a b : ℕ} {text : List ℕ} {o : Bool} {n : ℕ} {source t p s t₀ p
   pub update-ran : {t' p' s' : List ℕ} {r' : ℕ} → (r ≡ 13 → ⊥) → Finished t2 p1 s2 t p s t' p' s' r r' → Ran (update-with a b text o) source t p s t' p' s' r'
   update-ran k y =
       ran-finished w h
-      (record { readable = did k .readable; result = update-is a b text o (magicStringOf source t p s) ab ∙ ap (update-past a b text o) (sym (loaded-desk w (f .scratch) d))
-          ∙ did k .result }) (x .writes k) y
+      (record {
+        readable = did k .readable;
+        result = update-is a b text o (magicStringOf source t p s) ab ∙ ap (update-past a b text o) (sym (loaded-desk w (f .scratch) d))
+            ∙ did k .result;
+      }) (x .writes k) y

@@ -128,8 +128,8 @@ module _ {a b : ℕ} {text : List ℕ} {o : Bool} {n m : ℕ} {source t P S t' S
         pieces = omega (arith, few-pieces, rm .pieces);
         bytes = omega (arith, replaced-bytes (x .replaced) P S', text-few S' (l .byte, length text), ap byte-count before, texts, rm .places);
       })
+      -- ── the steps below the bound ──
 
-    -- ── the steps below the bound ──
   module _ (ln : length source ≡ n) where
     spans : Spans source t rows-used bytes-used
     spans = subst (λ (m : MagicString). Cover source (m .chunks)) (read-below t P S (l .row) (l .byte) (lv .readable) source) (formed-spans w)

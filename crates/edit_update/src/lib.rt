@@ -9,9 +9,9 @@ ghost use Rattle.memory.specs.WellFormed.{WellFormed};
 ghost use Rattle.memory_used.specs.Above.{Desk, Leaves};
 ghost use Rattle.edit_scratch.specs.Tables.{Roomy};
 ghost use Rattle.edit_update.specs.Calls.{UpdateSteps, Settled, UpdateScratch};
+use memory_list::Found;
 use memory_used::Outcome;
 use memory_used::Used;
-use memory_list::Found;
 
 // The steps past 5 and 4: two cuts, 10, the walk and its 7, and the edit, with the text at `byte`; 13 where the text alone is longer than the store.
 fn update_steps(

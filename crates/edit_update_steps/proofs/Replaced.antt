@@ -39,8 +39,8 @@ module _ (f g : Place → ℕ) (c : Counts f g) where
     where
       go : (x y : Bool) → sum (countIn f g) (runs (e .end) end es .list) ≤ sum (countIn f g) es
           → sum (countIn f g) (cond x (record { done = true; list = e ∷ es })
-              (cond y (onto (emptied e) (runs (e .end) end es)) (record { done = false; list = e ∷ es })) .list) ≤ countIn f g e + sum
-              (countIn f g) es
+          (cond y (onto (emptied e) (runs (e .end) end es)) (record { done = false; list = e ∷ es })) .list) ≤ countIn f g e + sum
+          (countIn f g) es
       go true y ih = omega arith
       go false true ih = omega (arith, c .no-pieces 0, c .no-bytes 0)
       go false false ih = omega arith

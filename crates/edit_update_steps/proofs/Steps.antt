@@ -191,7 +191,7 @@ module _ (a : ℕ) (o : Bool) (at : ℕ) (text p s y z t t' : List ℕ) (i : ℕ
       ∙ same-around (chunks-front p s y (text ++ z) front-in) (lift-edit o at text p s y z few ls (entryAt t i) (first-of mid)) (chunks-front p s y (text ++ z) (rest-of mid))
       ∙ sym (start-set a (edit text o) (chunkOf p s (entryAt t i)) (map (chunkOf p s) (map (entryAt t) (w .bs))) (none-start p s a t (w .us) (w .none)) (w .here))
       ∙ ap (at-start a (edit text o)) (sym (ap (map (chunkOf p s)) (entries-at t (w .us) i (w .bs) (w .place)) ∙ map-append (chunkOf p s)
-          (map (entryAt t) (w .us)) (entryAt t i ∷ map (entryAt t) (w .bs)))))
+      (map (entryAt t) (w .us)) (entryAt t i ∷ map (entryAt t) (w .bs)))))
 
 -- ── a text longer than the store ──
 edit-big : (t : Text) (o : Bool) (c : Chunk) → length t ≤ chunk-bytes (with-texts (edit t o) c)
@@ -203,7 +203,7 @@ pub edited-big : (a : ℕ) (o : Bool) (text p s t : List ℕ) (i : ℕ) → Firs
 unfolding magicStringOf
 edited-big a o text p s t i w source =
     let q : at-start a (edit text o) (map (chunkOf p s) (entries t)) ≡ map (chunkOf p s) (map (entryAt t) (w .us)) ++ with-texts (edit text o)
-        (chunkOf p s (entryAt t i)) ∷ map (chunkOf p s) (map (entryAt t) (w .bs)) =
+    (chunkOf p s (entryAt t i)) ∷ map (chunkOf p s) (map (entryAt t) (w .bs)) =
     ap (at-start a (edit text o)) (ap (map (chunkOf p s)) (entries-at t (w .us) i (w .bs) (w .place)) ∙ map-append (chunkOf p s) (map (entryAt t) (w .us)) (entryAt t i ∷ map (entryAt t) (w .bs)))
     ∙ start-set a (edit text o) (chunkOf p s (entryAt t i)) (map (chunkOf p s) (map (entryAt t) (w .bs))) (none-start p s a t (w .us) (w .none)) (w .here) in
     omega (

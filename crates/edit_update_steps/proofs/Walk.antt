@@ -126,7 +126,7 @@ module _ {t₀ t : List ℕ} {cur at end k : ℕ} {goal : List Entry} {fin : Boo
           let here : entryAt t' y ≡ emptied (entryAt t y) = st .here ∙ m .entry-is in
           let list' : entries t' ≡ map (entryAt t') (h .pre ++ (cur ∷ [])) ++ entryAt t' y ∷ map (entryAt t') rest = entries-at t' (h .pre ++ (cur ∷ [])) y rest (st .order-is ∙ o') in
           let parts = same-parts (map (entryAt t') (h .pre ++ (cur ∷ []))) (map (entryAt t) (h .pre ++ (cur ∷ []))) (entryAt t' y) (entryOf r)
-              (map (entryAt t') rest) (map (entryAt t) rest) (len-map t' t (h .pre ++ (cur ∷ []))) (sym list' ∙ oo) in (
+          (map (entryAt t') rest) (map (entryAt t) rest) (len-map t' t (h .pre ++ (cur ∷ []))) (sym list' ∙ oo) in (
             record {
               pre = h .pre ++ (cur ∷ []);
               rest = rest;

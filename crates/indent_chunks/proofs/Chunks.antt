@@ -58,7 +58,7 @@ rest-rows : (source store p s : List ℕ) (top byte : ℕ) → Valid source → 
 rest-rows source store p s top byte v nil nil nil nil = nil
 rest-rows source store p s top byte v (cons {x = e} a ls) (cons b bs) (cons c cs) (cons d ds) =
     cons (record { low = a; span = record { ordered = c .ordered; inside = c .inside }; valid = content-valid source (chunkOf p s e) v c d; text-low = b })
-        (rest-rows source store p s top byte v ls bs cs ds)
+    (rest-rows source store p s top byte v ls bs cs ds)
 
 pub walk-start : {indentor source store t p s : List ℕ} {top byte : ℕ} (exclude : List ℕ) (mark : Bool) (z : Row) → WalkReady indentor source store t p s top byte → z ≡ rowAt t 0
     → WalkAt indentor exclude source store t p s mark top byte (z .start) t p s 0 (z .next) mark top byte
@@ -197,8 +197,16 @@ module _ {indentor exclude source store t₀ p₀ s₀ : List ℕ} {mark₀ : Bo
           ap length (next .place),
           length-append us (cur ∷ bs),
         )))
-        (λ y. inr (omega (arith, y, ap (sum chunk-bytes) q, sum-append chunk-bytes (chunksAt t p s us) (C .chunks ++ D .chunks), sum-append chunk-bytes
-            (C .chunks) (D .chunks), w .bytes-used, w .bytes .len)))
+        (λ y. inr (omega (
+          arith,
+          y,
+          ap (sum chunk-bytes) q,
+          sum-append chunk-bytes (chunksAt t p s us) (C .chunks ++ D .chunks),
+          sum-append chunk-bytes
+              (C .chunks) (D .chunks),
+          w .bytes-used,
+          w .bytes .len,
+        )))
         (d .past z) in
         record { zero-or = inr z; done = λ y. absurd (nz y); past = λ _. P }
 
@@ -252,7 +260,7 @@ module _ {indentor exclude source store t₀ p₀ s₀ : List ℕ} {mark₀ : Bo
                 result-here
                 ∙ ap (λ (l : List Chunk). record { mark = D .mark; chunks = l }) (sym (append-assoc (chunksAt t p s us) (C .chunks) (D .chunks)))
                 ∙ ap₂ (λ (l : List Chunk) (y : IndentedChunks). then-chunks l y) (sym done-chunks)
-                    (ap₂ (λ (m : Bool) (l : List Chunk). indented-chunks indentor exclude source m l) (sym (d .mark-is)) (sym rest-chunks));
+                (ap₂ (λ (m : Bool) (l : List Chunk). indented-chunks indentor exclude source m l) (sym (d .mark-is)) (sym rest-chunks));
             rows-used = omega (arith, rows-here, d .rows-used, ap (sum chunk-pieces) rest-chunks);
             bytes-used = omega (arith, d .bytes-used, w .bytes-used, ap (sum chunk-bytes) done-chunks, sum-append chunk-bytes (chunksAt t p s us) (C .chunks));
           }

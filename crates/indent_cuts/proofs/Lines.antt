@@ -132,8 +132,8 @@ module _ (exclude source t₀ : List ℕ) (i from₀ end : ℕ) (mark₀ : Bool)
           spliced = cutting-end (a .cutting);
           chunks = λ p s indentor r.
               map-append (chunkOf p s) (a .ds) (entryAt t cur ∷ [])
-                  ∙ sym (a .chunks p s indentor r ∙ ap (λ (l : List ℕ). map (chunkOf p s) (a .ds) ++ split-lines indentor
-                  (chunkOf p s (entryAt t cur)) l) s0);
+              ∙ sym (a .chunks p s indentor r ∙ ap (λ (l : List ℕ). map (chunkOf p s) (a .ds) ++ split-lines indentor
+              (chunkOf p s (entryAt t cur)) l) s0);
           low = λ p top byte b k. let x = a .low p top byte b k in all-snoc (x .0) (x .1);
         },
         sym (a .mark-is ∙ ap markF e),
@@ -171,7 +171,7 @@ module _ (exclude source t₀ : List ℕ) (i from₀ end : ℕ) (mark₀ : Bool)
     unfolding startsF
     lines-full f =
         let q : parts (entryAt t cur .start) (W .starts) ≡ suc (parts x (W' .starts)) = ap (λ (r : Starts). parts (entryAt t cur .start) (r .starts)) next
-            ∙ parts-inside (entryAt t cur .start) x (W' .starts) past-start in
+        ∙ parts-inside (entryAt t cur .start) x (W' .starts) past-start in
         record {
           zero-or = inr refl;
           done = λ z. absurd (omega arith);
@@ -201,8 +201,8 @@ module _ (exclude source t₀ : List ℕ) (i from₀ end : ℕ) (mark₀ : Bool)
               ∙ ap (λ (l : List Chunk). map (chunkOf p s) (a .ds) ++ l) (split-lines-inside indentor c0 x (W' .starts) past-start)
               ∙ sym (
               ap₂ (λ (u : List Chunk) (d : Chunk). u ++ split-lines indentor d (W' .starts)) (map-append (chunkOf p s) (a .ds) (first x e ∷ [])
-                  ∙ ap (λ (d : Chunk). map (chunkOf p s) (a .ds) ++ d ∷ []) (lift-first p s x e))
-                  (ap (chunkOf p s) e' ∙ lift-begun p s x e indentor r)
+              ∙ ap (λ (d : Chunk). map (chunkOf p s) (a .ds) ++ d ∷ []) (lift-first p s x e))
+              (ap (chunkOf p s) e' ∙ lift-begun p s x e indentor r)
               ∙ append-assoc (map (chunkOf p s) (a .ds)) (first-half x c0 ∷ []) (split-lines indentor (with-texts (prepend-intro indentor) (second-half x c0)) (W' .starts)));
           low = λ p top byte b z.
               let y = a .low p top byte b z in

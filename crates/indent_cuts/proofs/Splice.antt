@@ -183,7 +183,7 @@ cutting-more {t₀} {t} {t'} {i} {cur} {n} {q} {ds} c d =
           let ws = k .ws in
           let o1 : order t ≡ (us ++ ws) ++ cur ∷ bs = k .order-is ∙ sym (append-assoc us ws (cur ∷ bs)) in
           let h : map (entryAt t') (us ++ ws) ≡ map (entryAt t) (us ++ ws) = kept t t' (us ++ ws) cur (d .off) (others t (us ++ ws) cur bs (c .linked) o1 .0)
-              (ranges t (us ++ ws) cur bs (c .linked) o1 .0) in
+          (ranges t (us ++ ws) cur bs (c .linked) o1 .0) in
           record {
             ws = ws ++ cur ∷ [];
             order-is = d .order-is (us ++ ws) bs o1 ∙ append-assoc us ws (cur ∷ n ∷ bs) ∙ ap (λ (l : List ℕ). us ++ l) (sym (append-assoc ws (cur ∷ []) (n ∷ bs)));

@@ -83,8 +83,11 @@ pub record RunIndented (indentor : Text) (mark : Bool) (ts : List Text) (p s : L
 -- one text more
 indent-snoc : (indentor : Text) (mark : Bool) (l : List Text) (t : Text)
     → indent-pieces indentor mark (l ++ (t ∷ []))
-    ≡ record { mark = indent-frag indentor (indent-pieces indentor mark l .mark) t .mark; pieces = indent-pieces indentor mark l .pieces ++
-        (indent-frag indentor (indent-pieces indentor mark l .mark) t .text ∷ []) }
+    ≡ record {
+      mark = indent-frag indentor (indent-pieces indentor mark l .mark) t .mark;
+      pieces = indent-pieces indentor mark l .pieces ++
+          (indent-frag indentor (indent-pieces indentor mark l .mark) t .text ∷ []);
+    }
 indent-snoc indentor mark [] t = refl
 indent-snoc indentor mark (x ∷ l) t = ap (then-piece (indent-frag indentor mark x .text)) (indent-snoc indentor (indent-frag indentor mark x .mark) l t)
 

@@ -81,5 +81,11 @@ pub fn lay_indentor(p: &mut [u32], s: &mut [u8], indentor: &[u8])
     if indentor.len() > memory_layout::STORE_LEN {
         return;
     }
-    memory_copy::push_piece(p, s, indentor, memory_layout::STORE_LEN, memory_layout::PIECE_ROWS);
+    memory_copy::push_piece(
+        p,
+        s,
+        indentor,
+        memory_layout::STORE_LEN,
+        memory_layout::PIECE_ROWS,
+    );
 }

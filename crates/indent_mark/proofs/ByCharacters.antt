@@ -127,7 +127,7 @@ module _ (indentor : Text) (cs : List Text) (ih : (k : Bool) → indent-chars in
       rw (e, f)
       (ap (then-text (indentor ++ (a ∷ t))) (ih false)
       ∙ cong-record (sym (run-mark t (concat cs) k)) (append-tail indentor a t (indent-bytes indentor false (concat cs))
-          ∙ ap (λ (r : Text). (indentor ++ (a ∷ [])) ++ r) (sym (run-text indentor t (concat cs) k))))
+      ∙ ap (λ (r : Text). (indentor ++ (a ∷ [])) ++ r) (sym (run-text indentor t (concat cs) k))))
   long-step a t k false l r e f =
       rw (e, f) (ap (then-text (a ∷ t)) (ih false) ∙ cong-record (sym (run-mark t (concat cs) k)) (ap (λ (r : Text). a ∷ r) (sym (run-text indentor t (concat cs) k))))
 
@@ -158,7 +158,7 @@ run-starts exclude mark i (b ∷ t) s (cons h k) =
   where
     go : (m l r f x : Bool) → l ≡ false → r ≡ false → f ≡ true
         → cond ((m && (not l && not r)) && (not f && not x)) (then-start i (starts-from exclude false (i + 1) (t ++ s)))
-            (starts-from exclude (m || (l && not x)) (i + 1) (t ++ s)) ≡ starts-from exclude m (i + 1) (t ++ s)
+        (starts-from exclude (m || (l && not x)) (i + 1) (t ++ s)) ≡ starts-from exclude m (i + 1) (t ++ s)
     go true l r f x e e' e'' = rw (e, e', e'')
     go false l r f x e e' e'' = rw e
 

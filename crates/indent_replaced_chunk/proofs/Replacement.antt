@@ -50,7 +50,7 @@ written-short {s} {s'} {byte} {end} indentor mark text part {fits} e f g =
 
 pub replacement-written : {store t s t' s' : List ℕ} {i byte end : ℕ} (indentor : List ℕ) (mark : Bool) {mark' : Bool} {r q : Row} → ReplacementReady store t s i byte → r ≡ rowAt t i
     → {fits : Bool} → WrittenAt indentor mark (bytesAt store (r .«text_at», r .«text_n»)) s byte s' fits mark' end → fits ≡ true →
-        Rewritten r q (withText (byte, end - byte) (entryOf r)) → Put t t' i q → length t' ≡ length t
+    Rewritten r q (withText (byte, end - byte) (entryOf r)) → Put t t' i q → length t' ≡ length t
     → ReplacementDone indentor store t s i mark byte t' s' 0 mark' end
 replacement-written {store} {t} {s} {t'} {s'} {i} {byte} {end} indentor mark {mark'} {r} {q} h er w₀ f c u m =
     let w = subst (λ (b : Bool). WrittenAt indentor mark (bytesAt store (r .«text_at», r .«text_n»)) s byte s' b mark' end) f w₀ in
@@ -58,7 +58,7 @@ replacement-written {store} {t} {s} {t'} {s'} {i} {byte} {end} indentor mark {ma
     let v = subst (λ (y : Place). WrittenAt indentor mark (bytesAt store y) s byte s' true mark' end) e w in
     let n : end - byte ≡ length (indent-frag indentor mark (bytesAt store (entryAt t i .text)) .text) = omega (arith, v .end-is refl) in
     let c' = subst (λ (y : Entry). Rewritten r q (withText (byte, length (indent-frag indentor mark (bytesAt store (entryAt t i .text)) .text)) y))
-        (ap entryOf er) (subst (λ (y : ℕ). Rewritten r q (withText (byte, y) (entryOf r))) n c) in
+    (ap entryOf er) (subst (λ (y : ℕ). Rewritten r q (withText (byte, y) (entryOf r))) n c) in
     record {
       zero-or = inl refl;
       done = λ _.

@@ -44,7 +44,7 @@ run-cons p s at m =
     ∙ tabulate-cons (λ k. bytesAt s (pieceAt p (at + k))) m
     ∙ ap₂ (λ (x : Text) (l : List Text). x ∷ l) (ap (λ (j : ℕ). bytesAt s (pieceAt p j)) z)
     (tabulate-ext (λ k. bytesAt s (pieceAt p (at + suc k))) (λ k. bytesAt s (pieceAt p (at + 1 + k))) m (λ k h. let e : at + suc k ≡ at + 1 + k = omega arith in rw e)
-        ∙ sym (run-tabulate p s (at + 1) m))
+    ∙ sym (run-tabulate p s (at + 1) m))
 
 first-of : List Text → Text
 first-of [] = []

@@ -313,6 +313,12 @@ pub fn indent_steps(
         (now (t .exit)) (now (p .exit)) (now (s .exit)) r ⌝ }
 {
     indent_head_tail::lay_indentor(p, s, indentor);
-    let first = run_begins(t, HEAD, false, memory_layout::INDENT_ROW, memory_layout::INDENT_BYTE);
+    let first = run_begins(
+        t,
+        HEAD,
+        false,
+        memory_layout::INDENT_ROW,
+        memory_layout::INDENT_BYTE,
+    );
     walk_texts(source, pieces, store, indentor, exclude, t, p, s, first)
 }

@@ -58,7 +58,7 @@ module _ {d : List ℕ} {place : ℕ} {indentor : Text} {mark : Bool} {text : Te
   putting-short u h v t =
       let rest : Text = indent-bytes indentor (mark-behind mark (take (i + 1) text)) (drop (i + 1) text) in
       let q : indent-bytes indentor mark text ≡ indent-bytes indentor mark (take (i + 1) text) ++ rest = ap (indent-bytes indentor mark) (sym (take-append-drop (i + 1) text))
-          ∙ indent-append indentor mark (take (i + 1) text) (drop (i + 1) text) in
+      ∙ indent-append indentor mark (take (i + 1) text) (drop (i + 1) text) in
       rw (indent-frag-is indentor mark text u, q) (fill-front rest (filled-more h v) t)
 
   pub putting-all : utf8 text ≡ true → length text ≤ i → Filling d place (indent-frag indentor mark text .text) d' true end

@@ -6,10 +6,10 @@ ghost use mathlib.Core.Path.{_≡_};
 ghost use Rattle.memory.specs.WellFormed.{WellFormed};
 ghost use Rattle.memory_used.specs.Above.{Desk};
 ghost use Rattle.inner_calls.specs.Paper.{PaperMade};
+use check_well_formed::Seen;
 use memory::Answer;
 use memory_used::Outcome;
 use memory_used::Used;
-use check_well_formed::Seen;
 
 // A call of a paper: its kind, up to three numbers, and where its text lies among the texts.
 struct Call {

@@ -5,8 +5,8 @@ ghost use Rattle.model.specs.Call.{trim-lines, indent-with};
 ghost use Rattle.memory.specs.Calls.{Edited};
 ghost use Rattle.memory.specs.Calls.{indentor-of};
 ghost use Rattle.memory.specs.Calls.{flag};
-use memory::Answer;
 use check_well_formed::Seen;
+use memory::Answer;
 
 // The answer for memory that holds no well-formed desk.
 const NO_DESK: u32 = 2;

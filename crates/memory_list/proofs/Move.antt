@@ -121,7 +121,7 @@ module _ (t : List ℕ) (k : Linked t) (s : Parts t) where
           e3 .fwd,
           tail-le E (countOf t) (s3 .0) (s .ys) (s3 .2)
               (each-right P (s .bs) (s .ys) (each-right P (s .ws) (s .b ∷ (s .bs ++ s .ys))
-                  (each-right P (s .us) (s .a ∷ (s .ws ++ s .b ∷ (s .bs ++ s .ys))) (rw (s .place) at (k .ring .inside)) .1) .1)),
+              (each-right P (s .us) (s .a ∷ (s .ws ++ s .b ∷ (s .bs ++ s .ys))) (rw (s .place) at (k .ring .inside)) .1) .1)),
         ),
       )
 

@@ -118,7 +118,7 @@ module _ (ts us vs : List Text) {p s : List ℕ} {byte row : ℕ} {p' s' : List 
       let e = rw (place-of k h) at (carried-piece (ts ++ take k us) (getD us k []) (drop (suc k) us ++ vs) (rw q at c) (omega (arith, room .rows-in)) (omega (arith, room .bytes-in))) in
       let l = concat-length (ts ++ take k us) (getD us k [] ∷ (drop (suc k) us ++ vs)) in
       let m : length (concat (getD us k [] ∷ (drop (suc k) us ++ vs))) ≡ length (getD us k []) + length (concat (drop (suc k) us ++ vs)) =
-          ap length (concat-cons (getD us k []) (drop (suc k) us ++ vs)) ∙ length-append (getD us k []) _ in
+      ap length (concat-cons (getD us k []) (drop (suc k) us ++ vs)) ∙ length-append (getD us k []) _ in
       let b : byte' ≡ byte + length (concat ((ts ++ take k us) ++ (getD us k [] ∷ (drop (suc k) us ++ vs)))) = rw (← q) (c .byte-is) in
       let a : length (ts ++ (us ++ vs)) ≡ length ts + (length us + length vs) = length-append ts (us ++ vs) ∙ ap (λ (x : ℕ). length ts + x) (length-append us vs) in
       (omega (arith, c .row-is), omega (arith, ap (λ (r : Place). r .0 + r .1) e))

@@ -54,7 +54,7 @@ closed-accepted e m h = arguments (refused-first n e) refl h
 
     made : refused-first n e ≡ 0 → (b : Bool) → cuttable (cuts P) (m .chunks) ≡ b
         → cond b (cond (ends-past n P) (err 10 (with-chunks m cs)) (cond (in-order P cs) (ok (apply P m)) (err (order-number P) (with-chunks m (left-over P cs)))))
-            (err 6 (with-chunks m (cut-until-refused (cuts P) (m .chunks)))) .number ≡ 0 → Accepted e m
+        (err 6 (with-chunks m (cut-until-refused (cuts P) (m .chunks)))) .number ≡ 0 → Accepted e m
     made f true c h = inside f c (ends-past n P) refl h
     made f false c h = absurd (omega arith)
 

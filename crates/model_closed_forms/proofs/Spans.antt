@@ -81,7 +81,7 @@ member-covers [] = nil
 member-covers (c ∷ cs) =
     let h : (x : ℕ) → Inside (start-of c) (end-of c) x → 1 ≤ covers x c + sum (covers x) cs = λ x i. omega (arith, covers-in x c i) in
     let w : (d : Chunk) → ((x : ℕ) → Inside (start-of d) (end-of d) x → 1 ≤ sum (covers x) cs) → (x : ℕ) → Inside (start-of d) (end-of d) x →
-        1 ≤ covers x c + sum (covers x) cs = λ d k x i. omega (arith, k x i) in
+    1 ≤ covers x c + sum (covers x) cs = λ d k x i. omega (arith, k x i) in
     cons h (all-map w (member-covers cs))
 
 -- each chunk covers its own first byte, and its own last

@@ -123,7 +123,7 @@ split-at-cover p m v = go (bool-cases (eqb p 0 || (leb (length (m .source)) p ||
 
     go : (eqb p 0 || (leb (length (m .source)) p || is-some (by-end p (m .chunks))) ≡ true) ⊎ (eqb p 0 || (leb (length (m .source)) p || is-some (by-end p (m .chunks))) ≡ false)
         → cond (eqb p 0 || (leb (length (m .source)) p || is-some (by-end p (m .chunks)))) (ok m)
-            (cond (refuses-split (holder p (m .chunks))) (err 6 m) (ok (with-chunks m (split-holder p (m .chunks))))) ≡ cut-result p m
+        (cond (refuses-split (holder p (m .chunks))) (err 6 m) (ok (with-chunks m (split-holder p (m .chunks))))) ≡ cut-result p m
     go (inl h) = let n = idle-aligned p v h in rw (h, aligned-splittable p n, cut-none p n)
     go (inr h) =
         rw (h, refuses-law p (m .chunks) (cover-once v), split-holder-is-cut p (m .chunks) (cover-once v))

@@ -38,7 +38,7 @@ run-done y b (c ∷ cs) = go (eqb y b) (eqb (start-of c) y) (run-done (end-of c)
   where
     go : (u v : Bool) → clear-run (end-of c) b cs .done ≡ ascends (end-of c) b cs
         → cond u (record { done = true; chunks = c ∷ cs }) (cond v (onto (with-texts (edit [] true) c) (clear-run (end-of c) b cs))
-            (record { done = false; chunks = c ∷ cs })) .done ≡ u || (v && ascends (end-of c) b cs)
+        (record { done = false; chunks = c ∷ cs })) .done ≡ u || (v && ascends (end-of c) b cs)
     go true v ih = refl
     go false true ih = ih
     go false false ih = refl
@@ -67,7 +67,7 @@ module _ (a b : ℕ) (t : Text) (o : Bool) where
     where
       go : Dec (y ≡ b) → (eqb y b ≡ true) ⊎ (eqb (start-of c) y && ascends (end-of c) b cs ≡ true)
           → (a < end-of c → Once cs → All Proper cs → All (λ d. Inside a (end-of c) (start-of d) → ⊥) cs → ascends (end-of c) b cs ≡ true →
-              clear-run (end-of c) b cs .chunks ≡ map (acted (replace a b t o)) cs)
+          clear-run (end-of c) b cs .chunks ≡ map (acted (replace a b t o)) cs)
           → clear-run y b (c ∷ cs) .chunks ≡ map (acted (replace a b t o)) (c ∷ cs)
       go (yes e) _ ih = rw (eq-eqb y b e) (replace-none (all-map (λ d k i. k (omega arith)) n))
       go (no e) (inl k) ih = absurd (e (eqb-true y b k))
@@ -96,7 +96,7 @@ module _ (a b : ℕ) (t : Text) (o : Bool) where
           let p : start-of c < end-of c = first-of pr in
           let m : (d : Chunk) → 1 ≤ sum (covers (start-of d)) cs → Inside a (end-of c) (start-of d) → ⊥ = λ d u i. omega (arith, one (start-of d), covers-in (start-of d) c (omega arith)) in
           let r : clear-run (end-of c) b cs .chunks ≡ map (acted (replace a b t o)) cs = run-chunks (end-of c) cs (omega arith) (once-rest c cs one)
-              (rest-of pr) (all-map m (self-covered (rest-of pr))) f in
+          (rest-of pr) (all-map m (self-covered (rest-of pr))) f in
           let d : acted (replace a b t o) c ≡ with-texts (λ x. cond (eqb (start-of c) a) (edit t o x) (bare (some []))) c = replace-in a b t o c (omega arith) in
           rw (eq-eqb (start-of c) a e, run-done (end-of c) b cs, f) (ap₂ (λ x l. x ∷ l) (sym (d ∙ rw (eq-eqb (start-of c) a e))) r)
       go (no e) ih =
@@ -175,7 +175,7 @@ walk-clears a b t o (c ∷ cs) one pr h = go (ℕ-discrete (start-of c) a) (walk
         reached : a < start-of c → ascends-from a (end-of c) cs ≡ true → ⊥
         reached l h =
             let g : Together a (end-of c) cs = together-of a (end-of c) cs (rest-of pr)
-                (sym (ascends-from-is-together a (end-of c) cs (λ q. omega (arith, p)) (once-rest c cs one) (rest-of pr)) ∙ h) in
+            (sym (ascends-from-is-together a (end-of c) cs (λ q. omega (arith, p)) (once-rest c cs one) (rest-of pr)) ∙ h) in
             omega (arith, one (end-of c - 1), covers-in (end-of c - 1) c (omega (arith, p)), together-cover a (end-of c) (end-of c - 1) cs g (omega (arith, p)) (omega (arith, p)))
 
         side : Dec (a < start-of c) → ltb a (start-of c) && ascends-from a (end-of c) cs ≡ false
@@ -212,7 +212,7 @@ walk-leaves a b t o cs one pr h =
 -- accepted exactly if the range stands together; else 7, with the chunks cleared so far
 pub update-chunks-closed : (a b : ℕ) (t : Text) (o : Bool) (m : MagicString) → a < b → Once (m .chunks) → All Proper (m .chunks)
     → update-chunks a b t o m ≡ cond (stands-together a b (m .chunks)) (ok (with-chunks m (map (acted (replace a b t o)) (m .chunks))))
-        (err 7 (with-chunks m (map (cleared-so-far a (m .chunks)) (m .chunks))))
+    (err 7 (with-chunks m (map (cleared-so-far a (m .chunks)) (m .chunks))))
 unfolding update-chunks
 update-chunks-closed a b t o m ab one pr = go (bool-cases (ascends-from a b (m .chunks)))
   where

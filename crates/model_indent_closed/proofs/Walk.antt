@@ -102,7 +102,7 @@ module _ (t : Text) (m : MagicString) (xs : List Chunk) (c : Chunk) (ys : List C
   unfolding right-step
   step-found q n h =
       some-is (by-start q (xs ++ c ∷ ys)) c (ok (with-outro (with-chunks m (xs ++ c ∷ ys)) (push-front t (m .outro))))
-          (ok (with-chunks m (at-start q (prepend-intro t) (xs ++ c ∷ ys)))) (start-at q c ys n h)
+      (ok (with-chunks m (at-start q (prepend-intro t) (xs ++ c ∷ ys)))) (start-at q c ys n h)
       ∙ ap (λ (l : List Chunk). ok (with-chunks m l)) (start-set q (prepend-intro t) c ys n h)
 
 module _ (i : ℕ) (t : Text) (m : MagicString) (xs : List Chunk) (c : Chunk) (ys : List Chunk) (v : Cover (m .source) (xs ++ c ∷ ys)) where
@@ -164,10 +164,15 @@ starts-ascend exclude e mark i (cons {x = c} {xs = cs} n ns) h =
     let P : Starts → Type 0 = λ r. Ascends i e (r .starts) in
     let behind : (mark : Bool) → Ascends (i + length c) e (line-starts exclude mark (i + length c) cs .starts) = λ mark. starts-ascend exclude e mark (i + length c) ns (omega arith) in
     let rest : (mark : Bool) → Ascends i e (line-starts exclude mark (i + length c) cs .starts) = λ mark. ascends-from i (i + length c) e
-        (line-starts exclude mark (i + length c) cs .starts) (omega arith) (behind mark) in
-    let here : Ascends i e (i ∷ line-starts exclude false (i + length c) cs .starts) =
-        (omega arith, (omega arith, ascends-from (suc i) (i + length c) e (line-starts exclude false (i + length c) cs .starts) (omega arith)
-        (behind false))) in
+    (line-starts exclude mark (i + length c) cs .starts) (omega arith) (behind mark) in
+    let here : Ascends i e (i ∷ line-starts exclude false (i + length c) cs .starts) = (
+      omega arith,
+      (
+        omega arith,
+        ascends-from (suc i) (i + length c) e (line-starts exclude false (i + length c) cs .starts) (omega arith)
+            (behind false),
+      ),
+    ) in
     of-either P (excluded exclude i) (rest mark)
     (of-either P (is-line-feed c) (rest true)
     (of-either P (takes-mark mark c) here (rest mark)))
@@ -178,7 +183,7 @@ pub chunk-ascends : (source : Text) (c : Chunk) → Fits source c → (exclude :
 chunk-ascends source c h exclude mark =
     let n : ℕ = end-of c - start-of c in
     let l : length (concat (chars (span-text (c .span) source))) ≡ n = ap length (concat-chars (span-text (c .span) source)) ∙ length-take n (drop (start-of c) source)
-        ∙ omega (arith, length-drop (start-of c) source) in
+    ∙ omega (arith, length-drop (start-of c) source) in
     starts-ascend exclude (end-of c) mark (start-of c) (chars-some (span-text (c .span) source)) (omega arith)
 
 -- what a step leaves, and that its spans still cover the source

@@ -105,8 +105,13 @@ new-covered : (source : Text) → Valid source → Covered source (new-chunk 0 (
 new-covered [] v = refl
 new-covered (a ∷ s) v =
     record {
-      spans = cons {x = new-chunk 0 (length (a ∷ s))} (record { proper = omega arith; inside = omega arith; start-between = between-zero (a ∷ s); end-between =
-          between-past (a ∷ s) (length (a ∷ s)) v (omega arith) }) nil;
+      spans = cons {x = new-chunk 0 (length (a ∷ s))} (record {
+        proper = omega arith;
+        inside = omega arith;
+        start-between = between-zero (a ∷ s);
+        end-between =
+            between-past (a ∷ s) (length (a ∷ s)) v (omega arith);
+      }) nil;
       once = λ x l. omega (arith, covers-in x (new-chunk 0 (length (a ∷ s))) (omega arith, l));
     }
 

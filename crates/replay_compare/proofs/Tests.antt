@@ -84,8 +84,10 @@ module _ (out bytes : List ℕ) where
   -- x is the rest of the buffer, as a part of it
   pub written-decides : {r : Bool} (x : List ℕ) → take (length bytes) out ≡ bytes → x ≡ drop (length bytes) out → Decides r (x ≡ filled (length x)) → Decides r (Written out bytes)
   written-decides x e q d = record {
-    yes = λ t. record { out-is = sym (take-append-drop (length bytes) out) ∙ ap (λ (l : List ℕ). l ++ drop (length bytes) out) e
-        ∙ ap (λ (l : List ℕ). bytes ++ l) (sym q ∙ d .yes t ∙ ap (λ (l : List ℕ). filled (length l)) q
-        ∙ ap filled (length-drop (length bytes) out)) };
+    yes = λ t. record {
+      out-is = sym (take-append-drop (length bytes) out) ∙ ap (λ (l : List ℕ). l ++ drop (length bytes) out) e
+          ∙ ap (λ (l : List ℕ). bytes ++ l) (sym q ∙ d .yes t ∙ ap (λ (l : List ℕ). filled (length l)) q
+          ∙ ap filled (length-drop (length bytes) out));
+    };
     no = λ f w. d .no f (q ∙ written-back w ∙ ap (λ (l : List ℕ). filled (length l)) (sym q));
   }

@@ -65,7 +65,7 @@ module _ {p s t : List ℕ} {start end n k row : ℕ} (c : Ranging p s t start e
       split =
           c .any-is ∙ ap (λ (x : List Entry). any (holding start end) (map (chunkOf p s) x)) (entries-drop t k l (omega (arith, c .count-is)))
           ∙ ap (λ (b : Bool). b || any (holding start end) (map (chunkOf p s) (drop (suc k) (entries t))))
-              (holding-is p s start end (section t (suc k)) ∙ ap (λ (x : Entry). within (x .start) (x .end) (x .text .0) start end) (sym entry))
+          (holding-is p s start end (section t (suc k)) ∙ ap (λ (x : Entry). within (x .start) (x .end) (x .text .0) start end) (sym entry))
 
       pub ranging-found : (source : List ℕ) → within (r .start) (r .end) (r .«text_at») start end ≡ true → Told (IsRange start end) (magicStringOf source t p s) [] [] 0 1
       ranging-found source f = range-told source t p s start end true (split ∙ ap (λ (b : Bool). b || any (holding start end) (map (chunkOf p s) (drop (suc k) (entries t)))) f)

@@ -112,8 +112,8 @@ module _ {source t p s : List ℕ} {stop g row item o : ℕ} (c : Comparing sour
     pub comparing-differs : prefix text (drop o source) ≡ false → Told HasChanged (magicStringOf source t p s) [] [] 0 1
     comparing-differs e =
         let q : concat (rest source t p s g item) ≡ text ++ concat (rest source t p s g (suc item)) =
-            ap concat (Rattle.memory_fragments.proofs.Sections.rest-cons source t p s g item walks (c .on .item-in))
-            ∙ concat-cons text (rest source t p s g (suc item)) in
+        ap concat (Rattle.memory_fragments.proofs.Sections.rest-cons source t p s g item walks (c .on .item-in))
+        ∙ concat-cons text (rest source t p s g (suc item)) in
         changed-is source t p s false (c .same-is ∙ ap (same (drop o source)) q ∙ same-append text (drop o source) (concat (rest source t p s g (suc item)))
         ∙ ap (λ (x : Bool). x && same (drop (length text) (drop o source)) (concat (rest source t p s g (suc item)))) e)
 

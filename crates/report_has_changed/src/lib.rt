@@ -8,8 +8,8 @@ ghost use Rattle.memory.specs.Layout.{magicStringOf};
 ghost use Rattle.memory.specs.WellFormed.{WellFormed};
 ghost use Rattle.memory.specs.Calls.{Told};
 ghost use Rattle.report_has_changed.specs.Changed.{prefix};
-use memory_fragments::Cursor;
 use memory::Answer;
+use memory_fragments::Cursor;
 
 // Whether the source from o on begins with t.
 fn begins(source: &[u8], o: usize, t: &[u8]) -> bool

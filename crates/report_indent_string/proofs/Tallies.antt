@@ -255,7 +255,6 @@ fewest-step true k n ls = least-more k n ls
 fewest-step false k n ls = refl
 
 module _ {s : Text} {t : Tally} {i : ℕ} (c : Tallied s t i) where
-
   module _ (h : i < length s) where
     -- the place behind the line's spaces
     pub tallied-end : (end : ℕ) → end ≡ i + leading-spaces (drop i s) → (i ≤ end) × (end ≤ length s)

@@ -76,7 +76,7 @@ module _ (f : Text → ℕ) where
       let more = fragmentsAll source p s later in
       let n : suc g + (stop - suc g) ≡ stop = omega arith in
       let a : sum f (drop (suc item) (fragmentsAll source p s (drop g (sections t)))) ≡ sum f (drop (suc item) (fs ++ more)) =
-          ap (λ (x : List Entry). sum f (drop (suc item) (fragmentsAll source p s x))) (sections-drop t g k) in
+      ap (λ (x : List Entry). sum f (drop (suc item) (fragmentsAll source p s x))) (sections-drop t g k) in
       let b : sum f more ≤ sum f (drop (suc item) (fs ++ more)) = sum-behind (suc item) fs more (omega (arith, size-is source p s (section t g))) in
       let e : drop (stop - suc g) later ≡ drop stop (sections t) = drop-drop (stop - suc g) (suc g) (sections t) ∙ ap (λ (m : ℕ). drop m (sections t)) n in
       let c : sum f (fragmentsAll source p s (drop (stop - suc g) later)) ≤ sum f more = sum-later source p s (stop - suc g) later in

@@ -5,8 +5,8 @@ ghost use Rattle.model.specs.Call.{is-empty as IsEmpty};
 ghost use Rattle.memory.specs.Layout.{magicStringOf};
 ghost use Rattle.memory.specs.WellFormed.{WellFormed};
 ghost use Rattle.memory.specs.Calls.{Told};
-use memory_fragments::Cursor;
 use memory::Answer;
+use memory_fragments::Cursor;
 
 // `is_empty`: whether no fragment of a chunk has more than white space. Stops at the first that has.
 pub fn is_empty<'a>(source: &'a [u8], chunks: &[u32], pieces: &[u32], store: &'a [u8]) -> Answer

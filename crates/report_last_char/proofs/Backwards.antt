@@ -262,8 +262,8 @@ module _ (source t p s : List ℕ) (w : WellFormed source t p s) where
       seeking-found v g n =
           told-value LastChar (magicStringOf source t p s) v
           (ap value-of (ap (λ (y : Option ℕ). unwrap-or y 0xFFFF_FFFF) (sym here)
-              ∙ gives-value (or-else (lastOf source p s (entryOf r)) (lastTo (sectionLast source t p s) (left - 1))) v
-              (gives-first (lastOf source p s (entryOf r)) (lastTo (sectionLast source t p s) (left - 1)) v g n)))
+          ∙ gives-value (or-else (lastOf source p s (entryOf r)) (lastTo (sectionLast source t p s) (left - 1))) v
+          (gives-first (lastOf source p s (entryOf r)) (lastTo (sectionLast source t p s) (left - 1)) v g n)))
 
       pub seeking-more : (v : ℕ) → Gives (lastOf source p s (entryOf r)) v → v ≡ 0xFFFF_FFFF → Seeking source t p s (left - 1) (r .prev)
       seeking-more v g n = record {

@@ -61,7 +61,14 @@ fn last_of_row<'a>(source: &'a [u8], pieces: &[u32], store: &'a [u8], row: Row) 
     if a != NO_CHAR {
         return a;
     }
-    let b = last_code(memory_texts::content(source, store, row.start, row.end, row.text_at, row.text_n));
+    let b = last_code(memory_texts::content(
+        source,
+        store,
+        row.start,
+        row.end,
+        row.text_at,
+        row.text_n,
+    ));
     if b != NO_CHAR {
         return b;
     }

@@ -10,9 +10,9 @@ ghost use Rattle.memory.specs.WellFormed.{WellFormed};
 ghost use Rattle.memory.specs.Calls.{Told};
 ghost use Rattle.memory_texts.specs.Over.{Wrote};
 ghost use Rattle.report_last_line_start.specs.Line.{LineFrom};
+use memory::Answer;
 use memory_fragments::Cursor;
 use report_last_line_start::LineStart;
-use memory::Answer;
 
 // Writes a text from its byte `at` on into `out`, into what is left of it from o on. Returns the place behind.
 fn put_from(out: &mut [u8], o: usize, text: &[u8], at: usize) -> usize

@@ -75,7 +75,7 @@ module _ (source t p s : List ℕ) where
       let a = fragmentsAll source p s (take g (sections t)) in
       let b = fragmentsAll source p s (drop g (sections t)) in
       let e : fragmentsAll source p s (sections t) ≡ a ++ b = ap (fragmentsAll source p s) (sym (take-append-drop g (sections t)))
-          ∙ all-append source p s (take g (sections t)) (drop g (sections t)) in
+      ∙ all-append source p s (take g (sections t)) (drop g (sections t)) in
       let q : concat b ≡ concat (take item b) ++ concat (drop item b) = ap concat (sym (take-append-drop item b)) ∙ concat-append (take item b) (drop item b) in
       ap concat e ∙ concat-append a b ∙ ap (λ (x : Text). concat a ++ x) q ∙ sym (append-assoc (concat a) (concat (take item b)) (concat (drop item b)))
 
@@ -90,7 +90,7 @@ module _ (source t p s : List ℕ) where
     pub left-short : (g item : ℕ) → length (left g item) ≤ most-output
     left-short g item =
         let e : length (left 0 0) ≡ sum length (fragmentsAll source p s (sections t)) = ap (λ (x : List Text). length (concat x)) (rest-first source t p s)
-            ∙ sym (sum-length (fragmentsAll source p s (sections t))) in
+        ∙ sym (sum-length (fragmentsAll source p s (sections t))) in
         omega (arith, output-bound source t p s w, ap length (all-is g item), length-append (front g item) (left g item))
 
     -- the start, at the end of the output
@@ -205,11 +205,11 @@ module _ (source t p s : List ℕ) where
               let fore : Text = front g item ++ take (at - 1) x in
               let y : x ≡ take (at - 1) x ++ (getD x (at - 1) 0 ∷ drop at x) = sym (take-append-drop (at - 1) x) ∙ ap (λ (l : Text). take (at - 1) x ++ l) byte-is in
               let a : left g item ≡ take (at - 1) x ++ (getD x (at - 1) 0 ∷ tail) = here ∙ ap (λ (l : Text). l ++ left g (suc item)) y
-                  ∙ append-assoc (take (at - 1) x) (getD x (at - 1) 0 ∷ drop at x) (left g (suc item)) in
+              ∙ append-assoc (take (at - 1) x) (getD x (at - 1) 0 ∷ drop at x) (left g (suc item)) in
               let d : left 0 0 ≡ fore ++ (getD x (at - 1) 0 ∷ tail) = all-is g item ∙ ap (λ (l : Text). front g item ++ l) a
-                  ∙ sym (append-assoc (front g item) (take (at - 1) x) (getD x (at - 1) 0 ∷ tail)) in
+              ∙ sym (append-assoc (front g item) (take (at - 1) x) (getD x (at - 1) 0 ∷ tail)) in
               let f : behind-last-line-feed (left 0 0) ≡ some tail = ap behind-last-line-feed d ∙ behind-back fore (getD x (at - 1) 0 ∷ tail) tail
-                  (behind-feed (getD x (at - 1) 0) tail k (v .line .no-feed)) in
+              (behind-feed (getD x (at - 1) 0) tail k (v .line .no-feed)) in
               let q : last-line (magicStringOf source t p s) ≡ tail = line-is ∙ ap (or-whole (left 0 0)) f in
               record {
                 on = record { row-is = λ j. r; inside = omega arith; item-in = i };

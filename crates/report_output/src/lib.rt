@@ -8,8 +8,8 @@ ghost use Rattle.model.specs.Call.{to-string as ToString, len as Len, len-utf16
 ghost use Rattle.memory.specs.Layout.{magicStringOf};
 ghost use Rattle.memory.specs.WellFormed.{WellFormed};
 ghost use Rattle.memory.specs.Calls.{Told};
-use report_measures::Measure;
 use memory::Answer;
+use report_measures::Measure;
 
 // Writes the output to the front of `out`, section by section.
 pub fn write_output<'a>(

@@ -132,10 +132,10 @@ module _ (source t p s : List ℕ) (start end k row : ℕ) (found : FoundStart t
     split =
         slice-is source t p s start end ∙ ap (slice-from source start end) (f .find p s)
         ∙ ap (λ (x : Entry). pick (is-edited (chunkOf p s x) && not (eqb (x .start) start))
-            (sliceWalk source (eqb (x .start) start) (start - x .start) end (chunkOf p s x ∷ chunksOf p s (drop (suc k) (entries t))))) (sym entry)
+        (sliceWalk source (eqb (x .start) start) (start - x .start) end (chunkOf p s x ∷ chunksOf p s (drop (suc k) (entries t))))) (sym entry)
         ∙ ap (λ (b : Bool). pick (b && not (eqb (r .start) start))
-            (sliceWalk source (eqb (r .start) start) (start - r .start) end (chunkOf p s (entryOf r) ∷ chunksOf p s (drop (suc k) (entries t)))))
-            (edited-is s (r .«text_at», r .«text_n»))
+        (sliceWalk source (eqb (r .start) start) (start - r .start) end (chunkOf p s (entryOf r) ∷ chunksOf p s (drop (suc k) (entries t)))))
+        (edited-is s (r .«text_at», r .«text_n»))
         ∙ ap (λ (x : List Entry). pick (startsInside (r .start) (r .«text_at») start) (sliceWalk source (eqb (r .start) start) (start - r .start) end (chunksOf p s x)))
         (ap (λ (x : Entry). x ∷ drop (suc k) (entries t)) entry ∙ sym (entries-drop t k l found-in))
 
@@ -168,7 +168,7 @@ module _ (source t p s : List ℕ) (start end : ℕ) (d : List ℕ) where
   unfolding show magicStringOf
   shown-some b e f = ap (λ (x : Bool). cond (not (x && (between source end && true))) (refusal 3) (sliced-into (length d) (slice start end m))) e
       ∙ ap (λ (x : Bool). cond (not (x && true)) (refusal 3) (sliced-into (length d) (slice start end m))) f
-          ∙ ap (λ (x : Bool). cond (not x) (refusal 3) (sliced-into (length d) (slice start end m))) (mathlib.Core.Bool.and-true b)
+      ∙ ap (λ (x : Bool). cond (not x) (refusal 3) (sliced-into (length d) (slice start end m))) (mathlib.Core.Bool.and-true b)
 
   shown-none : between source start ≡ true → show (Slice start none (length d)) m ≡ sliced-into (length d) (slice start (length source) m)
   unfolding show magicStringOf

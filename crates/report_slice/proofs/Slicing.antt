@@ -143,7 +143,7 @@ module _ {w : Bool} {source t p s : List ℕ} {end : ℕ} {whole : Sliced} {d₀
   slicing-done h =
       let e : whole ≡ text (c .done) =
       c .whole-is ∙ ap (λ (x : List Entry). before (c .done) (sliceWalk source wi begin end (chunksOf p s x)))
-          (entries-end t k (f .readable .linked) (omega (arith, c .count-is))) ∙ ap text (append-nil (c .done)) in
+      (entries-end t k (f .readable .linked) (omega (arith, c .count-is))) ∙ ap text (append-nil (c .done)) in
       text-out (c .done) d o e (c .emitted)
 
   module _ (h : k < n) where

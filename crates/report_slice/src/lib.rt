@@ -103,7 +103,18 @@ fn slice_walk<'a>(
                 value: 0,
             };
         }
-        o = report_slice_chunk::chunk_slice(source, pieces, store, out, r, intro, begin, end, o, write);
+        o = report_slice_chunk::chunk_slice(
+            source,
+            pieces,
+            store,
+            out,
+            r,
+            intro,
+            begin,
+            end,
+            o,
+            write,
+        );
         if report_slice_chunk::contains_end(r.start, r.end, end) {
             return Answer {
                 number: 0,

@@ -32,5 +32,5 @@ unfolding chunk-slice contains-end
 chunk-slice-is source p s w begin end e =
     ap (λ (x : Text). x ++ (sliceContent source s e begin end ++ cond (showsOutro (e .start) (e .end) end) (concat (runOf p s (e .outro))) [])) (sym (run-shown p s (e .intro .0) (e .intro .1) w))
     ∙ ap (λ (x : Text). concat (runOf p s (e .intro .0, cond w (e .intro .1) 0)) ++ (sliceContent source s e begin end ++ x))
-        (sym (run-shown p s (e .outro .0) (e .outro .1) (showsOutro (e .start) (e .end) end)))
+    (sym (run-shown p s (e .outro .0) (e .outro .1) (showsOutro (e .start) (e .end) end)))
     ∙ sym (append-assoc (concat (runOf p s (e .intro .0, cond w (e .intro .1) 0))) (sliceContent source s e begin end) (outroText p s end e))

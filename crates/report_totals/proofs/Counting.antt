@@ -100,7 +100,7 @@ pub whole-is : (m : Measure) (source t p s : List ℕ) (stop n : ℕ) → WellFo
 whole-is m source t p s stop n w e x =
     let z : sum (measureOf m) (rest source t p s stop 0) ≡ 0 = ap (sum (measureOf m)) (rest-end source t p s stop 0 (omega arith)) in
     let a : sum (measureOf m) (rest source t p s 0 0) ≡ sum (measureOf m) (fragments (magicStringOf source t p s)) = ap (sum (measureOf m)) (rest-first source t p s)
-        ∙ sum-sections (measureOf m) (measure-nil m) source t p s (w .readable .linked) in
+    ∙ sum-sections (measureOf m) (measure-nil m) source t p s (w .readable .linked) in
     record { total = omega arith; short = omega (arith, rest-bound m source t p s 0 0 w) }
 
 pub chunks-sum : (f : Text → ℕ) (source t p s : List ℕ) (stop n : ℕ) → Linked t → stop ≡ countOf t + 1
@@ -113,7 +113,7 @@ chunks-sum f source t p s stop n l x e =
     ap (λ (k : ℕ). drop k (sections t)) (x ∙ add-one (countOf t)) ∙ ap (drop (suc (countOf t))) (sections-are t l)
     ∙ ap (λ (k : ℕ). drop k (entries t ++ (tailOf t ∷ []))) (sym (count-entries t)) ∙ drop-append-seam (entries t) (tailOf t ∷ []) in
     let q : sum f (F (drop 1 (sections t))) ≡ sum f (F (entries t)) + sum f (F (tailOf t ∷ [])) = ap (λ (x : List Entry). sum f (F x)) a
-        ∙ ap (sum f) (all-append source p s (entries t) (tailOf t ∷ [])) ∙ sum-append f (F (entries t)) (F (tailOf t ∷ [])) in
+    ∙ ap (sum f) (all-append source p s (entries t) (tailOf t ∷ [])) ∙ sum-append f (F (entries t)) (F (tailOf t ∷ [])) in
     let r : sum f (F (drop stop (sections t))) ≡ sum f (F (tailOf t ∷ [])) = ap (λ (x : List Entry). sum f (F x)) b in
     omega arith
 

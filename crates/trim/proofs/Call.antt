@@ -15,7 +15,6 @@ use Rattle.trim_scratch.specs.Call.{TrimRan}
 -- ---- 15: the desk stays, and what it uses
 
 module _ {source t p s : List ℕ} {used : Used} (d : Desk source t p s used) where
-
   module _ (n : ℕ) (h : 1 < n) where
     pub start-refused : Leaves (trim-start n) source t p s t p s (record { number = 15; used = used })
     start-refused =
@@ -32,7 +31,6 @@ module _ {source t p s : List ℕ} {used : Used} (d : Desk source t p s used) wh
 -- ---- past it
 
 module _ {source t p s t' p' s' : List ℕ} {o : Outcome} where
-
   module _ (n : ℕ) (h : n ≤ 1) where
     pub start-ran : TrimRan false true n source t p s t' p' s' (o .number) × Above t' p' s' (o .used) → Leaves (trim-start n) source t p s t' p' s' o
     start-ran f = record { ran = f .0 (trim-start n) (not-refused (trim-start n) source t p s (le-leb n 1 h) refl refl) refl refl; above = f .1 }

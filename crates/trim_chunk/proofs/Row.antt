@@ -355,7 +355,7 @@ module _ (front : Bool) (pattern : ℕ) (source p s : List ℕ) (e : Entry) (top
         spent = sides-spent front e byte (0, 0) q (clearedText e) (cleared-plain e) (cleared-low e byte (byte + plainOf e) (omega arith) (h .low .text));
         apart =
             sides-apart front p p' top byte e (0, 0) q (clearedText e) (h .low .runs) (no-more-none p p' top (0, 0) (nearOf front e) refl)
-                (no-more-trimmed p p' top front pattern s (farOf front e) q d)
+            (no-more-trimmed p p' top front pattern s (farOf front e) q d)
             (λ j l. omega (arith, among-none 0 j, among-most q j)) (λ b l. cleared-uses e b);
       }
 

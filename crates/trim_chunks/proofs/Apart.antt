@@ -72,14 +72,14 @@ module _ (front : Bool) (p p' : List ℕ) (top byte : ℕ) (t t' : List ℕ) (o 
     rows n j h =
         let Q : ℕ → Type 0 = λ x. pieceUses j (entryAt t' x) ≤ pieceUses j (entryAt t x) in
         let s = but-one (λ x. pieceUses j (entryAt t' x)) (λ x. pieceUses j (entryAt t x)) 0 n us i bs (each-map FewerAt Q (λ x k. k .rows j) us a)
-            (omega (arith, h)) (each-map FewerAt Q (λ x k. k .rows j) bs z) in
+        (omega (arith, h)) (each-map FewerAt Q (λ x k. k .rows j) bs z) in
         over-rows (us ++ i ∷ bs) W (pieceUses j) (pieceUses j) n (omega (arith, s))
 
     bytes : (n b : ℕ) → byteUses p' b (entryAt t' i) ≤ n + byteUses p b (entryAt t i) → sum (byteUses p' b) (entries t') ≤ n + sum (byteUses p b) (entries t)
     bytes n b h =
         let Q : ℕ → Type 0 = λ x. byteUses p' b (entryAt t' x) ≤ byteUses p b (entryAt t x) in
         let s = but-one (λ x. byteUses p' b (entryAt t' x)) (λ x. byteUses p b (entryAt t x)) 0 n us i bs (each-map FewerAt Q (λ x k. k .bytes b) us a)
-            (omega (arith, h)) (each-map FewerAt Q (λ x k. k .bytes b) bs z) in
+        (omega (arith, h)) (each-map FewerAt Q (λ x k. k .bytes b) bs z) in
         over-rows (us ++ i ∷ bs) W (byteUses p b) (byteUses p' b) n (omega (arith, s))
 
     pub one-apart : ChunksApart p p' top byte t t'

@@ -255,8 +255,8 @@ module _ (front : Bool) (pattern : ℕ) (source p s : List ℕ) (top wide byte :
     cleared (x ∷ xs) r g c = (
       row-blank front pattern source p s (entryAt t x) (r .0 .0) (g .0)
           ∙ ap (λ (z : Chunk). record { goes-on = true; chunk = z })
-              (sym (ap (chunkOf p' s') (c .0) ∙ entry-same top byte p s p' s' kp ks (clearOf (entryAt t x))
-              (clear-low p top byte (entryAt t x) (r .0 .1 .0 .low)))),
+          (sym (ap (chunkOf p' s') (c .0) ∙ entry-same top byte p s p' s' kp ks (clearOf (entryAt t x))
+          (clear-low p top byte (entryAt t x) (r .0 .1 .0 .low)))),
       cleared xs (r .1) (g .1) (c .1),
     )
 
@@ -321,7 +321,7 @@ module _ (front : Bool) (pattern : ℕ) (source p s : List ℕ) (top wide byte :
       each-all (entryAt t') (order t') (subst (Each Low) (sym o) (subst (Each Low) (way-way front (order t)) (each-way front Low (way front (order t)) h))),
       sym (way-way front (map (chunkOf p' s') (entries t')))
           ∙ ap (way front) (sym (chunks-way front p' s' t') ∙ ap (λ (m : List ℕ). map (λ x. chunkOf p' s' (entryAt t' x)) (way front m)) o ∙ sym e
-              ∙ ap (trim-chunks (trim-chunk front pattern source)) (chunks-way front p s t)),
+          ∙ ap (trim-chunks (trim-chunk front pattern source)) (chunks-way front p s t)),
     )
 
   -- a sum over the rows of the two tables
@@ -424,16 +424,16 @@ module _ (front : Bool) (pattern : ℕ) (source p s : List ℕ) (top wide byte :
               let W : way front (order t) ≡ us ++ i ∷ bs = w .at .place ∙ ap (λ (l : List ℕ). us ++ l) (stop .rest-is) in
               let z : rowAt t2 0 ≡ rowAt t1 0 = u .off 0 (λ y. omega (arith, stop .stands .positive)) in
               let o = same-order t2 (put-keep (λ (y : Row). y .next) t1 t2 i q u (d .next ∙ ap (λ (y : Row). y .next) er))
-                  (put-keep (λ (y : Row). y .prev) t1 t2 i q u (d .prev ∙ ap (λ (y : Row). y .prev) er)) z m in
+              (put-keep (λ (y : Row). y .prev) t1 t2 i q u (d .prev ∙ ap (λ (y : Row). y .prev) er)) z m in
               let c = keep-off (λ a. entryAt t1 a ≡ clearOf (entryAt t a)) (λ a. entryAt t2 a ≡ clearOf (entryAt t a)) (λ a y h. ap entryOf (u .off a y) ∙ h) us
-                  (stop .stands .apart-before) (w .at .done) in
+              (stop .stands .apart-before) (w .at .done) in
               let k = keep-off (λ a. rowAt t1 a ≡ rowAt t a) (λ a. entryAt t2 a ≡ entryAt t a) (λ a y h. ap entryOf (u .off a y ∙ h)) bs (stop .stands .apart-behind) (stop .later) in
               let n : entryAt t2 i ≡ entryOf q = ap entryOf (u .at) in
               let g = cleared t2 p' s' kp ks row kr b kb us ready-us (w .at .blanks) c in
               let l = stays t2 p' s' kp ks row kr b kb bs (ready-rest .1) k in
               let j : trim-chunk front pattern source (chunkOf p s (entryAt t i)) ≡ record { goes-on = false; chunk = chunkOf p' s' (entryAt t2 i) } =
               ap (λ (y : Row). trim-chunk front pattern source (chunkOf p s (entryOf y))) (sym row-was) ∙ d .trimmed .chunk
-                  ∙ ap (λ (y : Entry). record { goes-on = false; chunk = chunkOf p' s' y }) (sym n) in
+              ∙ ap (λ (y : Entry). record { goes-on = false; chunk = chunkOf p' s' y }) (sym n) in
               let y = together t2 p' s' kp ks row kr b kb (o .0)
               (rw W (each-append (Low t2 p' s' kp ks row kr b kb) us (i ∷ bs) (cleared-low t2 p' s' kp ks row kr b kb us ready-us c)
               (subst (EntryLow p' row b) (sym n) stop-low, stays-low t2 p' s' kp ks row kr b kb bs (ready-rest .1) k)))
@@ -442,7 +442,7 @@ module _ (front : Bool) (pattern : ℕ) (source p s : List ℕ) (top wide byte :
               let spent-i : b + plainOf (entryAt t2 i) ≤ byte + plainOf (entryAt t i) = omega (arith, d .trimmed .spent b v, ap plainOf n, ap (λ (y : Row). plainOf (entryOf y)) row-was) in
               let x : b + sum (λ a. plainOf (entryAt t2 a)) (way front (order t)) ≤ byte + sum (λ a. plainOf (entryAt t a)) (way front (order t)) =
               rw W (but-one (λ a. plainOf (entryAt t2 a)) (λ a. plainOf (entryAt t a)) b byte us i bs (cleared-spent t2 p' s' kp ks row kr b kb us c) spent-i
-                  (stays-spent t2 p' s' kp ks row kr b kb bs k)) in
+              (stays-spent t2 p' s' kp ks row kr b kb bs k)) in
               record {
                 linked = o .1;
                 place = o .0;
@@ -457,7 +457,7 @@ module _ (front : Bool) (pattern : ℕ) (source p s : List ℕ) (top wide byte :
                 spent = omega (arith, e .0, e .1, x);
                 apart =
                     one-apart front p p' top byte t t2 (o .0) us i bs W (subst (λ (l : List ℕ). Each (λ a. EntryLow p top byte (entryAt t a)) (us ++ l))
-                        (stop .rest-is) (low-each (us ++ w .at .rest) ready-way))
+                    (stop .rest-is) (low-each (us ++ w .at .rest) ready-way))
                     (cleared-fewer t2 p' s' kp ks row kr b kb us c)
                     (subst (RowApart p p' top byte (entryAt t i)) (sym n) (subst (λ (y : Row). RowApart p p' top byte (entryOf y) (entryOf q)) row-was (d .trimmed .apart)))
                     (stays-fewer t2 p' s' kp ks row kr b kb bs (ready-rest .1) k);

@@ -21,7 +21,16 @@ pub fn trim_either(
         × Above (now (chunks .exit)) (now (pieces .exit)) (now (store .exit)) (o .used) ⌝ }
 {
     if trim_in_place::has_room(used, source.len(), pieces.len(), store.len()) {
-        return trim_in_place::trim_in_place(source, chunks, pieces, store, both, front, pattern, used);
+        return trim_in_place::trim_in_place(
+            source,
+            chunks,
+            pieces,
+            store,
+            both,
+            front,
+            pattern,
+            used,
+        );
     }
     trim_scratch::trim_scratch(source, chunks, pieces, store, both, front, pattern)
 }

@@ -32,7 +32,6 @@ module _ (p p' : List ℕ) (top byte : ℕ) where
 -- ---- the head and the tail, one of them trimmed
 
 module _ (p p' : List ℕ) (top byte : ℕ) (kept : RowsKept top p p') (e : Entry) (near x : Place) where
-
   module _ (front : Bool) (low : RunsLow p top byte e) (n : NoMore p p' top near (nearOf front e)) where
     far-below : (f : Bool) → Below p byte top (farOf f e)
     far-below true = low .outro
@@ -81,8 +80,13 @@ module _ (front : Bool) (t t' p p' : List ℕ) (top byte : ℕ) (near x : Place)
         pieces = λ j.
             elim (decLt j top) [
               | yes h ↦ omega (arith, d .pieces j, own-rows p p' top byte kept e near x front (low .desk) n e' row j h, ap (sum (pieceUses j)) s)
-              | no h ↦ omega (arith, own-above p p' top byte kept e near x front (low .desk) n e' row j (omega arith), among-most near j,
-                  ap (sum (pieceUses j)) s, none-above p p' top byte j (omega arith) (low .chunks))
+              | no h ↦ omega (
+                arith,
+                own-above p p' top byte kept e near x front (low .desk) n e' row j (omega arith),
+                among-most near j,
+                ap (sum (pieceUses j)) s,
+                none-above p p' top byte j (omega arith) (low .chunks),
+              )
             ];
         bytes = λ b. omega (arith, d .bytes b, own-bytes p p' top byte kept e near x front (low .desk) n e' row b, ap (sum (byteUses p' b)) s, all-fewer p p' top byte kept b (low .chunks));
       }
@@ -94,8 +98,13 @@ module _ (front : Bool) (t t' p p' : List ℕ) (top byte : ℕ) (near x : Place)
         pieces = λ j.
             elim (decLt j top) [
               | yes h ↦ omega (arith, d .pieces j, own-rows p p' top byte kept e near x front (low .desk) n e' row j h, c .rows-below j h, ap (sum (pieceUses j)) s)
-              | no h ↦ omega (arith, own-above p p' top byte kept e near x front (low .desk) n e' row j (omega arith), among-out (near .0) (near .1) j
-                  (λ u v. omega arith), c .rows-above j (omega arith))
+              | no h ↦ omega (
+                arith,
+                own-above p p' top byte kept e near x front (low .desk) n e' row j (omega arith),
+                among-out (near .0) (near .1) j
+                    (λ u v. omega arith),
+                c .rows-above j (omega arith),
+              )
             ];
         bytes = λ b.
             let o = own-bytes p p' top byte kept e near x front (low .desk) n e' row b in

@@ -110,6 +110,11 @@ side-pieces false p m =
     let a = end-le p (m .outro) in
     let f = trim-chunk-end p (m .source) in
     of-cond (λ (x : MagicString). piece-count x ≤ piece-count m) (is-nil (trim-deque-end p (m .outro)))
-    (λ _. omega (arith, a, sum-reverse chunk-pieces (trim-chunks f (reverse (m .chunks))), chunks-le chunk-pieces f (chunk-end-le p (m .source)) (reverse (m .chunks)),
-        sum-reverse chunk-pieces (m .chunks)))
+    (λ _. omega (
+      arith,
+      a,
+      sum-reverse chunk-pieces (trim-chunks f (reverse (m .chunks))),
+      chunks-le chunk-pieces f (chunk-end-le p (m .source)) (reverse (m .chunks)),
+      sum-reverse chunk-pieces (m .chunks),
+    ))
     (λ _. omega (arith, a))

@@ -65,7 +65,6 @@ pub start-none : (p : ℕ) (s : Text) → utf8 s ≡ true → StartAt p s 0
 start-none p s h = record { inside = omega arith; whole = h; same = refl }
 
 module _ (p : ℕ) (s : Text) (i : ℕ) (a : StartAt p s i) where
-
   module _ (v w : ℕ) (e : decodeAt s i ≡ Char v w) where
     first : chars (drop i s) ≡ take w (drop i s) ∷ chars (drop (i + w) s)
     first = char-at s i v w (a .whole) e

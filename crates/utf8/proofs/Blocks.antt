@@ -25,8 +25,15 @@ none s i h = record { after = omega arith; inside = h; each = λ k l m. absurd (
 
 pub block : (s : List ℕ) (i r x : ℕ) → Ascii s i r → r + 32 ≤ length s → ((j : ℕ) → j < 32 → getD s (r + j) 0 ≤ x) → x < 0x80 → Ascii s i (r + 32)
 block s i r x a h b l =
-    record { after = omega (arith, a .after); inside = h; each = λ k m n. elim (decLt k r) [ yes o ↦ a .each k m o | no o ↦ let e : k ≡ r + (k - r) = omega arith in
-        rw e (omega (arith, b (k - r) (omega arith))) ] }
+    record {
+      after = omega (arith, a .after);
+      inside = h;
+      each = λ k m n. elim (decLt k r) [
+        | yes o ↦ a .each k m o
+        | no o ↦ let e : k ≡ r + (k - r) = omega arith in
+            rw e (omega (arith, b (k - r) (omega arith)))
+      ];
+    }
 
 ascii-by : (s : List ℕ) (i n : ℕ) → i + n ≤ length s → ((k : ℕ) → i ≤ k → k < i + n → getD s k 0 < 0x80) → utf8 (drop i s) ≡ utf8 (drop (i + n) s)
 ascii-by s i zero h a = rw add-zero

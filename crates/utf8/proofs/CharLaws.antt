@@ -70,11 +70,21 @@ shape v =
       | no h ↦ elim (decLt v 0x800) [
         | yes k ↦ record { lead = 0xC0 + v / 64; rest = (0x80 + v % 64) ∷ []; bytes = enc-2 v (omega arith) k; follow-on = cons (follow (v % 64) (omega arith)) nil }
         | no k ↦ elim (decLt v 0x10000) [
-          | yes m ↦ record { lead = 0xE0 + v / 4096; rest = (0x80 + v / 64 % 64) ∷ (0x80 + v % 64) ∷ []; bytes = enc-3 v (omega arith) m; follow-on =
-              cons (follow (v / 64 % 64) (omega arith)) (cons (follow (v % 64) (omega arith)) nil) }
-          | no m ↦ record { lead = 0xF0 + v / 262144; rest = (0x80 + v / 4096 % 64) ∷ (0x80 + v / 64 % 64) ∷ (0x80 + v % 64) ∷ []; bytes =
-              enc-4 v (omega arith); follow-on = cons (follow (v / 4096 % 64) (omega arith))
-              (cons (follow (v / 64 % 64) (omega arith)) (cons (follow (v % 64) (omega arith)) nil)) }
+          | yes m ↦ record {
+            lead = 0xE0 + v / 4096;
+            rest = (0x80 + v / 64 % 64) ∷ (0x80 + v % 64) ∷ [];
+            bytes = enc-3 v (omega arith) m;
+            follow-on =
+                cons (follow (v / 64 % 64) (omega arith)) (cons (follow (v % 64) (omega arith)) nil);
+          }
+          | no m ↦ record {
+            lead = 0xF0 + v / 262144;
+            rest = (0x80 + v / 4096 % 64) ∷ (0x80 + v / 64 % 64) ∷ (0x80 + v % 64) ∷ [];
+            bytes =
+                enc-4 v (omega arith);
+            follow-on = cons (follow (v / 4096 % 64) (omega arith))
+                (cons (follow (v / 64 % 64) (omega arith)) (cons (follow (v % 64) (omega arith)) nil));
+          }
         ]
       ]
     ]
@@ -143,7 +153,7 @@ char-at s i v w h e =
     let b = decoded-bytes s i v w e in
     let t : utf8 (drop (i + w) s) ≡ true = sym (turn s i v w e .2) ∙ h in
     let q : drop i s ≡ encode v ++ drop (i + w) s = sym (take-append-drop w (drop i s)) ∙ ap (λ (r : List ℕ). r ++ drop w (drop i s)) (sym (b .1))
-        ∙ ap (λ (r : List ℕ). encode v ++ r) (drop-drop w i s) in
+    ∙ ap (λ (r : List ℕ). encode v ++ r) (drop-drop w i s) in
     ap chars q ∙ chars-encode v (drop (i + w) s) (b .0) t ∙ ap (λ (c : List ℕ). c ∷ chars (drop (i + w) s)) (b .1)
 
 -- and has the code that is decoded

@@ -34,8 +34,15 @@ module _ (a b c d : ℕ) where
 
   pub seq-high : 0xF8 ≤ a → sequence a b c d ≡ Invalid
   unfolding sequence
-  seq-high h = simp (le-ltb a 0x80 (omega arith), le-leb 0xC0 a (omega arith), le-ltb a 0xE0 (omega arith), le-leb 0xE0 a (omega arith),
-      le-ltb a 0xF0 (omega arith), le-leb 0xF0 a (omega arith), le-ltb a 0xF8 h)
+  seq-high h = simp (
+    le-ltb a 0x80 (omega arith),
+    le-leb 0xC0 a (omega arith),
+    le-ltb a 0xE0 (omega arith),
+    le-leb 0xE0 a (omega arith),
+    le-ltb a 0xF0 (omega arith),
+    le-leb 0xF0 a (omega arith),
+    le-ltb a 0xF8 h,
+  )
 
   pub seq-2 : 0xC0 ≤ a → a < 0xE0 → sequence a b c d ≡ pick (follows b) (scalar 0x80 (value2 a b) 2) Invalid
   unfolding sequence
@@ -91,23 +98,47 @@ unfolding sequence
 bytes-of a b c d v w e =
     pick-from (ltb a 0x80) _ _ _ e
     (λ t q. let n : 1 ≡ w = cc in
-    record { lead = rw t (sym n); some = omega arith; most = omega arith; first = follows-below a (ltb-true a 0x80 t); second = λ h. absurd (omega arith); third =
-        λ h. absurd (omega arith); fourth = λ h. absurd (omega arith) })
+    record {
+      lead = rw t (sym n);
+      some = omega arith;
+      most = omega arith;
+      first = follows-below a (ltb-true a 0x80 t);
+      second = λ h. absurd (omega arith);
+      third =
+          λ h. absurd (omega arith);
+      fourth = λ h. absurd (omega arith);
+    })
     (λ _ q. pick-from (leb 0xC0 a && ltb a 0xE0 && follows b) _ _ _ q
     (λ t r. let n = scalar-width _ _ _ _ _ r in
     let k = both (leb 0xC0 a && ltb a 0xE0) (follows b) t in
     let l = both (leb 0xC0 a) (ltb a 0xE0) (k .0) in
     let m = leb-true 0xC0 a (l .0) in
-    record { lead = rw (le-ltb a 0x80 (omega arith), l .1) (sym n); some = omega arith; most = omega arith; first = follows-above a m; second =
-        λ h. k .1; third = λ h. absurd (omega arith); fourth = λ h. absurd (omega arith) })
+    record {
+      lead = rw (le-ltb a 0x80 (omega arith), l .1) (sym n);
+      some = omega arith;
+      most = omega arith;
+      first = follows-above a m;
+      second =
+          λ h. k .1;
+      third = λ h. absurd (omega arith);
+      fourth = λ h. absurd (omega arith);
+    })
     (λ _ r. pick-from (leb 0xE0 a && ltb a 0xF0 && follows b && follows c) _ _ _ r
     (λ t z. let n = scalar-width _ _ _ _ _ z in
     let j = both (leb 0xE0 a && ltb a 0xF0 && follows b) (follows c) t in
     let k = both (leb 0xE0 a && ltb a 0xF0) (follows b) (j .0) in
     let l = both (leb 0xE0 a) (ltb a 0xF0) (k .0) in
     let m = leb-true 0xE0 a (l .0) in
-    record { lead = rw (le-ltb a 0x80 (omega arith), le-ltb a 0xE0 (omega arith), l .1) (sym n); some = omega arith; most = omega arith; first =
-        follows-above a (omega arith); second = λ h. k .1; third = λ h. j .1; fourth = λ h. absurd (omega arith) })
+    record {
+      lead = rw (le-ltb a 0x80 (omega arith), le-ltb a 0xE0 (omega arith), l .1) (sym n);
+      some = omega arith;
+      most = omega arith;
+      first =
+          follows-above a (omega arith);
+      second = λ h. k .1;
+      third = λ h. j .1;
+      fourth = λ h. absurd (omega arith);
+    })
     (λ _ z. pick-from (leb 0xF0 a && ltb a 0xF8 && follows b && follows c && follows d) _ _ _ z
     (λ t y. let n = scalar-width _ _ _ _ _ y in
     let i = both (leb 0xF0 a && ltb a 0xF8 && follows b && follows c) (follows d) t in
@@ -115,8 +146,16 @@ bytes-of a b c d v w e =
     let k = both (leb 0xF0 a && ltb a 0xF8) (follows b) (j .0) in
     let l = both (leb 0xF0 a) (ltb a 0xF8) (k .0) in
     let m = leb-true 0xF0 a (l .0) in
-    record { lead = rw (le-ltb a 0x80 (omega arith), le-ltb a 0xE0 (omega arith), le-ltb a 0xF0 m) (sym n); some = omega arith; most = omega arith; first =
-        follows-above a (omega arith); second = λ h. k .1; third = λ h. j .1; fourth = λ h. i .1 })
+    record {
+      lead = rw (le-ltb a 0x80 (omega arith), le-ltb a 0xE0 (omega arith), le-ltb a 0xF0 m) (sym n);
+      some = omega arith;
+      most = omega arith;
+      first =
+          follows-above a (omega arith);
+      second = λ h. k .1;
+      third = λ h. j .1;
+      fourth = λ h. i .1;
+    })
     (λ _ y. let n : _≡_ {A = ℕ} 0 1 = cc in absurd (omega arith)))))
 
 scalar-no-end : (low u n : ℕ) → scalar low u n ≡ End → ⊥

@@ -6,7 +6,6 @@ use mathlib.Core.Logic.{_⊎_}
 use lib.ListN.{replicate}
 
 infix 90 _–_
-
 -- %xA0-BF is written 0xA0 – 0xBF, and %xE0 only 0xE0. n( r ) is replicate n r. A rule is the list of its alternatives, and a / b is a ++ b.
 pub data Range : Type 0 where
   _–_ : ℕ → ℕ → Range

@@ -35,8 +35,13 @@ loop-less : tie.Need-loop-less Inv-loop μ-loop
 loop-less c = search needs
 
 loop-again : tie.Need-loop-again Inv-loop μ-loop
-loop-again c = (omega arith, omega arith, c .before .before .loop .inv .2, whole-more (c .before .before .loop .inv .3) (omega arith) (omega arith)
-    (omega (arith, c .slice-known .given (c .before .before .loop .i))))
+loop-again c = (
+  omega arith,
+  omega arith,
+  c .before .before .loop .inv .2,
+  whole-more (c .before .before .loop .inv .3) (omega arith) (omega arith)
+      (omega (arith, c .slice-known .given (c .before .before .loop .i))),
+)
 
 same-length : tie.Need-same-length Inv-loop μ-loop
 same-length c = search needs

@@ -58,7 +58,7 @@ returns c =
     let loop = c .before .before .before .before .before .before .before .before .before .loop in
     lists-passed (start .args .t .now) (start .args .i)
     (steps-no (start .pre .1 .0) (loop .inv .1) (c .before .before .before .before .before .mark-run .ensures) 2
-        (c .before .before .before .before .before .before .before .before .loop-test .taken) (c .if1 .left) _ _)
+    (c .before .before .before .before .before .before .before .before .loop-test .taken) (c .if1 .left) _ _)
 
 same-length-3 : tie.Need-same-length-3 Inv-loop μ-loop
 same-length-3 c = c .before .loop .inv .1 .rows-same

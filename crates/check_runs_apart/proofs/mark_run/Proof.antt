@@ -28,8 +28,10 @@ same-length-2 : tie.Need-same-length-2
 same-length-2 c = search needs
 
 returns-2 : tie.Need-returns-2
-returns-2 c = rw (c .before .before .before .before .before .before .before .word2 .ensures .0,
-    c .before .before .before .before .before .before .before .before .before .word .ensures .0) at
+returns-2 c = rw (
+  c .before .before .before .before .before .before .before .word2 .ensures .0,
+  c .before .before .before .before .before .before .before .before .before .word .ensures .0,
+) at
     (c .before .before .before .before .mark-some .ensures)
 
 pub mark-run-spec : {M : Type 1} → statement M

@@ -39,8 +39,8 @@ returns c =
     let start = c .before .before .before .before .before .before .before .before .before .before .before .before .before .before in
     let a = start .args in
     some-yes (a .size) _ _ _ (a .used) (a .at) (a .n) (start .pre .0) (start .pre .1 .0) _
-        (c .before .before .before .before .before .before .before .before .before .mark .ensures) (c .before .before .before .before .before .before .if1 .taken) _ _ _
-        (c .larger .ensures)
+    (c .before .before .before .before .before .before .before .before .before .mark .ensures) (c .before .before .before .before .before .before .if1 .taken) _ _ _
+    (c .larger .ensures)
     (c .before .before .before .before .mark-texts .ensures)
 
 same-length-3 : tie.Need-same-length-3

@@ -23,7 +23,7 @@ returns : tie.Need-returns
 returns c =
     let a = c .before .before .before .before .before .before .before .before .before .before .before .before .before .before .before .before .args in
     entry-yes (rowEntry (a .t .now) (a .i)) (c .before .before .before .before .before .before .before .before .before .mark-lists .ensures)
-        (c .before .before .before .before .if1 .taken) _ _ (c .before .before .mark-replacement .ensures)
+    (c .before .before .before .before .if1 .taken) _ _ (c .before .before .mark-replacement .ensures)
 
 same-length-3 : tie.Need-same-length-3
 same-length-3 c = search needs

@@ -23,7 +23,7 @@ same-length c = search needs
 returns-2 : tie.Need-returns-2
 returns-2 c =
     rw (c .before .before .before .before .before .before .text-start .ensures .0, c .before .before .before .before .word .ensures .0) at
-        (replacement-some _ _ (c .before .before .before .before .before .if1 .left) (c .before .before .mark-text .ensures))
+    (replacement-some _ _ (c .before .before .before .before .before .if1 .left) (c .before .before .mark-text .ensures))
 
 pub mark-replacement-spec : {M : Type 1} → statement M
 mark-replacement-spec =

@@ -50,7 +50,7 @@ returns c =
     let start = c .before .before .before .before .before .before .before .before .before .before .before .before .before .before in
     let loop = c .before .before .before .before .before .before .before .before .before .loop in
     steps-no (start .pre .1) (loop .inv .1) (c .before .before .before .before .before .mark-entry .ensures) _
-        (c .before .before .before .before .before .before .before .before .loop-test .taken) (c .if1 .left) _ _
+    (c .before .before .before .before .before .before .before .before .loop-test .taken) (c .if1 .left) _ _
 
 same-length-3 : tie.Need-same-length-3 Inv-loop μ-loop
 same-length-3 c = c .before .loop .inv .1 .rows-same

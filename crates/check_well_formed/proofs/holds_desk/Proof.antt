@@ -16,15 +16,18 @@ chunked-requires : tie.Need-chunked-requires
 chunked-requires c κs = (sym (c .before .valid .ensures) ∙ c .if2 .taken, c .before .before .before .shaped .ensures .yes (c .before .before .if1 .taken) .fits)
 
 pieced-requires : tie.Need-pieced-requires
-pieced-requires c κs = (c .before .chunked .ensures .yes (c .if3 .taken) .linked, c .before .before .before .before .before .shaped .ensures .yes
-    (c .before .before .before .before .if1 .taken) .sized)
+pieced-requires c κs = (
+  c .before .chunked .ensures .yes (c .if3 .taken) .linked,
+  c .before .before .before .before .before .shaped .ensures .yes
+      (c .before .before .before .before .if1 .taken) .sized,
+)
 
 returns : tie.Need-returns
 returns c =
     let a = c .before .before .before .before .before .before .before .before .before .before .before .args in
     formed-sees (a .chunks .now) (a .pieces .now) (a .store .now) (a .source .now)
-        (c .before .before .before .before .before .before .shaped .ensures .yes (c .before .before .before .before .before .if1 .taken))
-        (sym (c .before .before .before .before .valid .ensures) ∙ c .before .before .before .if2 .taken)
+    (c .before .before .before .before .before .before .shaped .ensures .yes (c .before .before .before .before .before .if1 .taken))
+    (sym (c .before .before .before .before .valid .ensures) ∙ c .before .before .before .if2 .taken)
     (c .before .before .chunked .ensures .yes (c .before .if3 .taken)) (c .pieced .result) (c .pieced .ensures)
 
 returns-2 : tie.Need-returns-2

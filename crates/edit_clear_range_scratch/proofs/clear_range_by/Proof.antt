@@ -8,9 +8,11 @@ use Rattle.edit_clear_range_scratch.proofs.clear_range_by.Tie as tie
 
 load-requires : tie.Need-load-requires
 load-requires c κs =
-    let start = c .before .before .before .before .before .before .before .before .before .before .before .before .before in
-    (omega (arith, start .pre .0 .sized .chunks, start .pre .1 .0 .chunks), omega (arith, start .pre .0 .sized .pieces, start .pre .1 .0 .pieces),
-        omega (arith, start .pre .0 .sized .store, start .pre .1 .0 .store))
+    let start = c .before .before .before .before .before .before .before .before .before .before .before .before .before in (
+      omega (arith, start .pre .0 .sized .chunks, start .pre .1 .0 .chunks),
+      omega (arith, start .pre .0 .sized .pieces, start .pre .1 .0 .pieces),
+      omega (arith, start .pre .0 .sized .store, start .pre .1 .0 .store),
+    )
 
 clear-range-steps-requires : tie.Need-clear-range-steps-requires
 clear-range-steps-requires c κs =
@@ -22,7 +24,7 @@ clear-range-steps-requires c κs =
 finish-requires : tie.Need-finish-requires
 finish-requires c κs =
     let start = c .before .before .before .before .before .before .before .before .before .before .before .before .before .before .before .before .before
-        .before .before .before .before .before .before .before .before .before .before .before .before .before in
+    .before .before .before .before .before .before .before .before .before .before .before .before .before in
     let load = c .before .before .before .before .before .before .before .before .before .before .before .before .before .before .before .before .load in
     let clear-range = c .before .before .before .before .before .before .before .before .clear-range-steps in
     (range-readable (start .pre .0) (start .pre .1 .0) (load .ensures) (clear-range .ensures), formed-usable (start .pre .0))
@@ -48,10 +50,10 @@ same-length-6 c = search needs
 returns : tie.Need-returns
 returns c =
     let start = c .before .before .before .before .before .before .before .before .before .before .before .before .before .before .before .before .before
-        .before .before .before .before .before .before .before .before .before .before .before .before .before .before .before .before .before .before
-        .before .before in
+    .before .before .before .before .before .before .before .before .before .before .before .before .before .before .before .before .before .before
+    .before .before in
     let load = c .before .before .before .before .before .before .before .before .before .before .before .before .before .before .before .before .before
-        .before .before .before .before .before .before .load in
+    .before .before .before .before .before .before .load in
     let clear-range = c .before .before .before .before .before .before .before .before .before .before .before .before .before .before .before .clear-range-steps in
     let finish = c .before .before .before .before .before .before .finish in
     (range-ran (start .pre .0) (start .pre .1 .0) (load .ensures) (clear-range .ensures) (finish .ensures .0), finish .ensures .1)

@@ -45,7 +45,7 @@ returns c =
     let a = start .args in
     let w = subst (FoundIn (meets (key-for .result) (a .q)) (a .t .now)) (enum-told .given .1) (find .ensures) in
     inserted-whole (a .left) (a .front) (a .q) (a .text .now) (a .pieces .now) (a .store .now) (a .t .now) _ _ _ (start .pre .0) (rw (key-for .ensures) at w)
-        (add-piece .ensures) (add-piece .kept .1 .1 .1 .0)
+    (add-piece .ensures) (add-piece .kept .1 .1 .1 .0)
 
 add-piece-requires-2 : tie.Need-add-piece-requires-2
 add-piece-requires-2 c κs =
@@ -77,7 +77,7 @@ returns-2 c =
     let a = start .args in
     let w = subst (FoundIn (meets (key-for .result) (a .q)) (a .t .now)) (i .given .1) (find .ensures) in
     inserted-found (a .left) (a .front) (a .q) (a .text .now) (a .pieces .now) (a .store .now) (a .t .now) _ _ _ (i .given .0 .0) (start .pre .0)
-        (rw (key-for .ensures) at w) (add-piece2 .ensures) (add-piece2 .kept .1 .1 .1 .0)
+    (rw (key-for .ensures) at w) (add-piece2 .ensures) (add-piece2 .kept .1 .1 .1 .0)
 
 pub insert-rows-spec : {M : Type 1} → statement M
 insert-rows-spec =

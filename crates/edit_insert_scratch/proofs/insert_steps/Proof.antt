@@ -34,9 +34,10 @@ insert-rows-requires c κs =
     let start = c .before .before .before .before .before .before .before .before .before .before .before .before .before .before .before in
     let split-at = c .before .before .before .before .before .before .before .split-at in
     let if2 = c .before .before .before .if2 in
-    let a = start .args in
-    (split-at .ensures .readable (a .pieces .now) (a .store .now) (start .pre .1 .0),
-        (split-at .ensures .small (a .pieces .now) (a .store .now) (start .pre .1 .1 .0), (start .pre .1 .1 .1, if2 .left)))
+    let a = start .args in (
+      split-at .ensures .readable (a .pieces .now) (a .store .now) (start .pre .1 .0),
+      (split-at .ensures .small (a .pieces .now) (a .store .now) (start .pre .1 .1 .0), (start .pre .1 .1 .1, if2 .left)),
+    )
 
 same-length-3 : tie.Need-same-length-3
 same-length-3 c = search needs

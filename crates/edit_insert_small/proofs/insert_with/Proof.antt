@@ -28,9 +28,11 @@ slice-aggregate-insert-by-3 c = sym (zeros-length SMALL-STORE-LEN SMALL-STORE-LE
 
 insert-by-requires : tie.Need-insert-by-requires
 insert-by-requires c κs =
-    let start = c .before .before .before .before .before .before .before .before .before .before .before in
-    (start .pre .0, small-fits (zeros-length SMALL-CHUNKS-LEN SMALL-CHUNKS-LEN (omega arith)) (zeros-length SMALL-PIECES-LEN SMALL-PIECES-LEN (omega arith))
-        (zeros-length SMALL-STORE-LEN SMALL-STORE-LEN (omega arith)) (start .pre .1))
+    let start = c .before .before .before .before .before .before .before .before .before .before .before in (
+      start .pre .0,
+      small-fits (zeros-length SMALL-CHUNKS-LEN SMALL-CHUNKS-LEN (omega arith)) (zeros-length SMALL-PIECES-LEN SMALL-PIECES-LEN (omega arith))
+          (zeros-length SMALL-STORE-LEN SMALL-STORE-LEN (omega arith)) (start .pre .1),
+    )
 
 same-length : tie.Need-same-length
 same-length c = search needs

@@ -20,20 +20,22 @@ lay-text-requires : tie.Need-lay-text-requires
 lay-text-requires c κs =
     let start = c .before .before .before .before .before .before .before .before .before .before .before .before .before .before .before .before .before .before .before in
     let copy-run = c .before .before .before .before .before .before .before .before .before .before .before .before .copy-run in
-    let copy-run2 = c .before .before .before .before .before .copy-run2 in
-    (start .pre .0 .replacement, room-text _ _ (entryOf (start .args .r)) (start .pre .1) (copy-run .ensures) (copy-run .kept .1 .1 .0) (copy-run .kept .1 .1 .1 .0)
-        (copy-run2 .ensures) (copy-run2 .kept .1 .1 .1 .0))
+    let copy-run2 = c .before .before .before .before .before .copy-run2 in (
+      start .pre .0 .replacement,
+      room-text _ _ (entryOf (start .args .r)) (start .pre .1) (copy-run .ensures) (copy-run .kept .1 .1 .0) (copy-run .kept .1 .1 .1 .0)
+          (copy-run2 .ensures) (copy-run2 .kept .1 .1 .1 .0),
+    )
 
 cast-q : tie.Need-cast-q
 cast-q c =
     let start = c .before .before .before .before .before .before .before .before .before .before .before .before .before .before .before .before .before
-        .before .before .before .before .before .before in
+    .before .before .before .before .before .before in
     omega (arith, start .pre .1 .rows-in, start .pre .1 .rows-narrow)
 
 cast-q-2 : tie.Need-cast-q-2
 cast-q-2 c =
     let start = c .before .before .before .before .before .before .before .before .before .before .before .before .before .before .before .before .before
-        .before .before .before .before .before .before .before in
+    .before .before .before .before .before .before .before in
     let copy-run = c .before .before .before .before .before .before .before .before .before .before .before .before .before .before .before .before .before .copy-run in
     omega (arith, start .pre .1 .rows-in, start .pre .1 .rows-narrow, copy-run .ensures .row-is)
 
@@ -46,7 +48,7 @@ same-length-2 c = search needs
 returns : tie.Need-returns
 returns c =
     let start = c .before .before .before .before .before .before .before .before .before .before .before .before .before .before .before .before .before
-        .before .before .before .before .before .before .before in
+    .before .before .before .before .before .before .before in
     let copy-run = c .before .before .before .before .before .before .before .before .before .before .before .before .before .before .before .before .before .copy-run in
     let copy-run2 = c .before .before .before .before .before .before .before .before .before .before .copy-run2 in
     let lay-text = c .before .before .before .before .lay-text in

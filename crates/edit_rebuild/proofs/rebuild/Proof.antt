@@ -34,7 +34,7 @@ lay-rest-requires c κs =
     let own-row = c .before .before .before .before .before .before .before .before .before .before .before .before .before .own-row in
     let get-row = c .before .before .before .before .before .before .before .before .before .before .before .before .before .before .before .before .get-row in
     let start = c .before .before .before .before .before .before .before .before .before .before .before .before .before .before .before .before .before
-        .before .before .before .before .before .before in
+    .before .before .before .before .before .before in
     let lay-row = c .before .before .before .before .before .before .before .before .before .before .before .before .lay-row in
     let top-row = c .before .before .before .before .before .before .top-row in
     let put-row = c .before .before .before .before .before .put-row in

@@ -37,9 +37,11 @@ get-row-requires c κs = omega (arith, c .before .before .before .before .before
 loop-holds : tie.Need-loop-holds Inv-loop μ-loop
 loop-holds c =
     let a = c .before .before .before .before .before .before .args in
-    let first = c .before .before .first in
-    (ap (λ (r : Row). r .start) (c .get-row .ensures), walk-none (a .t .now) (a .a) (a .b) (first .given .0 .0)
-        (subst (FoundIn (meets Start (a .a)) (a .t .now)) (first .given .1) (c .before .before .before .before .find .ensures)))
+    let first = c .before .before .first in (
+      ap (λ (r : Row). r .start) (c .get-row .ensures),
+      walk-none (a .t .now) (a .a) (a .b) (first .given .0 .0)
+          (subst (FoundIn (meets Start (a .a)) (a .t .now)) (first .given .1) (c .before .before .before .before .find .ensures)),
+    )
 
 get-row-requires-2 : tie.Need-get-row-requires-2 Inv-loop μ-loop
 get-row-requires-2 c κs =
@@ -87,9 +89,11 @@ loop-again c =
     let b = start .args .b in
     let e = c .before .before .before .before .get-row2 .ensures in
     let short : entryAt t (loop .last) .end ≡ b → ⊥ = λ h. c .before .before .if1 .left (ap (λ (r : Row). r .end) e ∙ h) in
-    let goes = sym (ap (λ (r : Row). goes-on t (r .next) (r .end)) e) ∙ sym (c .before .next-follows .ensures) in
-    (loop .inv .0, subst (λ (x : ℕ). WalkAt t a b first x (loop .k + 1)) (sym (ap (λ (r : Row). r .next) e))
-        (walk-more t a b first (start .pre) (loop .last) (loop .k) (loop .inv .1) short (goes ∙ c .if2 .taken)))
+    let goes = sym (ap (λ (r : Row). goes-on t (r .next) (r .end)) e) ∙ sym (c .before .next-follows .ensures) in (
+      loop .inv .0,
+      subst (λ (x : ℕ). WalkAt t a b first x (loop .k + 1)) (sym (ap (λ (r : Row). r .next) e))
+          (walk-more t a b first (start .pre) (loop .last) (loop .k) (loop .inv .1) short (goes ∙ c .if2 .taken)),
+    )
 
 returns-3 : tie.Need-returns-3 Inv-loop μ-loop
 returns-3 c =

@@ -8,9 +8,11 @@ use Rattle.edit_relocate_scratch.proofs.relocate_by.Tie as tie
 
 load-requires : tie.Need-load-requires
 load-requires c κs =
-    let start = c .before .before .before .before .before .before .before .before .before .before .before .before .before in
-    (omega (arith, start .pre .0 .sized .chunks, start .pre .1 .0 .chunks), omega (arith, start .pre .0 .sized .pieces, start .pre .1 .0 .pieces),
-        omega (arith, start .pre .0 .sized .store, start .pre .1 .0 .store))
+    let start = c .before .before .before .before .before .before .before .before .before .before .before .before .before in (
+      omega (arith, start .pre .0 .sized .chunks, start .pre .1 .0 .chunks),
+      omega (arith, start .pre .0 .sized .pieces, start .pre .1 .0 .pieces),
+      omega (arith, start .pre .0 .sized .store, start .pre .1 .0 .store),
+    )
 
 relocate-steps-requires : tie.Need-relocate-steps-requires
 relocate-steps-requires c κs =
@@ -21,7 +23,7 @@ relocate-steps-requires c κs =
 finish-requires : tie.Need-finish-requires
 finish-requires c κs =
     let start = c .before .before .before .before .before .before .before .before .before .before .before .before .before .before .before .before .before
-        .before .before .before .before .before .before .before .before .before .before .before .before .before in
+    .before .before .before .before .before .before .before .before .before .before .before .before .before in
     let load = c .before .before .before .before .before .before .before .before .before .before .before .before .before .before .before .before .load in
     let relocate-rows = c .before .before .before .before .before .before .before .before .relocate-steps in
     (relocated-readable (start .pre .0) (start .pre .1 .0) (load .ensures) (start .pre .1 .1) (relocate-rows .ensures), formed-usable (start .pre .0))
@@ -47,10 +49,10 @@ same-length-6 c = search needs
 returns : tie.Need-returns
 returns c =
     let start = c .before .before .before .before .before .before .before .before .before .before .before .before .before .before .before .before .before
-        .before .before .before .before .before .before .before .before .before .before .before .before .before .before .before .before .before .before
-        .before .before in
+    .before .before .before .before .before .before .before .before .before .before .before .before .before .before .before .before .before .before
+    .before .before in
     let load = c .before .before .before .before .before .before .before .before .before .before .before .before .before .before .before .before .before
-        .before .before .before .before .before .before .load in
+    .before .before .before .before .before .before .load in
     let relocate-rows = c .before .before .before .before .before .before .before .before .before .before .before .before .before .before .before .relocate-steps in
     let finish = c .before .before .before .before .before .before .finish in
     record {

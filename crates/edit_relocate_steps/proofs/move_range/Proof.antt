@@ -50,7 +50,7 @@ returns-2 c =
     let first = c .before .before .before .before .before .before .before .first .given in
     let w = subst (RangeIn t a b) (first .1) (c .before .before .before .before .before .before .before .before .before .find-range .ensures) in
     moved-there a b to t (start .pre .0) (start .pre .1) (first .0 .0) (first .0 .1 .0) w (c .before .before .before .before .place-of .result)
-        (c .before .before .before .before .place-of .ensures) (sym (ap (λ (r : Row). r .next) (c .before .before .get-row .ensures)) ∙ c .if1 .taken)
+    (c .before .before .before .before .place-of .ensures) (sym (ap (λ (r : Row). r .next) (c .before .before .get-row .ensures)) ∙ c .if1 .taken)
 
 move-run-requires : tie.Need-move-run-requires
 move-run-requires c κs =
@@ -60,10 +60,12 @@ move-run-requires c κs =
     let b = start .args .b in
     let to = start .args .to in
     let first = c .before .before .before .before .before .before .before .before .first .given in
-    let w = subst (RangeIn t a b) (first .1) (c .before .before .before .before .before .before .before .before .before .before .find-range .ensures) in
-    (start .pre .0 .readable .linked, moved-at a b to t (start .pre .0) (start .pre .1) (first .0 .0) (first .0 .1 .0) w
-        (c .before .before .before .before .before .place-of .result) (c .before .before .before .before .before .place-of .ensures)
-        (λ h. c .before .if1 .left (ap (λ (r : Row). r .next) (c .before .before .before .get-row .ensures) ∙ h)))
+    let w = subst (RangeIn t a b) (first .1) (c .before .before .before .before .before .before .before .before .before .before .find-range .ensures) in (
+      start .pre .0 .readable .linked,
+      moved-at a b to t (start .pre .0) (start .pre .1) (first .0 .0) (first .0 .1 .0) w
+          (c .before .before .before .before .before .place-of .result) (c .before .before .before .before .before .place-of .ensures)
+          (λ h. c .before .if1 .left (ap (λ (r : Row). r .next) (c .before .before .before .get-row .ensures) ∙ h)),
+    )
 
 same-length-3 : tie.Need-same-length-3
 same-length-3 c = search needs
@@ -78,9 +80,9 @@ returns-3 c =
     let first = c .before .before .before .before .before .before .before .before .before .before .before .first .given in
     let w = subst (RangeIn t a b) (first .1) (c .before .before .before .before .before .before .before .before .before .before .before .before .before .find-range .ensures) in
     moved-done a b to t (start .pre .0) (start .pre .1) (first .0 .0) (first .0 .1 .0) w (c .before .before .before .before .before .before .before .before .place-of .result)
-        (c .before .before .before .before .before .before .before .before .place-of .ensures)
-        (λ h. c .before .before .before .before .if1 .left (ap (λ (r : Row). r .next) (c .before .before .before .before .before .before .get-row .ensures) ∙ h))
-        (c .before .before .move-run .last .0) (c .before .before .move-run .ensures)
+    (c .before .before .before .before .before .before .before .before .place-of .ensures)
+    (λ h. c .before .before .before .before .if1 .left (ap (λ (r : Row). r .next) (c .before .before .before .before .before .before .get-row .ensures) ∙ h))
+    (c .before .before .move-run .last .0) (c .before .before .move-run .ensures)
 
 pub move-range-spec : {M : Type 1} → statement M
 move-range-spec =

@@ -18,9 +18,11 @@ returns c =
 move-range-requires : tie.Need-move-range-requires
 move-range-requires c κs =
     let start = c .before .before .before .before .before .before .before in
-    let split-three = c .before .before .before .before .split-three in
-    (rows-spanned (start .args .a) (start .args .b) (start .args .to) (start .args .t .now) (split-three .last .0) (split-three .result) (split-three .ensures)
-        (c .before .if1 .left) (start .pre .1 .0), start .pre .1 .1)
+    let split-three = c .before .before .before .before .split-three in (
+      rows-spanned (start .args .a) (start .args .b) (start .args .to) (start .args .t .now) (split-three .last .0) (split-three .result) (split-three .ensures)
+          (c .before .if1 .left) (start .pre .1 .0),
+      start .pre .1 .1,
+    )
 
 same-length-2 : tie.Need-same-length-2
 same-length-2 c = search needs
@@ -31,7 +33,7 @@ returns-2 c =
     let split-three = c .before .before .before .before .before .before .before .split-three in
     let move-range = c .before .before .move-range in
     rows-moved (start .args .a) (start .args .b) (start .args .to) (start .args .t .now) (split-three .last .0) (split-three .result) (split-three .ensures)
-        (c .before .before .before .before .if1 .left) (move-range .last .0) (move-range .result) (move-range .ensures)
+    (c .before .before .before .before .if1 .left) (move-range .last .0) (move-range .result) (move-range .ensures)
 
 pub relocate-steps-spec : {M : Type 1} → statement M
 relocate-steps-spec =

@@ -30,7 +30,7 @@ returns-2 : tie.Need-returns-2
 returns-2 c =
     let start = c .before .before .before .before .before .before .before .before .before .before in
     cuts-more (start .args .a) (start .args .b ∷ start .args .to ∷ []) _ _ _ _ _ (c .before .before .before .before .before .before .before .split-at .ensures)
-        (c .before .before .before .before .if1 .left) (c .before .before .split-both .ensures)
+    (c .before .before .before .before .if1 .left) (c .before .before .split-both .ensures)
 
 pub split-three-spec : {M : Type 1} → statement M
 split-three-spec =

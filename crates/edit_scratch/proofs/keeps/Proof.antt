@@ -47,9 +47,15 @@ loop-holds c =
     let own-row = c .before .own-row in
     let count-row = c .count-row in
     let a = start .args in
-    let z = get-row .ensures in
-    (ap (λ (r : Row). r .start) z, record { below = omega arith; done = []; at = rw (sub-zero, z)
-        (count-start (a .t .now) (a .p .now) (a .s .now) _ _ _ (own-row .ensures ∙ ap ownOf z) (count-row .ensures .0) (count-row .ensures .1)) })
+    let z = get-row .ensures in (
+      ap (λ (r : Row). r .start) z,
+      record {
+        below = omega arith;
+        done = [];
+        at = rw (sub-zero, z)
+            (count-start (a .t .now) (a .p .now) (a .s .now) _ _ _ (own-row .ensures ∙ ap ownOf z) (count-row .ensures .0) (count-row .ensures .1));
+      },
+    )
 
 get-row-requires-2 : tie.Need-get-row-requires-2 Inv-loop μ-loop
 get-row-requires-2 c κs =
@@ -86,9 +92,15 @@ loop-again c =
     let loop-test = c .before .before .loop-test in
     let start = c .before .before .before .before .before .before .before .before .before .before .before in
     let e = get-row2 .ensures in
-    let d = rw e at (count-row2 .ensures) in
-    (loop .inv .0, record { below = omega (arith, loop-test .taken); done = loop .inv .1 .done ++ (loop .cur ∷ []); at = rw (ap (λ (r : Row). r .next) e)
-        (count-more (start .pre .0) (loop-next (loop .inv .1) (loop-test .taken)) _ _ (d .0) (d .1)) })
+    let d = rw e at (count-row2 .ensures) in (
+      loop .inv .0,
+      record {
+        below = omega (arith, loop-test .taken);
+        done = loop .inv .1 .done ++ (loop .cur ∷ []);
+        at = rw (ap (λ (r : Row). r .next) e)
+            (count-more (start .pre .0) (loop-next (loop .inv .1) (loop-test .taken)) _ _ (d .0) (d .1));
+      },
+    )
 
 returns-2 : tie.Need-returns-2 Inv-loop μ-loop
 returns-2 c =

@@ -82,7 +82,7 @@ returns-3 c =
     let t = start .args .t .now in
     let w = subst (FoundIn (meets Inside (start .args .q)) t) (i .given .1) (find .ensures) in
     found-split (start .args .q) t (i .given .0 .0) w (start .pre .linked) (split-row .last .0) (split-row .ensures)
-        (sym (ap (λ (r : Row). filled (entryOf r)) (get-row .ensures)) ∙ sym (is-filled .ensures) ∙ if1 .left)
+    (sym (ap (λ (r : Row). filled (entryOf r)) (get-row .ensures)) ∙ sym (is-filled .ensures) ∙ if1 .left)
 
 pub split-at-spec : {M : Type 1} → statement M
 split-at-spec =

@@ -55,7 +55,7 @@ returns-3 c =
     let enum-told = c .enum-told in
     let a = start .args in
     update-broken (a .start) (a .end) (a .text .now) (a .overwrite) (a .len) (a .byte) (a .t .now) _ (a .s .now) _ (split-both .ensures) (if1 .left)
-        (if2 .left) _ (subst (Walked (a .start) (a .end) (split-both .last .0) (update-walk .last .0)) (enum-told .given .1) (update-walk .ensures))
+    (if2 .left) _ (subst (Walked (a .start) (a .end) (split-both .last .0) (update-walk .last .0)) (enum-told .given .1) (update-walk .ensures))
 
 same-length-4 : tie.Need-same-length-4
 same-length-4 c = search needs
@@ -71,8 +71,8 @@ returns-4 c =
     let if3 = c .if3 in
     let a = start .args in
     update-long (a .start) (a .end) (a .text .now) (a .overwrite) (a .len) (a .byte) (a .t .now) _ (a .s .now) _ (split-both .ensures) (if1 .left)
-        (if2 .left) _ (i .given .0 .0) (subst (Walked (a .start) (a .end) (split-both .last .0) (update-walk .last .0)) (i .given .1) (update-walk .ensures))
-        (if3 .taken)
+    (if2 .left) _ (i .given .0 .0) (subst (Walked (a .start) (a .end) (split-both .last .0) (update-walk .last .0)) (i .given .1) (update-walk .ensures))
+    (if3 .taken)
 
 edit-first-requires : tie.Need-edit-first-requires
 edit-first-requires c κs =
@@ -83,9 +83,10 @@ edit-first-requires c κs =
     let if3 = c .before .before .if3 in
     let a = start .args in
     let d = subst (Walked (a .start) (a .end) (split-both .last .0) (update-walk .last .0)) (i .given .1) (update-walk .ensures) in
-    let w = d .ended .1 in
-    (omega (arith, d .linked .room, inside-at (update-walk .last .0) (w .us) (i .given .0 .0) (w .bs) (d .linked) (w .place) .1),
-        (if3 .left, (start .pre .1 .0, omega (arith, start .pre .1 .1 (if3 .left), split-both .kept .0))))
+    let w = d .ended .1 in (
+      omega (arith, d .linked .room, inside-at (update-walk .last .0) (w .us) (i .given .0 .0) (w .bs) (d .linked) (w .place) .1),
+      (if3 .left, (start .pre .1 .0, omega (arith, start .pre .1 .1 (if3 .left), split-both .kept .0))),
+    )
 
 same-length-5 : tie.Need-same-length-5
 same-length-5 c = search needs
@@ -96,7 +97,7 @@ same-length-6 c = search needs
 returns-5 : tie.Need-returns-5
 returns-5 c =
     let start = c .before .before .before .before .before .before .before .before .before .before .before .before .before .before .before .before .before
-        .before .before .before .before .before .before .before in
+    .before .before .before .before .before .before .before in
     let split-both = c .before .before .before .before .before .before .before .before .before .before .before .before .before .before .before .before .before .before .before .split-both in
     let update-walk = c .before .before .before .before .before .before .before .before .before .before .before .before .before .update-walk in
     let i = c .before .before .before .before .before .before .before .before .before .i in
@@ -106,7 +107,7 @@ returns-5 c =
     let a = start .args in
     let d = subst (Walked (a .start) (a .end) (split-both .last .0) (update-walk .last .0)) (i .given .1) (update-walk .ensures) in
     update-done (a .start) (a .end) (a .text .now) (a .overwrite) (a .len) (a .byte) (a .t .now) _ (a .s .now) _ (split-both .ensures) (if1 .left)
-        (if2 .left) _ (i .given .0 .0) d _ _ (start .pre .1 .0) (edit-first .ensures) (edit-first .kept .1 .0)
+    (if2 .left) _ (i .given .0 .0) d _ _ (start .pre .1 .0) (edit-first .ensures) (edit-first .kept .1 .0)
 
 pub update-steps-spec : {M : Type 1} → statement M
 update-steps-spec =

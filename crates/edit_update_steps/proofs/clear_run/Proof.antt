@@ -124,11 +124,14 @@ loop-again c =
     let get-row2 = c .before .before .before .before .before .before .before .get-row2 in
     let if3 = c .before .before .before .before .before .if3 in
     let put-row = c .before .before .put-row in
-    let emptied = c .before .before .before .emptied in
-    (step-more (loop .inv .2 (start .pre .1)) (loop .next) (loop .inv .0) (if1 .left) (if2 .left) (get-row2 .result) (get-row2 .ensures) (if3 .left)
-        (put-row .last .0) (emptied .result) (emptied .ensures) (put-row .ensures) (put-row .kept .0) .1, start .pre .0, λ w. step-more (loop .inv .2 w)
-        (loop .next) (loop .inv .0) (if1 .left) (if2 .left) (get-row2 .result) (get-row2 .ensures) (if3 .left) (put-row .last .0) (emptied .result)
-        (emptied .ensures) (put-row .ensures) (put-row .kept .0) .0)
+    let emptied = c .before .before .before .emptied in (
+      step-more (loop .inv .2 (start .pre .1)) (loop .next) (loop .inv .0) (if1 .left) (if2 .left) (get-row2 .result) (get-row2 .ensures) (if3 .left)
+          (put-row .last .0) (emptied .result) (emptied .ensures) (put-row .ensures) (put-row .kept .0) .1,
+      start .pre .0,
+      λ w. step-more (loop .inv .2 w)
+          (loop .next) (loop .inv .0) (if1 .left) (if2 .left) (get-row2 .result) (get-row2 .ensures) (if3 .left) (put-row .last .0) (emptied .result)
+          (emptied .ensures) (put-row .ensures) (put-row .kept .0) .0,
+    )
 
 same-length-4 : tie.Need-same-length-4 Inv-loop μ-loop
 same-length-4 c =

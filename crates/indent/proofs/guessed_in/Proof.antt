@@ -55,7 +55,7 @@ same-length-4 c = search needs
 returns : tie.Need-returns
 returns c =
     let start = c .before .before .before .before .before .before .before .before .before .before .before .before .before .before .before .before .before
-        .before .before .before .before .before .before in
+    .before .before .before .before .before .before in
     let tables = c .before .before .before .before .before .before .indent-scratch in
     let guess-indentor = c .before .before .before .before .before .before .before .before .before .before .before .before .before .before .before .before .guess-indentor in
     let indentor-len = c .before .before .before .before .before .before .before .before .before .before .before .before .before .before .before .indentor-len in

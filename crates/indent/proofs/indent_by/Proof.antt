@@ -16,7 +16,7 @@ load-requires c κs =
 indent-steps-requires : tie.Need-indent-steps-requires
 indent-steps-requires c κs =
     let start = c .before .before .before .before .before .before .before .before .before .before .before .before .before .before .before .before .before
-        .before .before .before .before .before .before .before .before .before .before in
+    .before .before .before .before .before .before .before .before .before .before in
     steps-ready (start .pre .0 .well-formed) (start .pre .1) (c .before .before .before .before .before .before .before .before .before .before .before .load .ensures)
 
 same-length : tie.Need-same-length
@@ -40,8 +40,8 @@ same-length-6 c = search needs
 returns : tie.Need-returns
 returns c =
     let start = c .before .before .before .before .before .before .before .before .before .before .before .before .before .before .before .before .before
-        .before .before .before .before .before .before .before .before .before .before .before .before .before .before .before .before .before
-        .before in
+    .before .before .before .before .before .before .before .before .before .before .before .before .before .before .before .before .before
+    .before in
     let load = c .before .before .before .before .before .before .before .before .before .before .before .before .before .before .before .before .before .before .before .load in
     let indent-steps = c .before .before .before .before .before .before .before .indent-steps in
     (indent-past (start .pre .0 .well-formed) (start .pre .1) (load .ensures) (indent-steps .ensures) (c .if1 .taken), start .pre .0 .above)
@@ -49,10 +49,10 @@ returns c =
 finish-requires : tie.Need-finish-requires
 finish-requires c κs =
     let start = c .before .before .before .before .before .before .before .before .before .before .before .before .before .before .before .before .before
-        .before .before .before .before .before .before .before .before .before .before .before .before .before .before .before .before .before .before
-        .before .before .before .before .before .before in
+    .before .before .before .before .before .before .before .before .before .before .before .before .before .before .before .before .before .before
+    .before .before .before .before .before .before in
     let load = c .before .before .before .before .before .before .before .before .before .before .before .before .before .before .before .before .before
-        .before .before .before .before .before .before .before .before .load in
+    .before .before .before .before .before .before .before .before .load in
     let indent-steps = c .before .before .before .before .before .before .before .before .before .before .before .before .before .indent-steps in
     let if1 = c .before .before .before .before .before .before .if1 in
     (indent-readable (start .pre .0 .well-formed) (start .pre .1) (load .ensures) (indent-steps .ensures) (if1 .left), formed-usable (start .pre .0 .well-formed))
@@ -69,14 +69,14 @@ same-length-9 c = search needs
 same-length-10 : tie.Need-same-length-10
 same-length-10 c =
     let load = c .before .before .before .before .before .before .before .before .before .before .before .before .before .before .before .before .before
-        .before .before .before .before .before .before .before .before .before .before .before .before .before .before .before .load in
+    .before .before .before .before .before .before .before .before .before .before .before .before .before .before .before .load in
     let steps = c .before .before .before .before .before .before .before .before .before .before .before .before .before .before .before .before .before .before .before .before .indent-steps in
     steps .kept .1 .1 .1 .0 ∙ load .kept .1 .1 .1 .0
 
 same-length-11 : tie.Need-same-length-11
 same-length-11 c =
     let load = c .before .before .before .before .before .before .before .before .before .before .before .before .before .before .before .before .before
-        .before .before .before .before .before .before .before .before .before .before .before .before .before .before .before .load in
+    .before .before .before .before .before .before .before .before .before .before .before .before .before .before .before .load in
     let steps = c .before .before .before .before .before .before .before .before .before .before .before .before .before .before .before .before .before .before .before .before .indent-steps in
     steps .kept .1 .1 .1 .1 .0 ∙ load .kept .1 .1 .1 .1 .0
 
@@ -86,13 +86,13 @@ same-length-12 c = search needs
 returns-2 : tie.Need-returns-2
 returns-2 c =
     let start = c .before .before .before .before .before .before .before .before .before .before .before .before .before .before .before .before .before
-        .before .before .before .before .before .before .before .before .before .before .before .before .before .before .before .before .before .before
-        .before .before .before .before .before .before .before .before .before .before .before .before .before in
+    .before .before .before .before .before .before .before .before .before .before .before .before .before .before .before .before .before .before
+    .before .before .before .before .before .before .before .before .before .before .before .before .before in
     let finish = c .before .before .before .before .before .before .finish in
     let load = c .before .before .before .before .before .before .before .before .before .before .before .before .before .before .before .before .before
-        .before .before .before .before .before .before .before .before .before .before .before .before .before .before .before .load in
+    .before .before .before .before .before .before .before .before .before .before .before .before .before .before .before .load in
     let indent-steps = c .before .before .before .before .before .before .before .before .before .before .before .before .before .before .before .before
-        .before .before .before .before .indent-steps in
+    .before .before .before .before .indent-steps in
     let if1 = c .before .before .before .before .before .before .before .before .before .before .before .before .before .if1 in
     (indent-ran (start .pre .0 .well-formed) (start .pre .1) (load .ensures) (indent-steps .ensures) (if1 .left) (finish .ensures .0), finish .ensures .1)
 

@@ -36,7 +36,7 @@ returns c =
     let a = c .before .before .before .before .before .before .before .args in
     let loop = c .before .before .before .before .loop in
     all-stop (between (a .source .now)) (a .exclude .now) (loop .i) (loop .inv .1) (c .before .before .before .loop-test .taken) (c .before .boundary .result)
-        (c .before .boundary .ensures) (not-true _ (c .if1 .taken))
+    (c .before .boundary .ensures) (not-true _ (c .if1 .taken))
 
 add-i : tie.Need-add-i Inv-loop μ-loop
 add-i c = omega (arith, c .before .before .before .loop-test .taken)
@@ -47,9 +47,11 @@ loop-less c = omega (arith, c .before .before .before .loop-test .taken)
 loop-again : tie.Need-loop-again Inv-loop μ-loop
 loop-again c =
     let a = c .before .before .before .before .before .before .before .args in
-    let loop = c .before .before .before .before .loop in
-    (omega (arith, c .before .before .before .loop-test .taken), all-more (between (a .source .now)) (a .exclude .now) (loop .i) (loop .inv .1)
-        (c .before .before .before .loop-test .taken) (c .before .boundary .result) (c .before .boundary .ensures) (not-false _ (c .if1 .left)))
+    let loop = c .before .before .before .before .loop in (
+      omega (arith, c .before .before .before .loop-test .taken),
+      all-more (between (a .source .now)) (a .exclude .now) (loop .i) (loop .inv .1)
+          (c .before .before .before .loop-test .taken) (c .before .boundary .result) (c .before .boundary .ensures) (not-false _ (c .if1 .left)),
+    )
 
 returns-2 : tie.Need-returns-2 Inv-loop μ-loop
 returns-2 c =

@@ -26,11 +26,11 @@ same-length-2 c = search needs
 returns : tie.Need-returns
 returns c =
     row-lines (c .before .before .before .before .before .before .before .before .before .before .before .before .before .before .before .before .before
-        .before .args .exclude .now) (c .before .before .before .before .before .before .before .before .before .before .before .before .before .before
-        .before .before .before .before .args .mark) (c .before .before .before .before .before .before .before .before .before .before .before .before
-        .before .before .before .before .before .before .pre)
-        (sym (ap (λ (r : Row). r .«text_at») (c .before .before .before .before .before .before .before .before .before .get-row .ensures))
-        ∙ c .before .before .before .before .before .before .before .if1 .taken) refl (c .before .before .before .before .indent-source .ensures)
+    .before .args .exclude .now) (c .before .before .before .before .before .before .before .before .before .before .before .before .before .before
+    .before .before .before .before .args .mark) (c .before .before .before .before .before .before .before .before .before .before .before .before
+    .before .before .before .before .before .before .pre)
+    (sym (ap (λ (r : Row). r .«text_at») (c .before .before .before .before .before .before .before .before .before .get-row .ensures))
+    ∙ c .before .before .before .before .before .before .before .if1 .taken) refl (c .before .before .before .before .indent-source .ensures)
 
 is-excluded-requires : tie.Need-is-excluded-requires
 is-excluded-requires c κs = search needs
@@ -43,16 +43,16 @@ returns-2 c =
     let a = c .before .before .before .before .before .before .before .before .before .before .before .before .before .args in
     let g = c .before .before .before .before .get-row .ensures in
     row-excluded (a .exclude .now) (a .mark) (c .before .before .before .before .before .before .before .before .before .before .before .before .before .pre)
-        (λ z. c .before .before .if1 .left (ap (λ (r : Row). r .«text_at») g ∙ z))
+    (λ z. c .before .before .if1 .left (ap (λ (r : Row). r .«text_at») g ∙ z))
     (ap (λ (r : Row). excluded (a .exclude .now) (r .start)) (sym g) ∙ sym (c .before .is-excluded .ensures) ∙ c .if2 .taken)
 
 indent-replacement-requires : tie.Need-indent-replacement-requires
 indent-replacement-requires c κs =
     replacement-ready (c .before .before .before .before .before .before .before .before .before .before .before .before .before .before .before .args .exclude .now)
-        (c .before .before .before .before .before .before .before .before .before .before .before .before .before .before .before .args .mark)
-        (c .before .before .before .before .before .before .before .before .before .before .before .before .before .before .before .pre)
-        (λ z. c .before .before .before .before .if1 .left (ap (λ (r : Row). r .«text_at») (c .before .before .before .before .before .before .get-row .ensures)
-        ∙ z))
+    (c .before .before .before .before .before .before .before .before .before .before .before .before .before .before .before .args .mark)
+    (c .before .before .before .before .before .before .before .before .before .before .before .before .before .before .before .pre)
+    (λ z. c .before .before .before .before .if1 .left (ap (λ (r : Row). r .«text_at») (c .before .before .before .before .before .before .get-row .ensures)
+    ∙ z))
 
 same-length-4 : tie.Need-same-length-4
 same-length-4 c = search needs
@@ -65,11 +65,11 @@ returns-3 c =
     let a = c .before .before .before .before .before .before .before .before .before .before .before .before .before .before .before .before .before .before .before .before .args in
     let g = c .before .before .before .before .before .before .before .before .before .before .before .get-row .ensures in
     row-replaced (a .exclude .now) (a .mark) (c .before .before .before .before .before .before .before .before .before .before .before .before .before
-        .before .before .before .before .before .before .before .pre) (λ z. c .before .before .before .before .before .before .before .before .before .if1 .left
-        (ap (λ (r : Row). r .«text_at») g ∙ z))
+    .before .before .before .before .before .before .before .pre) (λ z. c .before .before .before .before .before .before .before .before .before .if1 .left
+    (ap (λ (r : Row). r .«text_at») g ∙ z))
     (ap (λ (r : Row). excluded (a .exclude .now) (r .start)) (sym g) ∙ sym (c .before .before .before .before .before .before .before .before .is-excluded .ensures)
-        ∙ c .before .before .before .before .before .before .before .if2 .left) (c .before .before .before .before .indent-replacement .ensures .0)
-        (c .before .before .before .before .indent-replacement .ensures .1)
+    ∙ c .before .before .before .before .before .before .before .if2 .left) (c .before .before .before .before .indent-replacement .ensures .0)
+    (c .before .before .before .before .indent-replacement .ensures .1)
 
 pub indent-row-spec : {M : Type 1} → statement M
 indent-row-spec =

@@ -27,7 +27,7 @@ returns c =
     let a = c .before .before .before .before .before .before .before .args in
     let l = c .before .before .before .loop in
     lines-end (a .exclude .now) (a .source .now) (a .t .now) (a .i) (a .from) (a .end) (a .mark) (l .t) (l .cur) (l .at) (l .m)
-        (c .before .before .before .before .before .before .before .pre) (l .inv)
+    (c .before .before .before .before .before .before .before .pre) (l .inv)
     (c .before .next-start .result .at) (c .before .next-start .result .mark) (c .before .next-start .ensures) (c .if1 .taken)
 
 is-full-requires : tie.Need-is-full-requires Inv-loop μ-loop
@@ -41,10 +41,10 @@ returns-2 c =
     let a = c .before .before .before .before .before .before .before .before .before .before .args in
     let l = c .before .before .before .before .before .before .loop in
     lines-full (a .exclude .now) (a .source .now) (a .t .now) (a .i) (a .from) (a .end) (a .mark) (l .t) (l .cur) (l .at) (l .m)
-        (c .before .before .before .before .before .before .before .before .before .before .pre) (l .inv)
+    (c .before .before .before .before .before .before .before .before .before .before .pre) (l .inv)
     (c .before .before .before .before .next-start .result .at) (c .before .before .before .before .next-start .result .mark)
-        (c .before .before .before .before .next-start .ensures) (c .before .before .before .if1 .left)
-        (sym (c .before .is-full .ensures) ∙ c .if2 .taken)
+    (c .before .before .before .before .next-start .ensures) (c .before .before .before .if1 .left)
+    (sym (c .before .is-full .ensures) ∙ c .if2 .taken)
 
 cut-part-requires : tie.Need-cut-part-requires Inv-loop μ-loop
 cut-part-requires c κs =
@@ -64,20 +64,23 @@ add-at : tie.Need-add-at Inv-loop μ-loop
 add-at c = omega (arith, c .before .before .before .before .before .before .before .before .next-start .ensures .up-to, c .before .before .before .before .before .before .before .if1 .left)
 
 loop-less : tie.Need-loop-less Inv-loop μ-loop
-loop-less c = omega (arith, c .before .before .before .before .before .before .before .before .next-start .ensures .up-to,
-    c .before .before .before .before .before .before .before .before .next-start .ensures .from-on,
-    c .before .before .before .before .before .before .before .before .before .loop-test .taken)
+loop-less c = omega (
+  arith,
+  c .before .before .before .before .before .before .before .before .next-start .ensures .up-to,
+  c .before .before .before .before .before .before .before .before .next-start .ensures .from-on,
+  c .before .before .before .before .before .before .before .before .before .loop-test .taken,
+)
 
 loop-again : tie.Need-loop-again Inv-loop μ-loop
 loop-again c =
     let a = c .before .before .before .before .before .before .before .before .before .before .before .before .before .before .args in
     let l = c .before .before .before .before .before .before .before .before .before .before .loop in
     lines-more (a .exclude .now) (a .source .now) (a .t .now) (a .i) (a .from) (a .end) (a .mark) (l .t) (l .cur) (l .at) (l .m)
-        (c .before .before .before .before .before .before .before .before .before .before .before .before .before .before .pre) (l .inv)
+    (c .before .before .before .before .before .before .before .before .before .before .before .before .before .before .pre) (l .inv)
     (c .before .before .before .before .before .before .before .before .next-start .result .at)
-        (c .before .before .before .before .before .before .before .before .next-start .result .mark)
-        (c .before .before .before .before .before .before .before .before .next-start .ensures) (c .before .before .before .before .before .before .before .if1 .left)
-        (c .before .before .cut-part .last .0) (c .before .before .cut-part .result) (c .before .before .cut-part .ensures)
+    (c .before .before .before .before .before .before .before .before .next-start .result .mark)
+    (c .before .before .before .before .before .before .before .before .next-start .ensures) (c .before .before .before .before .before .before .before .if1 .left)
+    (c .before .before .cut-part .last .0) (c .before .before .cut-part .result) (c .before .before .cut-part .ensures)
 
 same-length-3 : tie.Need-same-length-3 Inv-loop μ-loop
 same-length-3 c = c .before .loop .inv .cutting .len
@@ -87,7 +90,7 @@ returns-3 c =
     let a = c .before .before .before .before .before .args in
     let l = c .before .loop in
     lines-out (a .exclude .now) (a .source .now) (a .t .now) (a .i) (a .from) (a .end) (a .mark) (l .t) (l .cur) (l .at) (l .m)
-        (c .before .before .before .before .before .pre) (l .inv) (c .loop-test .left)
+    (c .before .before .before .before .before .pre) (l .inv) (c .loop-test .left)
 
 pub cut-lines-spec : {M : Type 1} → statement M
 cut-lines-spec =

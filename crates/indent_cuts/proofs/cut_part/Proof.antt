@@ -16,16 +16,23 @@ split-row-requires : tie.Need-split-row-requires
 split-row-requires c κs = search needs
 
 get-row-requires-2 : tie.Need-get-row-requires-2
-get-row-requires-2 c κs = omega (arith, ap (λ (r : Row). r .start) (c .before .before .before .before .before .before .get-row .ensures),
-    c .before .before .before .before .before .before .before .before .before .pre .1 .1 .0, c .before .before .before .split-row .kept .0)
+get-row-requires-2 c κs = omega (
+  arith,
+  ap (λ (r : Row). r .start) (c .before .before .before .before .before .before .get-row .ensures),
+  c .before .before .before .before .before .before .before .before .before .pre .1 .1 .0,
+  c .before .before .before .split-row .kept .0,
+)
 
 with-side-requires : tie.Need-with-side-requires
 with-side-requires c κs = search needs
 
 put-row-requires : tie.Need-put-row-requires
-put-row-requires c κs = omega (arith, ap (λ (r : Row). r .start) (c .before .before .before .before .before .before .before .before .before .get-row .ensures),
-    c .before .before .before .before .before .before .before .before .before .before .before .before .pre .1 .1 .0,
-    c .before .before .before .before .before .before .split-row .kept .0)
+put-row-requires c κs = omega (
+  arith,
+  ap (λ (r : Row). r .start) (c .before .before .before .before .before .before .before .before .before .get-row .ensures),
+  c .before .before .before .before .before .before .before .before .before .before .before .before .pre .1 .1 .0,
+  c .before .before .before .before .before .before .split-row .kept .0,
+)
 
 same-length : tie.Need-same-length
 same-length c = search needs
@@ -33,11 +40,11 @@ same-length c = search needs
 returns : tie.Need-returns
 returns c =
     cut-made (c .before .before .before .before .before .before .before .before .before .before .before .before .before .before .before .pre .0)
-        (c .before .before .before .before .before .before .before .before .before .before .before .before .before .before .before .pre .1 .0)
-        (c .before .before .before .before .before .before .before .before .before .before .before .before .get-row .ensures)
-        (c .before .before .before .before .before .before .before .before .before .split-row .ensures)
-        (c .before .before .before .before .before .before .before .before .before .split-row .kept .0) (c .before .before .before .before .before .get-row2 .ensures)
-        (c .before .before .before .with-side .ensures)
+    (c .before .before .before .before .before .before .before .before .before .before .before .before .before .before .before .pre .1 .0)
+    (c .before .before .before .before .before .before .before .before .before .before .before .before .get-row .ensures)
+    (c .before .before .before .before .before .before .before .before .before .split-row .ensures)
+    (c .before .before .before .before .before .before .before .before .before .split-row .kept .0) (c .before .before .before .before .before .get-row2 .ensures)
+    (c .before .before .before .with-side .ensures)
     (c .before .before .put-row .ensures) (c .before .before .put-row .kept .0)
 
 pub cut-part-spec : {M : Type 1} → statement M

@@ -22,8 +22,11 @@ cast-set-piece : tie.Need-cast-set-piece
 cast-set-piece c = search needs
 
 cast-set-piece-2 : tie.Need-cast-set-piece-2
-cast-set-piece-2 c = omega (arith, piece-end (c .before .before .before .before .before .indent-into .ensures .0) (not-false _ (c .before .if1 .left)),
-    c .before .before .before .before .before .before .before .before .before .before .before .pre .1 .narrow)
+cast-set-piece-2 c = omega (
+  arith,
+  piece-end (c .before .before .before .before .before .indent-into .ensures .0) (not-false _ (c .before .if1 .left)),
+  c .before .before .before .before .before .before .before .before .before .before .before .pre .1 .narrow,
+)
 
 set-piece-requires : tie.Need-set-piece-requires
 set-piece-requires c κs = search needs
@@ -37,9 +40,10 @@ same-length-3 c = search needs
 returns-2 : tie.Need-returns-2
 returns-2 c =
     let start = c .before .before .before .before .before .before .before .before .before .before .before .before .before .before in
-    let made = c .before .before .before .before .before .before .before .before .indent-into .ensures in
-    (piece-done (made .0) (start .args .p .now) _ (start .args .row) (not-false _ (c .before .before .before .before .if1 .left)) (start .pre .1 .row-in) (c .before .before .set-piece .ensures),
-        made .1)
+    let made = c .before .before .before .before .before .before .before .before .indent-into .ensures in (
+      piece-done (made .0) (start .args .p .now) _ (start .args .row) (not-false _ (c .before .before .before .before .if1 .left)) (start .pre .1 .row-in) (c .before .before .set-piece .ensures),
+      made .1,
+    )
 
 pub indent-piece-spec : {M : Type 1} → statement M
 indent-piece-spec =

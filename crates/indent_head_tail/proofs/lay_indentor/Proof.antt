@@ -24,8 +24,8 @@ returns-2 : tie.Need-returns-2
 returns-2 c =
     let a = c .before .before .before .before .before .before .before .before .before .before .before .args in
     laid-one (a .indentor .now) (a .p .now) (a .s .now) (c .before .before .before .before .before .before .before .before .before .before .before .pre)
-        (omega (arith, c .before .before .before .before .before .before .before .if1 .left)) _ _ _
-        (c .before .before .before .before .push-piece .ensures)
+    (omega (arith, c .before .before .before .before .before .before .before .if1 .left)) _ _ _
+    (c .before .before .before .before .push-piece .ensures)
 
 pub lay-indentor-spec : {M : Type 1} → statement M
 lay-indentor-spec =

@@ -23,7 +23,7 @@ returns-2 : tie.Need-returns-2
 returns-2 c =
     let a = c .before .before .before .before .before .args in
     following (takes (a .mark) (a .b)) (follows (a .b)) (excluded (a .exclude .now) (a .i)) (c .before .before .before .takes-mark .ensures)
-        (not-false _ (c .before .before .if1 .left)) (c .before .follows-on .ensures) (c .if2 .taken)
+    (not-false _ (c .before .before .if1 .left)) (c .before .follows-on .ensures) (c .if2 .taken)
 
 is-excluded-requires : tie.Need-is-excluded-requires
 is-excluded-requires c κs = search needs
@@ -32,7 +32,7 @@ returns-3 : tie.Need-returns-3
 returns-3 c =
     let a = c .before .before .before .before .before .before .args in
     leading (takes (a .mark) (a .b)) (follows (a .b)) (excluded (a .exclude .now) (a .i)) (c .before .before .before .before .takes-mark .ensures)
-        (not-false _ (c .before .before .before .if1 .left)) (c .before .before .follows-on .ensures) (c .before .if2 .left) (c .is-excluded .ensures)
+    (not-false _ (c .before .before .before .if1 .left)) (c .before .before .follows-on .ensures) (c .before .if2 .left) (c .is-excluded .ensures)
 
 pub begins-spec : {M : Type 1} → statement M
 begins-spec =

@@ -22,7 +22,7 @@ returns-2 c =
     let a = c .before .before .before .before .before .args in
     let m = c .before .before .before .if1 .left in
     feed-past (a .mark) (eqb (a .b) LF) (excluded (a .exclude .now) (a .i)) m (sym (mark-clear (a .mark) (a .b) m) ∙ sym (c .before .before .mark-on .ensures)
-        ∙ c .before .if2 .taken) (c .is-excluded .ensures)
+    ∙ c .before .if2 .taken) (c .is-excluded .ensures)
 
 returns-3 : tie.Need-returns-3
 returns-3 c =

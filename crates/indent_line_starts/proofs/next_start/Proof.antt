@@ -27,7 +27,7 @@ begins-requires c κs = search needs
 returns : tie.Need-returns Inv-loop μ-loop
 returns c =
     seek-met _ _ _ _ _ _ _ _ _ (c .before .before .before .before .before .loop .inv) (c .before .before .before .before .loop-test .taken)
-        (c .before .before .before .before .before .before .before .before .pre .1)
+    (c .before .before .before .before .before .before .before .before .pre .1)
     (c .before .before .before .wide .ensures) (c .before .begins .ensures) (c .if1 .taken)
 
 mark-past-byte-requires : tie.Need-mark-past-byte-requires Inv-loop μ-loop
@@ -42,7 +42,7 @@ loop-less c = omega arith
 loop-again : tie.Need-loop-again Inv-loop μ-loop
 loop-again c =
     seek-more _ _ _ _ _ _ _ _ _ _ (c .before .before .before .before .before .before .loop .inv) (c .before .before .before .before .before .loop-test .taken)
-        (c .before .before .before .before .before .before .before .before .before .pre .1)
+    (c .before .before .before .before .before .before .before .before .before .pre .1)
     (c .before .before .before .before .wide .ensures) (c .before .before .begins .ensures) (c .before .if1 .left) (c .mark-past-byte .ensures)
 
 returns-2 : tie.Need-returns-2 Inv-loop μ-loop

@@ -23,10 +23,13 @@ same-length-2 : tie.Need-same-length-2
 same-length-2 c = search needs
 
 returns : tie.Need-returns
-returns c = (refl, replacement-short (c .before .before .before .before .before .before .before .before .before .before .before .before .args .indentor .now)
-    (c .before .before .before .before .before .before .before .before .before .before .before .before .args .mark)
-    (c .before .before .before .before .before .before .get-row .ensures) (c .before .before .before .before .write-indented .ensures)
-    (not-true _ (c .if1 .taken)))
+returns c = (
+  refl,
+  replacement-short (c .before .before .before .before .before .before .before .before .before .before .before .before .args .indentor .now)
+      (c .before .before .before .before .before .before .before .before .before .before .before .before .args .mark)
+      (c .before .before .before .before .before .before .get-row .ensures) (c .before .before .before .before .write-indented .ensures)
+      (not-true _ (c .if1 .taken)),
+)
 
 sub-with-text : tie.Need-sub-with-text
 sub-with-text c = omega (arith, c .before .before .before .before .before .before .write-indented .ensures .end-is (not-false _ (c .before .before .if1 .left)))

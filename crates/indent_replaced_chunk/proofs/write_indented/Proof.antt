@@ -35,7 +35,7 @@ returns c =
     let a = c .before .before .before .before .before .before .before .before .before .before .args in
     let z : a .at + a .n - a .at ≡ a .n = omega arith in
     written-short (a .indentor .now) (a .mark) (bytesAt (a .store .now) (a .at, a .n)) _ (ap (λ (k : ℕ). take k (drop (a .at) (a .store .now))) z)
-        (c .before .before .before .before .indent-into .ensures .0) (not-true _ (c .if1 .taken))
+    (c .before .before .before .before .indent-into .ensures .0) (not-true _ (c .if1 .taken))
 
 cast-t18 : tie.Need-cast-t18
 cast-t18 c =
@@ -53,7 +53,7 @@ returns-2 c =
     let k = not-false _ (c .before .if1 .left) in
     written-fits (a .indentor .now) (a .mark) (bytesAt (a .store .now) (a .at, a .n)) _ (ap (λ (j : ℕ). take j (drop (a .at) (a .store .now))) z)
     (c .before .before .before .before .before .before .before .before .before .before .before .pre .1 .0)
-        (c .before .before .before .before .before .indent-into .ensures .0) k (c .before .before .before .before .before .indent-into .ensures .1 k)
+    (c .before .before .before .before .before .indent-into .ensures .0) k (c .before .before .before .before .before .indent-into .ensures .1 k)
 
 pub write-indented-spec : {M : Type 1} → statement M
 write-indented-spec =

@@ -21,8 +21,8 @@ same-length c = search needs
 returns : tie.Need-returns
 returns c =
     begun-alone (c .before .before .before .before .before .before .before .before .before .before .pre) (c .before .before .before .before .before .before .get-row .result)
-        (c .before .before .before .before .before .before .get-row .ensures) (c .before .before .put-row .last .0) (c .before .before .before .with-side .result)
-        (c .before .before .put-row .ensures) (c .before .before .put-row .kept .0)
+    (c .before .before .before .before .before .before .get-row .ensures) (c .before .before .put-row .last .0) (c .before .before .before .with-side .result)
+    (c .before .before .put-row .ensures) (c .before .before .put-row .kept .0)
     (c .before .before .before .before .before .if1 .taken) (c .before .before .before .with-side .ensures)
 
 prefix-run-requires : tie.Need-prefix-run-requires
@@ -31,8 +31,8 @@ prefix-run-requires c κs = begin-room (c .before .before .before .before .befor
 add-with-side : tie.Need-add-with-side
 add-with-side c =
     let r = begin-room (c .before .before .before .before .before .before .before .before .before .before .pre)
-        (c .before .before .before .before .before .before .get-row .result) (c .before .before .before .before .before .before .get-row .ensures)
-        (c .before .before .before .before .before .if1 .left) in
+    (c .before .before .before .before .before .before .get-row .result) (c .before .before .before .before .before .before .get-row .ensures)
+    (c .before .before .before .before .before .if1 .left) in
     omega (arith, r .room, r .narrow)
 
 with-side-requires-2 : tie.Need-with-side-requires-2
@@ -47,17 +47,17 @@ put-row-requires-2 c κs = room-i (c .before .before .before .before .before .be
 add-result : tie.Need-add-result
 add-result c =
     let r = begin-room (c .before .before .before .before .before .before .before .before .before .before .before .before .before .before .pre)
-        (c .before .before .before .before .before .before .before .before .before .before .get-row .result)
-        (c .before .before .before .before .before .before .before .before .before .before .get-row .ensures)
-        (c .before .before .before .before .before .before .before .before .before .if1 .left) in
+    (c .before .before .before .before .before .before .before .before .before .before .get-row .result)
+    (c .before .before .before .before .before .before .before .before .before .before .get-row .ensures)
+    (c .before .before .before .before .before .before .before .before .before .if1 .left) in
     omega (arith, r .room, r .narrow)
 
 add-result-2 : tie.Need-add-result-2
 add-result-2 c =
     let r = begin-room (c .before .before .before .before .before .before .before .before .before .before .before .before .before .before .pre)
-        (c .before .before .before .before .before .before .before .before .before .before .get-row .result)
-        (c .before .before .before .before .before .before .before .before .before .before .get-row .ensures)
-        (c .before .before .before .before .before .before .before .before .before .if1 .left) in
+    (c .before .before .before .before .before .before .before .before .before .before .get-row .result)
+    (c .before .before .before .before .before .before .before .before .before .before .get-row .ensures)
+    (c .before .before .before .before .before .before .before .before .before .if1 .left) in
     omega (arith, r .room, r .narrow)
 
 same-length-2 : tie.Need-same-length-2
@@ -69,11 +69,11 @@ same-length-3 c = search needs
 returns-2 : tie.Need-returns-2
 returns-2 c =
     begun-copied (c .before .before .before .before .before .before .before .before .before .before .before .before .before .before .pre)
-        (c .before .before .before .before .before .before .before .before .before .before .get-row .result)
-        (c .before .before .before .before .before .before .before .before .before .before .get-row .ensures) (c .before .before .put-row2 .last .0)
-        (c .before .before .before .with-side2 .result) (c .before .before .put-row2 .ensures) (c .before .before .put-row2 .kept .0)
+    (c .before .before .before .before .before .before .before .before .before .before .get-row .result)
+    (c .before .before .before .before .before .before .before .before .before .before .get-row .ensures) (c .before .before .put-row2 .last .0)
+    (c .before .before .before .with-side2 .result) (c .before .before .put-row2 .ensures) (c .before .before .put-row2 .kept .0)
     (c .before .before .before .before .before .before .before .prefix-run .last .0) (c .before .before .before .before .before .before .before .prefix-run .ensures)
-        (c .before .before .before .with-side2 .ensures)
+    (c .before .before .before .with-side2 .ensures)
 
 pub begin-own-spec : {M : Type 1} → statement M
 begin-own-spec =

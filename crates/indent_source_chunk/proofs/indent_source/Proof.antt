@@ -18,10 +18,10 @@ same-length c = search needs
 returns : tie.Need-returns
 returns c =
     source-none (c .before .before .before .before .before .before .before .before .before .args .exclude .now)
-        (c .before .before .before .before .before .before .before .before .before .args .mark)
-        (c .before .before .before .before .before .before .before .before .before .pre) (c .before .before .before .get-row .result)
-        (c .before .before .before .get-row .ensures) (c .before .before .next-start .result .at) (c .before .before .next-start .result .mark)
-        (c .before .before .next-start .ensures)
+    (c .before .before .before .before .before .before .before .before .before .args .mark)
+    (c .before .before .before .before .before .before .before .before .before .pre) (c .before .before .before .get-row .result)
+    (c .before .before .before .get-row .ensures) (c .before .before .next-start .result .at) (c .before .before .next-start .result .mark)
+    (c .before .before .next-start .ensures)
     (c .if1 .taken)
 
 same-length-2 : tie.Need-same-length-2
@@ -30,22 +30,22 @@ same-length-2 c = search needs
 returns-2 : tie.Need-returns-2
 returns-2 c =
     source-unusable (c .before .before .before .before .before .before .before .before .before .before .args .exclude .now)
-        (c .before .before .before .before .before .before .before .before .before .before .args .mark)
-        (c .before .before .before .before .before .before .before .before .before .before .pre) (c .before .before .before .before .get-row .result)
-        (c .before .before .before .before .get-row .ensures) (c .before .before .before .next-start .result .at) (c .before .before .before .next-start .result .mark)
-        (c .before .before .before .next-start .ensures)
+    (c .before .before .before .before .before .before .before .before .before .before .args .mark)
+    (c .before .before .before .before .before .before .before .before .before .before .pre) (c .before .before .before .before .get-row .result)
+    (c .before .before .before .before .get-row .ensures) (c .before .before .before .next-start .result .at) (c .before .before .before .next-start .result .mark)
+    (c .before .before .before .next-start .ensures)
     (c .before .if1 .left) (not-true _ (c .if2 .taken)) _ _ _ _
 
 own-lines-requires : tie.Need-own-lines-requires
 own-lines-requires c κs =
     own-ready (c .before .before .before .before .before .before .before .before .before .before .before .before .before .before .args .exclude .now)
-        (c .before .before .before .before .before .before .before .before .before .before .before .before .before .before .args .mark)
-        (c .before .before .before .before .before .before .before .before .before .before .before .before .before .before .pre)
-        (c .before .before .before .before .before .before .before .before .get-row .result)
-        (c .before .before .before .before .before .before .before .before .get-row .ensures)
-        (c .before .before .before .before .before .before .before .next-start .result .at)
-        (c .before .before .before .before .before .before .before .next-start .result .mark)
-        (c .before .before .before .before .before .before .before .next-start .ensures)
+    (c .before .before .before .before .before .before .before .before .before .before .before .before .before .before .args .mark)
+    (c .before .before .before .before .before .before .before .before .before .before .before .before .before .before .pre)
+    (c .before .before .before .before .before .before .before .before .get-row .result)
+    (c .before .before .before .before .before .before .before .before .get-row .ensures)
+    (c .before .before .before .before .before .before .before .next-start .result .at)
+    (c .before .before .before .before .before .before .before .next-start .result .mark)
+    (c .before .before .before .before .before .before .before .next-start .ensures)
     (c .before .before .before .before .before .if1 .left) (not-false _ (c .before .before .before .before .if2 .left)) (c .before .before .if3 .taken)
 
 same-length-3 : tie.Need-same-length-3
@@ -57,26 +57,26 @@ same-length-4 c = search needs
 returns-3 : tie.Need-returns-3
 returns-3 c =
     source-parts (c .before .before .before .before .before .before .before .before .before .before .before .before .before .before .before .before
-        .before .before .before .args .exclude .now) (c .before .before .before .before .before .before .before .before .before .before .before .before
-        .before .before .before .before .before .before .before .args .mark)
-        (c .before .before .before .before .before .before .before .before .before .before .before .before .before .before .before .before .before .before .before .pre)
-        (c .before .before .before .before .before .before .before .before .before .before .before .before .before .get-row .result)
-        (c .before .before .before .before .before .before .before .before .before .before .before .before .before .get-row .ensures)
-        (c .before .before .before .before .before .before .before .before .before .before .before .before .next-start .result .at)
-        (c .before .before .before .before .before .before .before .before .before .before .before .before .next-start .result .mark)
-        (c .before .before .before .before .before .before .before .before .before .before .before .before .next-start .ensures)
+    .before .before .before .args .exclude .now) (c .before .before .before .before .before .before .before .before .before .before .before .before
+    .before .before .before .before .before .before .before .args .mark)
+    (c .before .before .before .before .before .before .before .before .before .before .before .before .before .before .before .before .before .before .before .pre)
+    (c .before .before .before .before .before .before .before .before .before .before .before .before .before .get-row .result)
+    (c .before .before .before .before .before .before .before .before .before .before .before .before .before .get-row .ensures)
+    (c .before .before .before .before .before .before .before .before .before .before .before .before .next-start .result .at)
+    (c .before .before .before .before .before .before .before .before .before .before .before .before .next-start .result .mark)
+    (c .before .before .before .before .before .before .before .before .before .before .before .before .next-start .ensures)
     (c .before .before .before .before .before .before .before .before .before .before .if1 .left)
-        (not-false _ (c .before .before .before .before .before .before .before .before .before .if2 .left)) _ _ _ _ _
-        (c .before .before .before .before .own-lines .ensures)
+    (not-false _ (c .before .before .before .before .before .before .before .before .before .if2 .left)) _ _ _ _ _
+    (c .before .before .before .before .own-lines .ensures)
 
 inner-lines-requires : tie.Need-inner-lines-requires
 inner-lines-requires c κs =
     inner-ready (c .before .before .before .before .before .before .before .before .before .before .before .before .before .args .exclude .now)
-        (c .before .before .before .before .before .before .before .before .before .before .before .before .before .args .mark)
-        (c .before .before .before .before .before .before .before .before .before .before .before .before .before .pre)
-        (c .before .before .before .before .before .before .before .get-row .result) (c .before .before .before .before .before .before .before .get-row .ensures)
-        (c .before .before .before .before .before .before .next-start .result .at) (c .before .before .before .before .before .before .next-start .result .mark)
-        (c .before .before .before .before .before .before .next-start .ensures)
+    (c .before .before .before .before .before .before .before .before .before .before .before .before .before .args .mark)
+    (c .before .before .before .before .before .before .before .before .before .before .before .before .before .pre)
+    (c .before .before .before .before .before .before .before .get-row .result) (c .before .before .before .before .before .before .before .get-row .ensures)
+    (c .before .before .before .before .before .before .next-start .result .at) (c .before .before .before .before .before .before .next-start .result .mark)
+    (c .before .before .before .before .before .before .next-start .ensures)
     (c .before .before .before .before .if1 .left) (c .before .if3 .left)
 
 same-length-5 : tie.Need-same-length-5
@@ -86,13 +86,13 @@ returns-4 : tie.Need-returns-4
 returns-4 c =
     let a = c .before .before .before .before .before .before .before .before .before .before .before .before .before .before .before .before .args in
     source-parts (a .exclude .now) (a .mark) (c .before .before .before .before .before .before .before .before .before .before .before .before .before
-        .before .before .before .pre) (c .before .before .before .before .before .before .before .before .before .before .get-row .result)
-        (c .before .before .before .before .before .before .before .before .before .before .get-row .ensures)
-        (c .before .before .before .before .before .before .before .before .before .next-start .result .at)
-        (c .before .before .before .before .before .before .before .before .before .next-start .result .mark)
-        (c .before .before .before .before .before .before .before .before .before .next-start .ensures)
+    .before .before .before .pre) (c .before .before .before .before .before .before .before .before .before .before .get-row .result)
+    (c .before .before .before .before .before .before .before .before .before .before .get-row .ensures)
+    (c .before .before .before .before .before .before .before .before .before .next-start .result .at)
+    (c .before .before .before .before .before .before .before .before .before .next-start .result .mark)
+    (c .before .before .before .before .before .before .before .before .before .next-start .ensures)
     (c .before .before .before .before .before .before .before .if1 .left) (not-false _ (c .before .before .before .before .before .before .if2 .left)) _ _ _ _ _
-        (c .before .before .inner-lines .ensures (a .p .now) (a .top))
+    (c .before .before .inner-lines .ensures (a .p .now) (a .top))
 
 pub indent-source-spec : {M : Type 1} → statement M
 indent-source-spec =

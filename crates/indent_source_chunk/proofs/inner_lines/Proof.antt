@@ -15,9 +15,14 @@ returns : tie.Need-returns
 returns c = λ p top. inner-full (c .before .before .before .before .before .before .pre .after) (sym (c .before .is-full .ensures) ∙ c .if1 .taken)
 
 cut-part-requires : tie.Need-cut-part-requires
-cut-part-requires c κs = (c .before .before .before .before .before .before .before .pre .linked,
-    (c .before .before .before .before .before .before .before .pre .placed, inner-room (c .before .before .before .before .before .before .before .pre)
-    (sym (c .before .before .is-full .ensures) ∙ c .before .if1 .left)))
+cut-part-requires c κs = (
+  c .before .before .before .before .before .before .before .pre .linked,
+  (
+    c .before .before .before .before .before .before .before .pre .placed,
+    inner-room (c .before .before .before .before .before .before .before .pre)
+        (sym (c .before .before .is-full .ensures) ∙ c .before .if1 .left),
+  ),
+)
 
 add-cut-lines : tie.Need-add-cut-lines
 add-cut-lines c = search needs

@@ -31,8 +31,8 @@ returns c =
     let copy-rows = c .before .before .copy-rows in
     let a = start .args in
     let copied =
-        rows-copied (put-piece .last .0) (copy-rows .last .0) (a .at) (a .n) (a .top + 1) (omega (arith, start .pre .below))
-        (omega (arith, start .pre .room, put-piece .kept .0)) (copy-rows .ensures) in
+    rows-copied (put-piece .last .0) (copy-rows .last .0) (a .at) (a .n) (a .top + 1) (omega (arith, start .pre .below))
+    (omega (arith, start .pre .room, put-piece .kept .0)) (copy-rows .ensures) in
     prefixed (a .p .now) (put-piece .last .0) (copy-rows .last .0) (a .at) (a .n) (a .top) (get-piece .result) (start .pre)
     (get-piece .ensures) (put-piece .ensures) (put-piece .kept .0) copied
 

@@ -337,7 +337,6 @@ module _ {M : Type 1} (𝓤 : URA M) (H : Heap 𝓤) (A : Atoms 𝓤) (W : Given
       (is-store : Is (ShrSlice (named 2) κ₂ u8) store (v store ∷ [])) (is-indentor : Is (ShrSlice (named 3) κ₃ u8) indentor (v indentor ∷ []))
       (is-exclude : Is (ShrSlice (named 4) κ₄ u32) exclude (v exclude ∷ [])) (room-t : Room u32 (length (t .now))) (room-p : Room u32 (length (p .now)))
       (room-s : Room u8 (length (s .now))) (is-at₀ : Is P.the-row at₀ (spot at₀ ∷ [])) where
-
     module _ (l₀ l₁ l₂ l₃ l₄ l₅ l₆ l₇ l₈ l₉ l₁₀ l₁₁ l₁₂ l₁₃ l₁₄ l₁₅ l₁₆ l₁₇ l₁₈ l₁₉ : ℕ) where
       -- what stands at the head of a turn
       abbrev Held : Turn → List (Item 𝓤)

@@ -20,7 +20,7 @@ returns : tie.Need-returns
 returns c =
     let a = c .before .before .before .before .before .before .before .before .args in
     plain-byte (a .indentor .now) (a .mark) (a .b) _ (c .before .before .before .before .before .takes-mark .ensures)
-        (not-true _ (c .before .before .before .before .if1 .taken)) (c .before .before .put-byte .ensures)
+    (not-true _ (c .before .before .before .before .if1 .taken)) (c .before .before .put-byte .ensures)
 
 put-text-requires : tie.Need-put-text-requires
 put-text-requires c κs = search needs
@@ -32,7 +32,7 @@ returns-2 : tie.Need-returns-2
 returns-2 c =
     let a = c .before .before .before .before .before .before .before .before .before .before .args in
     taking-byte (a .indentor .now) (a .mark) (a .b) _ (c .before .before .before .before .before .before .before .takes-mark .ensures)
-        (not-false _ (c .before .before .before .before .before .before .if1 .left))
+    (not-false _ (c .before .before .before .before .before .before .if1 .left))
     (fill-front (a .b ∷ []) (c .before .before .before .before .put-text .ensures) (not-true _ (c .if2 .taken)))
 
 put-byte-requires-2 : tie.Need-put-byte-requires-2
@@ -45,9 +45,9 @@ returns-3 : tie.Need-returns-3
 returns-3 c =
     let a = c .before .before .before .before .before .before .before .before .before .before .before .before .before .before .args in
     taking-byte (a .indentor .now) (a .mark) (a .b) _ (c .before .before .before .before .before .before .before .before .before .before .before .takes-mark .ensures)
-        (not-false _ (c .before .before .before .before .before .before .before .before .before .before .if1 .left))
+    (not-false _ (c .before .before .before .before .before .before .before .before .before .before .if1 .left))
     (fill-then (c .before .before .before .before .before .before .before .before .put-text .ensures) (not-false _ (c .before .before .before .before .if2 .left))
-        (c .before .before .put-byte2 .ensures))
+    (c .before .before .put-byte2 .ensures))
 
 pub put-indented-spec : {M : Type 1} → statement M
 put-indented-spec =

@@ -50,7 +50,7 @@ same-length-7 c = search needs
 returns-2 : tie.Need-returns-2
 returns-2 c =
     let a = c .before .before .before .before .before .before .before .before .before .before .before .before .before .before .before .before .before
-        .before .before .before .before .before .before .before .before .before .before .args in
+    .before .before .before .before .before .before .before .before .before .before .args in
     let all = c .before .before .before .before .before .before .before .before .all in
     let used = c .before .before .before .before .before .before .before .before .before .before .before .before .before .before .used in
     let holds-desk = c .before .before .before .before .before .before .before .before .before .before .before .before .before .before .before .before .holds-desk in

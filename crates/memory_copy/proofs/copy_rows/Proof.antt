@@ -65,9 +65,13 @@ loop-again c =
     let loop-test = c .before .loop-test in
     let loop = c .before .before .loop in
     let a = start .args in
-    let u = start .pre .0 (omega (arith, loop-test .taken, loop .inv .1)) in
-    (loop .inv .0, loop .inv .1, loop .inv .2, copy-turn (a .p .now) (loop .p) _ _ _ (loop .k) (loop-test .taken) (omega (arith, u, loop .inv .0, loop .inv .1, loop .inv .2))
-        (omega (arith, start .pre .1, loop .inv .1, loop .inv .2)) (loop .inv .3))
+    let u = start .pre .0 (omega (arith, loop-test .taken, loop .inv .1)) in (
+      loop .inv .0,
+      loop .inv .1,
+      loop .inv .2,
+      copy-turn (a .p .now) (loop .p) _ _ _ (loop .k) (loop-test .taken) (omega (arith, u, loop .inv .0, loop .inv .1, loop .inv .2))
+          (omega (arith, start .pre .1, loop .inv .1, loop .inv .2)) (loop .inv .3),
+    )
 
 same-length : tie.Need-same-length Inv-loop μ-loop
 same-length c =

@@ -59,9 +59,11 @@ loop-less c = search needs
 loop-again : tie.Need-loop-again Inv-loop μ-loop
 loop-again c =
     let d = c .before .before .before .before in
-    let b = d .before .before .before in
-    (search needs, carrying-more _ (b .before .before .loop .inv .1) (room (b .before .before .before .before .before .before .before))
-        (b .before .loop-test .taken) (b .text-of .ensures) (d .push-piece .ensures) (d .push-piece .kept .0) (d .push-piece .kept .1 .0))
+    let b = d .before .before .before in (
+      search needs,
+      carrying-more _ (b .before .before .loop .inv .1) (room (b .before .before .before .before .before .before .before))
+          (b .before .loop-test .taken) (b .text-of .ensures) (d .push-piece .ensures) (d .push-piece .kept .0) (d .push-piece .kept .1 .0),
+    )
 
 add-t20 : tie.Need-add-t20 Inv-loop μ-loop
 add-t20 c = omega (arith, fit (c .before .before .before .before .before .before))

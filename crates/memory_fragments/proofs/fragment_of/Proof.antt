@@ -43,13 +43,20 @@ add-text-of-2 : tie.Need-add-text-of-2
 add-text-of-2 c =
     let s = c .before .before .before .before .before .before .before .before .before in
     let a = s .args in
-    omega (arith, run-piece (a .pieces .now) (a .store .now) (a .row .«outro_at») (a .row .«outro_n») (a .item - a .row .«intro_n» - 1) (s .pre .0 .runs .outro)
-        (omega (arith, s .pre .1 .1, c .before .before .if2 .left, c .before .before .before .before .if1 .left)) .row)
+    omega (
+      arith,
+      run-piece (a .pieces .now) (a .store .now) (a .row .«outro_at») (a .row .«outro_n») (a .item - a .row .«intro_n» - 1) (s .pre .0 .runs .outro)
+          (omega (arith, s .pre .1 .1, c .before .before .if2 .left, c .before .before .before .before .if1 .left)) .row,
+    )
 
 text-of-requires-2 : tie.Need-text-of-requires-2
 text-of-requires-2 c κs = let s = c .before .before .before .before .before .before .before .before .before in
-    run-piece _ _ _ _ _ (s .pre .0 .runs .outro) (omega (arith, s .pre .1 .1, c .before .before .if2 .left,
-    c .before .before .before .before .if1 .left))
+    run-piece _ _ _ _ _ (s .pre .0 .runs .outro) (omega (
+      arith,
+      s .pre .1 .1,
+      c .before .before .if2 .left,
+      c .before .before .before .before .if1 .left,
+    ))
 
 returns-3 : tie.Need-returns-3
 returns-3 c = let s = c .before .before .before .before .before .before .before .before .before .before in c .text-of2 .ensures

@@ -12,8 +12,11 @@ add-item : tie.Need-add-item
 add-item c = let s = c .before .before .before in omega (arith, s .pre .1 .0 .1 (s .args .c .section), s .pre .1 .1 .0 .item-in)
 
 add-if1 : tie.Need-add-if1
-add-if1 c = let s = c .before .before .before .before in omega (arith, size-row _ _ _ _ (s .pre .1 .1 .0) (s .pre .1 .1 .1) _ (c .before .before .section-row .ensures),
-    s .pre .1 .0 .1 (s .args .c .section))
+add-if1 c = let s = c .before .before .before .before in omega (
+  arith,
+  size-row _ _ _ _ (s .pre .1 .1 .0) (s .pre .1 .1 .1) _ (c .before .before .section-row .ensures),
+  s .pre .1 .0 .1 (s .args .c .section),
+)
 
 returns : tie.Need-returns
 returns c = let s = c .before .before .before .before .before in went-in _ _ _ _ (s .pre .1 .1 .0) (s .pre .1 .1 .1) _ (c .before .before .before .section-row .ensures) (c .if1 .taken)

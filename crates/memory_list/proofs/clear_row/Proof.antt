@@ -22,7 +22,7 @@ returns-2 : tie.Need-returns-2
 returns-2 c =
     let start = c .before .before .before .before .before .before .before in
     starts-behind (start .args .t .now) (start .args .k) (start .args .a) (start .args .b) (start .args .text-at) _ (c .before .before .before .before .get-row .ensures)
-        (c .before .before .if1 .left) (c .if2 .taken)
+    (c .before .before .if1 .left) (c .if2 .taken)
 
 put-row-requires : tie.Need-put-row-requires
 put-row-requires c κs = search needs
@@ -34,9 +34,9 @@ returns-3 : tie.Need-returns-3
 returns-3 c =
     let start = c .before .before .before .before .before .before .before .before .before .before .before in
     starts-inside (start .args .t .now) (start .args .k) (start .args .a) (start .args .b) (start .args .text-at) _
-        (c .before .before .before .before .before .before .before .before .get-row .ensures)
+    (c .before .before .before .before .before .before .before .before .get-row .ensures)
     (c .before .before .put-row .last .0) _ (c .before .before .before .before .before .before .if1 .left) (c .before .before .before .before .if2 .left)
-        (c .before .before .put-row .ensures) refl refl refl
+    (c .before .before .put-row .ensures) refl refl refl
 
 pub clear-row-spec : {M : Type 1} → statement M
 clear-row-spec =

@@ -26,8 +26,13 @@ add-k : tie.Need-add-k Inv-loop μ-loop
 add-k c = search needs
 
 clear-row-requires : tie.Need-clear-row-requires Inv-loop μ-loop
-clear-row-requires c κs = omega (arith, c .before .before .loop .inv .0, c .before .before .loop .inv .2 .len, c .before .before .before .before .before .before .pre .room,
-    c .before .loop-test .taken)
+clear-row-requires c κs = omega (
+  arith,
+  c .before .before .loop .inv .0,
+  c .before .before .loop .inv .2 .len,
+  c .before .before .before .before .before .before .pre .room,
+  c .before .loop-test .taken,
+)
 
 loop-less : tie.Need-loop-less Inv-loop μ-loop
 loop-less c = omega (arith, c .before .before .before .before .loop-test .taken)

@@ -60,7 +60,7 @@ get-row-requires-4 c κs =
 put-row-requires-4 : tie.Need-put-row-requires-4
 put-row-requires-4 c κs =
     let start = c .before .before .before .before .before .before .before .before .before .before .before .before .before .before .before .before .before
-        .before .before .before .before .before .before in
+    .before .before .before .before .before .before in
     let put-row3 = c .before .before .before .before .before .put-row3 in
     let put-row2 = c .before .before .before .before .before .before .before .before .before .before .before .put-row2 in
     let put-row = c .before .before .before .before .before .before .before .before .before .before .before .before .before .before .before .put-row in
@@ -72,19 +72,19 @@ same-length c = search needs
 returns : tie.Need-returns
 returns c =
     let start = c .before .before .before .before .before .before .before .before .before .before .before .before .before .before .before .before .before
-        .before .before .before .before .before .before .before .before .before in
+    .before .before .before .before .before .before .before .before .before in
     let put-row = c .before .before .before .before .before .before .before .before .before .before .before .before .before .before .before .before .before .before .put-row in
     let put-row2 = c .before .before .before .before .before .before .before .before .before .before .before .before .before .before .put-row2 in
     let put-row3 = c .before .before .before .before .before .before .before .before .put-row3 in
     let put-row4 = c .before .before .put-row4 in
     let get-row = c .before .before .before .before .before .before .before .before .before .before .before .before .before .before .before .before
-        .before .before .before .before .before .before .before .get-row in
+    .before .before .before .before .before .before .before .get-row in
     let get-row2 = c .before .before .before .before .before .before .before .before .before .before .before .before .before .before .before .before .before .before .before .before .get-row2 in
     let get-row3 = c .before .before .before .before .before .before .before .before .before .before .get-row3 in
     let get-row4 = c .before .before .before .before .get-row4 in
     linked-in (start .args .t .now) (put-row .last .0) (put-row2 .last .0) (put-row3 .last .0) (put-row4 .last .0) (start .args .i) (get-row .result .start + 1)
-        (get-row2 .result .next) (start .args .r) (get-row2 .result) (get-row3 .result) (get-row4 .result) (start .pre .0) (start .pre .1 .0)
-        (ap (λ (x : Row). x .start + 1) (get-row .ensures)) (ap nextF (get-row2 .ensures)) (get-row2 .ensures)
+    (get-row2 .result .next) (start .args .r) (get-row2 .result) (get-row3 .result) (get-row4 .result) (start .pre .0) (start .pre .1 .0)
+    (ap (λ (x : Row). x .start + 1) (get-row .ensures)) (ap nextF (get-row2 .ensures)) (get-row2 .ensures)
     (put-row .ensures) (put-row2 .ensures) (get-row3 .ensures) (put-row3 .ensures) (get-row4 .ensures) (put-row4 .ensures)
     (omega (arith, ap startF (get-row .ensures), start .pre .1 .1, put-row4 .kept .0, put-row3 .kept .0, put-row2 .kept .0, put-row .kept .0))
 

@@ -25,7 +25,7 @@ link-in-requires c κs =
     let put-row = c .before .before .before .put-row in
     let get-row = c .before .before .before .before .before .get-row in
     let r = row-set (start .args .t .now) (put-row .last .0) (start .args .i) _ (start .pre .0) (start .pre .1 .0) (put-row .ensures) (ap nextF (get-row .ensures))
-        (ap prevF (get-row .ensures)) (put-row .kept .0) in
+    (ap prevF (get-row .ensures)) (put-row .kept .0) in
     (r .linked, (placed-still (start .args .t .now) (put-row .last .0) (start .args .i) (start .pre .1 .0) r, omega (arith, r .count, start .pre .1 .1, put-row .kept .0)))
 
 same-length : tie.Need-same-length

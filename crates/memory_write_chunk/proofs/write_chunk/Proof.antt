@@ -33,8 +33,12 @@ left : (c : tie.After-content) → c .before .before .before .write-run .result 
     (length (middle (c .before .before .before .before .before .before .before .before .before)) + length
     (outro (c .before .before .before .before .before .before .before .before .before))) ≤ length
     (c .before .before .before .write-run .last .1 .1 .0)
-left c = omega (arith, fit (c .before .before .before .before .before .before .before .before .before), c .before .before .before .write-run .kept .1 .1 .0,
-    c .before .before .before .write-run .ensures .next-is)
+left c = omega (
+  arith,
+  fit (c .before .before .before .before .before .before .before .before .before),
+  c .before .before .before .write-run .kept .1 .1 .0,
+  c .before .before .before .write-run .ensures .next-is,
+)
 
 room : (c : tie.After-content) → c .before .before .before .write-run .result +
     (length (c .content .result .now) + length (outro (c .before .before .before .before .before .before .before .before .before))) ≤ length
@@ -46,7 +50,7 @@ second : (c : tie.After-put) →
     let d = c .before .before .before .before .before .write-run .last .1 .1 .0 in
     let a = c .before .before .before .before .before .write-run .result in
     Wrote d a (middle (c .before .before .before .before .before .before .before .before .before .before .before))
-        (take a d ++ (c .put .last .0 ++ drop (length d - a) (drop a d))) (a + length (c .before .before .content .result .now))
+    (take a d ++ (c .put .last .0 ++ drop (length d - a) (drop a d))) (a + length (c .before .before .content .result .now))
 second c = record {
   out-is = put-back _ _ _ _ _ (omega (arith, room (c .before .before))) (c .put .ensures) (c .before .before .content .ensures);
   next-is = ap (λ t. c .before .before .before .before .before .write-run .result + length t) (c .before .before .content .ensures);
@@ -72,16 +76,20 @@ put-requires : tie.Need-put-requires
 put-requires c κs = simp (length-take, length-drop) (omega (arith, room (c .before)))
 
 add-write-run : tie.Need-add-write-run
-add-write-run c = omega (arith, room (c .before .before .before .before .before),
-    fit (c .before .before .before .before .before .before .before .before .before .before .before .before .before .before),
-    c .before .before .before .before .before .before .before .before .write-run .kept .1 .1 .0,
-    c .before .before .before .before .before .before .before .before .before .before .before .before .before .before .good)
+add-write-run c = omega (
+  arith,
+  room (c .before .before .before .before .before),
+  fit (c .before .before .before .before .before .before .before .before .before .before .before .before .before .before),
+  c .before .before .before .before .before .before .before .before .write-run .kept .1 .1 .0,
+  c .before .before .before .before .before .before .before .before .before .before .before .before .before .before .good,
+)
 
 write-run-requires-2 : tie.Need-write-run-requires-2
 write-run-requires-2 c κs =
-    let l = wrote-same (second (c .before .before .before)) (omega (arith, left (c .before .before .before .before .before))) in
-    (c .before .before .before .before .before .before .before .before .before .before .before .before .before .before .pre .0 .runs .outro,
-        omega (arith, l, room (c .before .before .before .before .before)))
+    let l = wrote-same (second (c .before .before .before)) (omega (arith, left (c .before .before .before .before .before))) in (
+      c .before .before .before .before .before .before .before .before .before .before .before .before .before .before .pre .0 .runs .outro,
+      omega (arith, l, room (c .before .before .before .before .before)),
+    )
 
 same-length : tie.Need-same-length
 same-length c = search needs

@@ -47,8 +47,12 @@ put-requires : tie.Need-put-requires Inv-loop μ-loop
 put-requires c κs = simp (length-take, length-drop) (omega (arith, room (c .before)))
 
 add-o : tie.Need-add-o Inv-loop μ-loop
-add-o c = omega (arith, room (c .before .before .before .before), c .before .before .before .before .before .before .loop .inv .1 .same,
-    c .before .before .before .before .before .before .before .before .before .before .good)
+add-o c = omega (
+  arith,
+  room (c .before .before .before .before),
+  c .before .before .before .before .before .before .loop .inv .1 .same,
+  c .before .before .before .before .before .before .before .before .before .before .good,
+)
 
 add-i : tie.Need-add-i Inv-loop μ-loop
 add-i c = omega arith
@@ -63,9 +67,9 @@ loop-again c =
       omega arith,
       turn-more (s .args .n) (b .before .before .loop .inv .1) (b .before .loop-test .taken)
           (fits (s .args .pieces .now) (s .args .store .now) (s .args .at) (s .args .n) (s .args .place) (s .args .out .now) (s .pre .1)) (record {
-        out-is = put-back _ _ _ _ _ (room b) (c .before .before .put .ensures) (b .text-of .ensures);
-        next-is = ap (λ t. b .before .before .loop .o + length t) (b .text-of .ensures);
-      }),
+            out-is = put-back _ _ _ _ _ (room b) (c .before .before .put .ensures) (b .text-of .ensures);
+            next-is = ap (λ t. b .before .before .loop .o + length t) (b .text-of .ensures);
+          }),
     )
 
 same-length : tie.Need-same-length Inv-loop μ-loop

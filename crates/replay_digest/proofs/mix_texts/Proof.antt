@@ -27,8 +27,10 @@ loop-holds : tie.Need-loop-holds Inv-loop μ-loop
 loop-holds c = fragments-none _ _ _ _ _ _ (ap (λ (r : Row). r .start + 2) (c .before .get-row .ensures))
 
 fragment-requires : tie.Need-fragment-requires Inv-loop μ-loop
-fragment-requires c κs = (ready _ _ _ _ (c .before .before .before .before .before .before .before .before .before .pre),
-    (c .before .before .loop .inv .on, omega (arith, c .if1 .taken, c .before .before .loop .inv .stop-is)))
+fragment-requires c κs = (
+  ready _ _ _ _ (c .before .before .before .before .before .before .before .before .before .pre),
+  (c .before .before .loop .inv .on, omega (arith, c .if1 .taken, c .before .before .loop .inv .stop-is)),
+)
 
 mix-text-requires : tie.Need-mix-text-requires Inv-loop μ-loop
 mix-text-requires c κs = search needs

@@ -12,8 +12,14 @@ digest-requires : tie.Need-digest-requires
 digest-requires c κs = c .before .well-formed .ensures .yes (c .if1 .taken) .well-formed
 
 returns : tie.Need-returns
-returns c = record { yes = λ e. record { well-formed = c .before .before .well-formed .ensures .yes (c .before .if1 .taken); digest-is = sym (c .digest .ensures)
-    ∙ eqb-true _ _ e }; no = λ e k. eqb-false _ _ e (c .digest .ensures ∙ k .digest-is) }
+returns c = record {
+  yes = λ e. record {
+    well-formed = c .before .before .well-formed .ensures .yes (c .before .if1 .taken);
+    digest-is = sym (c .digest .ensures)
+        ∙ eqb-true _ _ e;
+  };
+  no = λ e k. eqb-false _ _ e (c .digest .ensures ∙ k .digest-is);
+}
 
 returns-2 : tie.Need-returns-2
 returns-2 c = is-no (λ k. c .before .well-formed .ensures .no (c .if1 .left) (k .well-formed))

@@ -13,8 +13,12 @@ tables-are-requires : tie.Need-tables-are-requires
 tables-are-requires c κs = search needs
 
 returns : tie.Need-returns
-returns c = λ e. record { answered = c .before .before .before .before .answered .ensures .yes (c .before .before .before .if1 .taken); written =
-    c .before .before .written .ensures .yes (c .before .if2 .taken); tables = c .tables-are .ensures .yes e }
+returns c = λ e. record {
+  answered = c .before .before .before .before .answered .ensures .yes (c .before .before .before .if1 .taken);
+  written =
+      c .before .before .written .ensures .yes (c .before .if2 .taken);
+  tables = c .tables-are .ensures .yes e;
+}
 
 returns-2 : tie.Need-returns-2
 returns-2 c = λ e. not-both e

@@ -43,9 +43,12 @@ loop-less : tie.Need-loop-less Inv-loop μ-loop
 loop-less c = search needs
 
 loop-again : tie.Need-loop-again Inv-loop μ-loop
-loop-again c = let l = c .before .before .before .before .loop in
-    (omega (arith, c .before .before .before .loop-test .taken), l .inv .1, l .inv .2 ∙ prefix-equal _ _ _ _ (c .before .before .before .loop-test .taken)
-    (l .inv .1) (c .if2 .left))
+loop-again c = let l = c .before .before .before .before .loop in (
+  omega (arith, c .before .before .before .loop-test .taken),
+  l .inv .1,
+  l .inv .2 ∙ prefix-equal _ _ _ _ (c .before .before .before .loop-test .taken)
+      (l .inv .1) (c .if2 .left),
+)
 
 returns-3 : tie.Need-returns-3 Inv-loop μ-loop
 returns-3 c = let l = c .before .loop in sym (l .inv .2 ∙ prefix-all _ _ _ (c .loop-test .left))

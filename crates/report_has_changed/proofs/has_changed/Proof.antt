@@ -30,8 +30,10 @@ loop-holds : tie.Need-loop-holds Inv-loop μ-loop
 loop-holds c = comparing-none _ _ _ _ _ (c .before .before .before .before .before .before .pre) (ap (λ (r : Row). r .start + 2) (c .before .get-row .ensures))
 
 fragment-requires : tie.Need-fragment-requires Inv-loop μ-loop
-fragment-requires c κs = (ready _ _ _ _ (c .before .before .before .before .before .before .before .before .before .pre),
-    (c .before .before .loop .inv .on, walks (c .before .before .loop .inv) (c .if1 .taken)))
+fragment-requires c κs = (
+  ready _ _ _ _ (c .before .before .before .before .before .before .before .before .before .pre),
+  (c .before .before .loop .inv .on, walks (c .before .before .loop .inv) (c .if1 .taken)),
+)
 
 begins-requires : tie.Need-begins-requires Inv-loop μ-loop
 begins-requires c κs = omega (arith, c .before .before .before .loop .inv .inside)
@@ -52,9 +54,17 @@ add-o c =
     omega (arith, k, ap length (c .before .before .fragment .ensures), c .before .before .before .before .before .before .before .before .before .before .before .before .good)
 
 next-requires : tie.Need-next-requires Inv-loop μ-loop
-next-requires c κs = let r = ready _ _ _ _ (c .before .before .before .before .before .before .before .before .before .before .before .before .pre) in
-    (r .linked, (r .narrow, (c .before .before .before .before .before .loop .inv .on, walks (c .before .before .before .before .before .loop .inv)
-    (c .before .before .before .if1 .taken))))
+next-requires c κs = let r = ready _ _ _ _ (c .before .before .before .before .before .before .before .before .before .before .before .before .pre) in (
+  r .linked,
+  (
+    r .narrow,
+    (
+      c .before .before .before .before .before .loop .inv .on,
+      walks (c .before .before .before .before .before .loop .inv)
+          (c .before .before .before .if1 .taken),
+    ),
+  ),
+)
 
 loop-less : tie.Need-loop-less Inv-loop μ-loop
 loop-less c = comparing-less (c .before .before .before .before .before .before .loop .inv) (c .before .before .before .before .if1 .taken) (c .next .ensures)
@@ -65,8 +75,8 @@ loop-again c =
     let l = c .before .before .before .before .before .before .loop in
     let e = sym (c .before .before .begins .ensures) ∙ not-false (c .before .before .begins .result) (c .before .if2 .left) in
     comparing-more (l .inv) (c .before .before .before .before .if1 .taken)
-        (ap (λ (x : Text). prefix x (drop (l .o) (a .source .now))) (sym (c .before .before .before .fragment .ensures)) ∙ e) (c .next .ensures)
-        (ap (λ (x : Text). l .o + length x) (c .before .before .before .fragment .ensures))
+    (ap (λ (x : Text). prefix x (drop (l .o) (a .source .now))) (sym (c .before .before .before .fragment .ensures)) ∙ e) (c .next .ensures)
+    (ap (λ (x : Text). l .o + length x) (c .before .before .before .fragment .ensures))
 
 returns-2 : tie.Need-returns-2 Inv-loop μ-loop
 returns-2 c = comparing-same (c .before .before .before .loop .inv) (c .before .if1 .left) (c .if3 .taken)

@@ -40,7 +40,7 @@ loop-less c = tallied-less (c .before .before .before .before .before .loop .inv
 loop-again : tie.Need-loop-again Inv-loop μ-loop
 loop-again c =
     tallied-more (c .before .before .before .before .before .loop .inv) (c .before .before .before .before .loop-test .taken) _
-        (c .before .before .before .behind-spaces .ensures) _ (c .next-line .ensures) _
+    (c .before .before .before .behind-spaces .ensures) _ (c .next-line .ensures) _
     (c .before .counted .ensures)
 
 returns : tie.Need-returns Inv-loop μ-loop

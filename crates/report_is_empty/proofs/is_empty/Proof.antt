@@ -64,8 +64,8 @@ loop-again c =
     let s = c .before .before .before .before .before .before .before .before .before .before .before .before .before in
     let l = c .before .before .before .before .before .before .loop in
     blank-more (l .inv) (s .pre) (c .before .before .before .before .if1 .taken)
-        (λ e. c .before .if2 .left ((c .before .before .filled .ensures ∙ ap filledOf (c .before .before .before .fragment .ensures)) ∙ e))
-        (c .next .ensures)
+    (λ e. c .before .if2 .left ((c .before .before .filled .ensures ∙ ap filledOf (c .before .before .before .fragment .ensures)) ∙ e))
+    (c .next .ensures)
 
 returns-2 : tie.Need-returns-2 Inv-loop μ-loop
 returns-2 c = blank-done (c .before .before .loop .inv) (c .before .before .before .before .before .before .before .before .before .pre) (c .if1 .left)

@@ -32,7 +32,7 @@ section-row-requires c κs = seeking-row _ _ _ _ (c .before .before .before .bef
 last-of-row-requires : tie.Need-last-of-row-requires Inv-loop μ-loop
 last-of-row-requires c κs =
     let k = seeking-requires _ _ _ _ (c .before .before .before .before .before .before .before .before .before .pre) _ _ (c .before .before .loop .inv)
-        (c .before .loop-test .taken) _ (c .section-row .ensures) in
+    (c .before .loop-test .taken) _ (c .section-row .ensures) in
     (k .0, (k .1, k .2))
 
 returns : tie.Need-returns Inv-loop μ-loop

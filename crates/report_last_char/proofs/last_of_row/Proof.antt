@@ -22,7 +22,7 @@ returns-2 : tie.Need-returns-2
 returns-2 c =
     let a = c .before .before .before .before .before .before .before .before .args in
     row-content _ _ _ (entryOf (a .row)) (c .before .before .before .before .last-of-run .result) (c .before .before .before .before .last-of-run .ensures)
-        (c .before .before .before .if1 .left) (c .before .before .content .result .now) (c .before .before .content .ensures)
+    (c .before .before .before .if1 .left) (c .before .before .content .result .now) (c .before .before .content .ensures)
     (c .before .last-code .result) (c .before .last-code .ensures) (c .if2 .taken)
 
 last-of-run-requires-2 : tie.Need-last-of-run-requires-2
@@ -32,7 +32,7 @@ returns-3 : tie.Need-returns-3
 returns-3 c =
     let a = c .before .before .before .before .before .before .before .before .before .args in
     row-intro _ _ _ (entryOf (a .row)) (c .before .before .before .before .before .last-of-run .result) (c .before .before .before .before .before .last-of-run .ensures)
-        (c .before .before .before .before .if1 .left) (c .before .before .before .content .result .now) (c .before .before .before .content .ensures)
+    (c .before .before .before .before .if1 .left) (c .before .before .before .content .result .now) (c .before .before .before .content .ensures)
     (c .before .before .last-code .result) (c .before .before .last-code .ensures) (c .before .if2 .left) (c .last-of-run2 .result) (c .last-of-run2 .ensures)
 
 pub last-of-row-spec : {M : Type 1} → statement M

@@ -27,8 +27,10 @@ loop-holds c = let s = c .before .before .before .before .before .before .before
     (ap (λ (r : Row). r .start + 2) (c .before .get-row .ensures))
 
 fragment-requires : tie.Need-fragment-requires Inv-loop μ-loop
-fragment-requires c κs = (ready _ _ _ _ (c .before .before .before .before .before .before .before .before .before .before .pre .0),
-    (c .before .before .loop .inv .on, forwards-below (c .before .before .loop .inv) (c .if1 .taken)))
+fragment-requires c κs = (
+  ready _ _ _ _ (c .before .before .before .before .before .before .before .before .before .before .pre .0),
+  (c .before .before .loop .inv .on, forwards-below (c .before .before .loop .inv) (c .if1 .taken)),
+)
 
 put-from-requires : tie.Need-put-from-requires Inv-loop μ-loop
 put-from-requires c κs = (
@@ -38,8 +40,16 @@ put-from-requires c κs = (
 
 next-requires : tie.Need-next-requires Inv-loop μ-loop
 next-requires c κs = let r = ready _ _ _ _ (c .before .before .before .before .before .before .before .before .before .before .before .before .before
-    .before .before .pre .0) in (r .linked, (r .narrow, (c .before .before .before .before .before .before .before .loop .inv .on,
-    forwards-below (c .before .before .before .before .before .before .before .loop .inv) (c .before .before .before .before .before .if1 .taken))))
+    .before .before .pre .0) in (
+      r .linked,
+      (
+        r .narrow,
+        (
+          c .before .before .before .before .before .before .before .loop .inv .on,
+          forwards-below (c .before .before .before .before .before .before .before .loop .inv) (c .before .before .before .before .before .if1 .taken),
+        ),
+      ),
+    )
 
 loop-less : tie.Need-loop-less Inv-loop μ-loop
 loop-less c = forwards-less (c .before .before .before .before .before .before .before .before .loop .inv) (c .before .before .before .before .before .before .if1 .taken) _

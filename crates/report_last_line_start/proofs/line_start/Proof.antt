@@ -43,14 +43,22 @@ section-row-requires : tie.Need-section-row-requires Inv-loop2 μ-loop2 Inv-loop
 section-row-requires c κs = before-in _ _ _ _ (c .before .before .before .before .before .before .before .before .pre) _ _ _ _ _ _ (c .before .done .inv) (c .done-test .taken)
 
 add-item : tie.Need-add-item Inv-loop2 μ-loop2 Inv-loop μ-loop Inv-done μ-done
-add-item c = omega (arith, ready _ _ _ _ (c .before .before .before .before .before .before .before .before .before .before .pre) .narrow .1
-    (c .before .before .before .done .section - 1), size-row _ _ _ _ (c .before .before .before .before .before .before .before .before .before .before .pre) _ _ _ _ _ _
-    (c .before .before .before .done .inv) (c .before .before .done-test .taken) _ (c .before .section-row .ensures))
+add-item c = omega (
+  arith,
+  ready _ _ _ _ (c .before .before .before .before .before .before .before .before .before .before .pre) .narrow .1
+      (c .before .before .before .done .section - 1),
+  size-row _ _ _ _ (c .before .before .before .before .before .before .before .before .before .before .pre) _ _ _ _ _ _
+      (c .before .before .before .done .inv) (c .before .before .done-test .taken) _ (c .before .section-row .ensures),
+)
 
 add-item-2 : tie.Need-add-item-2 Inv-loop2 μ-loop2 Inv-loop μ-loop Inv-done μ-done
-add-item-2 c = omega (arith, ready _ _ _ _ (c .before .before .before .before .before .before .before .before .before .before .pre) .narrow .1
-    (c .before .before .before .done .section - 1), size-row _ _ _ _ (c .before .before .before .before .before .before .before .before .before .before .pre) _ _ _ _ _ _
-    (c .before .before .before .done .inv) (c .before .before .done-test .taken) _ (c .before .section-row .ensures))
+add-item-2 c = omega (
+  arith,
+  ready _ _ _ _ (c .before .before .before .before .before .before .before .before .before .before .pre) .narrow .1
+      (c .before .before .before .done .section - 1),
+  size-row _ _ _ _ (c .before .before .before .before .before .before .before .before .before .before .pre) _ _ _ _ _ _
+      (c .before .before .before .done .inv) (c .before .before .done-test .taken) _ (c .before .section-row .ensures),
+)
 
 loop-holds : tie.Need-loop-holds Inv-loop2 μ-loop2 Inv-loop μ-loop Inv-done μ-done
 loop-holds c = section-in _ _ _ _ (c .before .before .before .before .before .before .before .before .before .before .pre) _ _ _ _ _ _
@@ -61,10 +69,18 @@ sub-item c = omega (arith, c .loop-test .taken)
 
 fragment-of-requires : tie.Need-fragment-of-requires Inv-loop2 μ-loop2 Inv-loop μ-loop Inv-done μ-done
 fragment-of-requires c κs = let k = row-shown _ _ _ _ (c .before .before .before .before .before .before .before .before .before .before .before .before .pre) _ _ _ _ _ _
-    (c .before .before .before .before .before .done .inv) (c .before .before .before .before .done-test .taken) _ (c .before .before .before .section-row .ensures) in
-    (k .0, (k .1, omega (arith, size-row _ _ _ _ (c .before .before .before .before .before .before .before .before .before .before .before .before .pre) _ _ _ _ _ _
-    (c .before .before .before .before .before .done .inv) (c .before .before .before .before .done-test .taken) _ (c .before .before .before .section-row .ensures),
-    item-in (c .before .loop .inv) (c .loop-test .taken))))
+    (c .before .before .before .before .before .done .inv) (c .before .before .before .before .done-test .taken) _ (c .before .before .before .section-row .ensures) in (
+      k .0,
+      (
+        k .1,
+        omega (
+          arith,
+          size-row _ _ _ _ (c .before .before .before .before .before .before .before .before .before .before .before .before .pre) _ _ _ _ _ _
+              (c .before .before .before .before .before .done .inv) (c .before .before .before .before .done-test .taken) _ (c .before .before .before .section-row .ensures),
+          item-in (c .before .loop .inv) (c .loop-test .taken),
+        ),
+      ),
+    )
 
 loop2-holds : tie.Need-loop2-holds Inv-loop2 μ-loop2 Inv-loop μ-loop Inv-done μ-done
 loop2-holds c = fragment-in _ _ _ _ (c .before .before .before .before .before .before .before .before .before .before .before .before .before .pre) _
@@ -93,15 +109,18 @@ sub-at : tie.Need-sub-at Inv-loop2 μ-loop2 Inv-loop μ-loop Inv-done μ-done
 sub-at c = omega (arith, c .before .before .loop2-test .taken)
 
 add-n : tie.Need-add-n Inv-loop2 μ-loop2 Inv-loop μ-loop Inv-done μ-done
-add-n c = omega (arith, byte-short _ _ _ _ (c .before .before .before .before .before .before .before .before .before .before .before .before .before
-    .before .before .before .before .pre) _ (below (c .before .before .before .before .before .before .before .before .before .before .done .inv)
-    (c .before .before .before .before .before .before .before .before .before .done-test .taken)) _
-    (item-in (c .before .before .before .before .before .before .loop .inv) (c .before .before .before .before .before .loop-test .taken)) _
-    (shown-is _ _ _ _ (c .before .before .before .before .before .before .before .before .before .before .before .before .before .before .before .before
-    .before .pre) _ _ _ _ _ _ (c .before .before .before .before .before .before .before .before .before .before .done .inv)
-    (c .before .before .before .before .before .before .before .before .before .done-test .taken) _
-    (c .before .before .before .before .before .before .before .before .section-row .ensures) _ _ (c .before .before .before .before .fragment-of .ensures)) _ _
-    (c .before .before .before .loop2 .inv))
+add-n c = omega (
+  arith,
+  byte-short _ _ _ _ (c .before .before .before .before .before .before .before .before .before .before .before .before .before
+      .before .before .before .before .pre) _ (below (c .before .before .before .before .before .before .before .before .before .before .done .inv)
+      (c .before .before .before .before .before .before .before .before .before .done-test .taken)) _
+      (item-in (c .before .before .before .before .before .before .loop .inv) (c .before .before .before .before .before .loop-test .taken)) _
+      (shown-is _ _ _ _ (c .before .before .before .before .before .before .before .before .before .before .before .before .before .before .before .before
+      .before .pre) _ _ _ _ _ _ (c .before .before .before .before .before .before .before .before .before .before .done .inv)
+      (c .before .before .before .before .before .before .before .before .before .done-test .taken) _
+      (c .before .before .before .before .before .before .before .before .section-row .ensures) _ _ (c .before .before .before .before .fragment-of .ensures)) _ _
+      (c .before .before .before .loop2 .inv),
+)
 
 loop2-less : tie.Need-loop2-less Inv-loop2 μ-loop2 Inv-loop μ-loop Inv-done μ-done
 loop2-less c = omega (arith, c .before .before .loop2-test .taken)

@@ -55,9 +55,9 @@ returns : tie.Need-returns Inv-loop μ-loop
 returns c =
     let t = c .before .before .before .before .before .before .before .before .args .t .now in
     sym (filled-is t (c .before .before .before .before .before .before .before .before .pre) ∙ ap (λ (b : Bool). cond b 0 1)
-        (step (c .before) ∙ ap (λ (b : Bool). b && white (drop
-        (c .before .before .before .before .before .before .loop .i + c .before .before .before .code .given .0 .1 .0) t))
-        (not-true (c .before .is-white-space .result) (c .if1 .taken))))
+    (step (c .before) ∙ ap (λ (b : Bool). b && white (drop
+    (c .before .before .before .before .before .before .loop .i + c .before .before .before .code .given .0 .1 .0) t))
+    (not-true (c .before .is-white-space .result) (c .if1 .taken))))
 
 add-i : tie.Need-add-i Inv-loop μ-loop
 add-i c = omega (arith, turn (c .before .before .before .before .before .before .before .before .args .t .now) (c .before .before .before .before .before .before .loop .i) _ _ (char (c .before)) .1)
@@ -71,9 +71,12 @@ loop-again : tie.Need-loop-again Inv-loop μ-loop
 loop-again c =
     let t = c .before .before .before .before .before .before .before .before .args .t .now in
     let l = c .before .before .before .before .before .before .loop in
-    let u = turn t (l .i) _ _ (char (c .before)) in
-    (u .1, sym (u .2) ∙ l .inv .1, sym (step (c .before) ∙ ap (λ (b : Bool). b && white (drop (l .i + c .before .before .before .code .given .0 .1 .0) t))
-        (not-false (c .before .is-white-space .result) (c .if1 .left))))
+    let u = turn t (l .i) _ _ (char (c .before)) in (
+      u .1,
+      sym (u .2) ∙ l .inv .1,
+      sym (step (c .before) ∙ ap (λ (b : Bool). b && white (drop (l .i + c .before .before .before .code .given .0 .1 .0) t))
+          (not-false (c .before .is-white-space .result) (c .if1 .left))),
+    )
 
 enum-told : tie.Need-enum-told Inv-loop μ-loop
 enum-told c = search needs

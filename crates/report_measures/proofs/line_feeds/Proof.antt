@@ -27,8 +27,14 @@ feed-requires c κs = search needs
 add-n : tie.Need-add-n Inv-loop μ-loop
 add-n c =
     let l = c .before .before .before .loop in
-    omega (arith, c .feed .ensures, feed-most (getD (c .before .before .before .before .before .args .t .now) (l .i) 0), c .before .before .before .before .before .pre,
-        l .inv .1, c .before .before .loop-test .taken)
+    omega (
+      arith,
+      c .feed .ensures,
+      feed-most (getD (c .before .before .before .before .before .args .t .now) (l .i) 0),
+      c .before .before .before .before .before .pre,
+      l .inv .1,
+      c .before .before .loop-test .taken,
+    )
 
 add-i : tie.Need-add-i Inv-loop μ-loop
 add-i c = search needs

@@ -42,8 +42,14 @@ add-n : tie.Need-add-n Inv-loop μ-loop
 add-n c =
     let t = c .before .before .before .before .before .before .before .args .t .now in
     let l = c .before .before .before .before .before .loop in
-    omega (arith, c .units .ensures, l .inv .2, utf16-step t (l .i) _ _ (l .inv .1) (char c), utf16-le t (c .before .before .before .before .before .before .before .pre .0),
-        c .before .before .before .before .before .before .before .pre .1)
+    omega (
+      arith,
+      c .units .ensures,
+      l .inv .2,
+      utf16-step t (l .i) _ _ (l .inv .1) (char c),
+      utf16-le t (c .before .before .before .before .before .before .before .pre .0),
+      c .before .before .before .before .before .before .before .pre .1,
+    )
 
 add-i : tie.Need-add-i Inv-loop μ-loop
 add-i c = omega (arith, turn (c .before .before .before .before .before .before .before .args .t .now) (c .before .before .before .before .before .loop .i) _ _ (char c) .1)

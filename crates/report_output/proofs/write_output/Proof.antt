@@ -29,13 +29,17 @@ section-row-requires c κs = sectioning-row (c .before .loop .inv) (c .before .b
 write-chunk-requires : tie.Need-write-chunk-requires Inv-loop μ-loop
 write-chunk-requires c κs =
     let k = sectioning-requires (c .before .before .before .loop .inv) (c .before .before .before .before .before .before .before .before .before .before .before .pre .0)
-        (c .before .before .loop-test .taken) _ (c .before .section-row .ensures) in
+    (c .before .before .loop-test .taken) _ (c .before .section-row .ensures) in
     (k .0, (k .1, k .2))
 
 add-section : tie.Need-add-section Inv-loop μ-loop
 add-section c = let n = ready _ _ _ _ (c .before .before .before .before .before .before .before .before .before .before .before .before .before .before .pre .0) .narrow .0 in
-    omega (arith, n, c .before .before .before .before .before .loop-test .taken,
-    c .before .before .before .before .before .before .loop .inv .stop-is)
+    omega (
+      arith,
+      n,
+      c .before .before .before .before .before .loop-test .taken,
+      c .before .before .before .before .before .before .loop .inv .stop-is,
+    )
 
 loop-less : tie.Need-loop-less Inv-loop μ-loop
 loop-less c = omega (arith, c .before .before .before .before .before .loop-test .taken)

@@ -40,9 +40,14 @@ returns-2 c = let s = c .before .before .before .before .before .before .before 
     into-short _ _ _ _ (whole s) (proper s) (c .before .before .before .before .before .slice-walk .ensures) (c .before .if1 .left) (c .if2 .taken)
 
 slice-walk-requires-2 : tie.Need-slice-walk-requires-2
-slice-walk-requires-2 c κs = let s = c .before .before .before .before .before .before .before .before .before .before .before .before .before in
-    (s .pre .0, (s .pre .1, λ e. into-fits _ _ _ _ (whole s) (proper s) (c .before .before .before .before .before .before .slice-walk .ensures)
-    (c .before .before .if1 .left) (c .before .if2 .left)))
+slice-walk-requires-2 c κs = let s = c .before .before .before .before .before .before .before .before .before .before .before .before .before in (
+  s .pre .0,
+  (
+    s .pre .1,
+    λ e. into-fits _ _ _ _ (whole s) (proper s) (c .before .before .before .before .before .before .slice-walk .ensures)
+        (c .before .before .if1 .left) (c .before .if2 .left),
+  ),
+)
 
 same-length-3 : tie.Need-same-length-3
 same-length-3 c = search needs

@@ -43,8 +43,11 @@ returns-2 c = let s = c .before .before .before .before .before .before .before 
 
 sub-slice-into : tie.Need-sub-slice-into
 sub-slice-into c = let s = c .before .before .before .before .before .before .before .before .before .before .before .before .before .before .before in
-    omega (arith, found-start (s .args .source .now) _ (s .args .pieces .now) (s .args .store .now) _ _ _ _ (found (c .before .before .before .before .before .before .before))
-    (s .pre .readable .linked) _ (c .before .before .before .before .before .get-row .ensures))
+    omega (
+      arith,
+      found-start (s .args .source .now) _ (s .args .pieces .now) (s .args .store .now) _ _ _ _ (found (c .before .before .before .before .before .before .before))
+          (s .pre .readable .linked) _ (c .before .before .before .before .before .get-row .ensures),
+    )
 
 slice-into-requires : tie.Need-slice-into-requires
 slice-into-requires c κs =

@@ -45,7 +45,7 @@ chunk-slice-requires : tie.Need-chunk-slice-requires Inv-loop μ-loop
 chunk-slice-requires c κs =
     let s = c .before .before .before .before .before .before .before .before .before .before .before .before in
     let k = slicing-requires (c .before .before .before .before .before .loop .inv) (s .pre .0) (s .pre .1 .1) (c .before .before .before .before .loop-test .taken) _
-        (c .before .before .before .get-row2 .ensures) (sym (c .before .before .ends-inside .ensures) ∙ c .before .if1 .left) in
+    (c .before .before .before .get-row2 .ensures) (sym (c .before .before .ends-inside .ensures) ∙ c .before .if1 .left) in
     (k .0, (k .1, k .2))
 
 contains-end-requires : tie.Need-contains-end-requires Inv-loop μ-loop
@@ -55,10 +55,10 @@ cast-t25 : tie.Need-cast-t25 Inv-loop μ-loop
 cast-t25 c =
     let s = c .before .before .before .before .before .before .before .before .before .before .before .before .before .before .before .before .before in
     let k = slicing-next-small (c .before .before .before .before .before .before .before .before .before .before .loop .inv) (s .pre .0) (s .pre .1 .1)
-        (c .before .before .before .before .before .before .before .before .before .loop-test .taken) _
-        (c .before .before .before .before .before .before .before .before .get-row2 .ensures)
-        (sym (c .before .before .before .before .before .before .before .ends-inside .ensures) ∙ c .before .before .before .before .before .before .if1 .left)
-        (c .before .before .before .before .chunk-slice .ensures) (c .before .before .before .before .chunk-slice .kept .1 .1 .1 .0) in
+    (c .before .before .before .before .before .before .before .before .before .loop-test .taken) _
+    (c .before .before .before .before .before .before .before .before .get-row2 .ensures)
+    (sym (c .before .before .before .before .before .before .before .ends-inside .ensures) ∙ c .before .before .before .before .before .before .if1 .left)
+    (c .before .before .before .before .chunk-slice .ensures) (c .before .before .before .before .chunk-slice .kept .1 .1 .1 .0) in
     omega (arith, k)
 
 same-length-2 : tie.Need-same-length-2 Inv-loop μ-loop
@@ -68,10 +68,10 @@ returns-2 : tie.Need-returns-2 Inv-loop μ-loop
 returns-2 c =
     let s = c .before .before .before .before .before .before .before .before .before .before .before .before .before .before .before .before .before in
     slicing-last (c .before .before .before .before .before .before .before .before .before .before .loop .inv) (s .pre .0) (s .pre .1 .1)
-        (c .before .before .before .before .before .before .before .before .before .loop-test .taken) _
-        (c .before .before .before .before .before .before .before .before .get-row2 .ensures)
-        (sym (c .before .before .before .before .before .before .before .ends-inside .ensures) ∙ c .before .before .before .before .before .before .if1 .left)
-        (c .before .before .before .before .chunk-slice .ensures) (c .before .before .before .before .chunk-slice .kept .1 .1 .1 .0)
+    (c .before .before .before .before .before .before .before .before .before .loop-test .taken) _
+    (c .before .before .before .before .before .before .before .before .get-row2 .ensures)
+    (sym (c .before .before .before .before .before .before .before .ends-inside .ensures) ∙ c .before .before .before .before .before .before .if1 .left)
+    (c .before .before .before .before .chunk-slice .ensures) (c .before .before .before .before .chunk-slice .kept .1 .1 .1 .0)
     (sym (c .before .contains-end .ensures) ∙ c .if2 .taken)
 
 add-k : tie.Need-add-k Inv-loop μ-loop
@@ -84,10 +84,10 @@ loop-again : tie.Need-loop-again Inv-loop μ-loop
 loop-again c =
     let s = c .before .before .before .before .before .before .before .before .before .before .before .before .before .before .before .before .before in
     slicing-more (c .before .before .before .before .before .before .before .before .before .before .loop .inv) (s .pre .0) (s .pre .1 .1)
-        (c .before .before .before .before .before .before .before .before .before .loop-test .taken) _
-        (c .before .before .before .before .before .before .before .before .get-row2 .ensures)
-        (sym (c .before .before .before .before .before .before .before .ends-inside .ensures) ∙ c .before .before .before .before .before .before .if1 .left)
-        (c .before .before .before .before .chunk-slice .ensures) (c .before .before .before .before .chunk-slice .kept .1 .1 .1 .0)
+    (c .before .before .before .before .before .before .before .before .before .loop-test .taken) _
+    (c .before .before .before .before .before .before .before .before .get-row2 .ensures)
+    (sym (c .before .before .before .before .before .before .before .ends-inside .ensures) ∙ c .before .before .before .before .before .before .if1 .left)
+    (c .before .before .before .before .chunk-slice .ensures) (c .before .before .before .before .chunk-slice .kept .1 .1 .1 .0)
     (sym (c .before .contains-end .ensures) ∙ c .if2 .left)
 
 cast-t26 : tie.Need-cast-t26 Inv-loop μ-loop

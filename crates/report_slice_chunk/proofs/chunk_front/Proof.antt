@@ -43,10 +43,10 @@ emit-requires : tie.Need-emit-requires
 emit-requires c κs =
     let s = c .before .before .before .before .before .before .before .before .before .before .before in
     let d = subst (λ (n : ℕ). Emitted (s .args .write) (s .args .out .now) (s .args .o) (run s n) (c .before .before .before .before .emit-run .last .1 .1 .0)
-        (c .before .before .before .before .emit-run .result)) (c .before .before .before .before .before .before .shown .ensures)
-        (c .before .before .before .before .emit-run .ensures) in
+    (c .before .before .before .before .emit-run .result)) (c .before .before .before .before .before .before .shown .ensures)
+    (c .before .before .before .before .emit-run .ensures) in
     subst (λ (x : Text). Room (s .args .write) (c .before .before .before .before .emit-run .last .1 .1 .0) (c .before .before .before .before .emit-run .result) (length x))
-        (sym (c .before .slice-content .ensures)) (emitted-room d (middle s) (s .pre .1 .1))
+    (sym (c .before .slice-content .ensures)) (emitted-room d (middle s) (s .pre .1 .1))
 
 same-length : tie.Need-same-length
 same-length c = search needs
@@ -55,12 +55,12 @@ returns : tie.Need-returns
 returns c =
     let s = c .before .before .before .before .before .before .before .before .before .before .before .before .before .before in
     let d = subst (λ (n : ℕ). Emitted (s .args .write) (s .args .out .now) (s .args .o) (run s n)
-        (c .before .before .before .before .before .before .before .emit-run .last .1 .1 .0) (c .before .before .before .before .before .before .before .emit-run .result))
-        (c .before .before .before .before .before .before .before .before .before .shown .ensures)
-        (c .before .before .before .before .before .before .before .emit-run .ensures) in
+    (c .before .before .before .before .before .before .before .emit-run .last .1 .1 .0) (c .before .before .before .before .before .before .before .emit-run .result))
+    (c .before .before .before .before .before .before .before .before .before .shown .ensures)
+    (c .before .before .before .before .before .before .before .emit-run .ensures) in
     let f = subst (λ (x : Text). Emitted (s .args .write) (c .before .before .before .before .before .before .before .emit-run .last .1 .1 .0)
-        (c .before .before .before .before .before .before .before .emit-run .result) x (c .before .before .emit .last .0) (c .before .before .emit .result))
-        (c .before .before .before .before .slice-content .ensures) (c .before .before .emit .ensures) in
+    (c .before .before .before .before .before .before .before .emit-run .result) x (c .before .before .emit .last .0) (c .before .before .emit .result))
+    (c .before .before .before .before .slice-content .ensures) (c .before .before .emit .ensures) in
     emitted-then d f (s .pre .1 .1)
 
 pub chunk-front-spec : {M : Type 1} → statement M

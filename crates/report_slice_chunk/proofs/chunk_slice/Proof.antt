@@ -51,8 +51,8 @@ returns : tie.Need-returns
 returns c =
     let s = c .before .before .before .before .before .before .before .before .before .before .before .before .before in
     let f = subst (λ (n : ℕ). Emitted (s .args .write) (c .before .before .before .before .before .before .before .chunk-front .last .1 .1 .1 .0)
-        (c .before .before .before .before .before .before .before .chunk-front .result) (run s n) (c .before .before .emit-run .last .1 .1 .0)
-        (c .before .before .emit-run .result)) (c .before .before .before .before .shown-outro .ensures) (c .before .before .emit-run .ensures) in
+    (c .before .before .before .before .before .before .before .chunk-front .result) (run s n) (c .before .before .emit-run .last .1 .1 .0)
+    (c .before .before .emit-run .result)) (c .before .before .before .before .shown-outro .ensures) (c .before .before .emit-run .ensures) in
     rw chunk-slice-is (emitted-then (c .before .before .before .before .before .before .before .chunk-front .ensures) f (room s))
 
 pub chunk-slice-spec : {M : Type 1} → statement M

@@ -26,9 +26,12 @@ same-length : tie.Need-same-length
 same-length c = search needs
 
 returns : tie.Need-returns
-returns c = record { out-is = rw (c .before .before .before .before .if1 .taken)
-    (put-back _ _ _ _ _ (c .before .before .before .before .before .before .before .pre .fits (c .before .before .before .before .if1 .taken))
-    (c .before .before .put .ensures) refl); next-is = refl }
+returns c = record {
+  out-is = rw (c .before .before .before .before .if1 .taken)
+      (put-back _ _ _ _ _ (c .before .before .before .before .before .before .before .pre .fits (c .before .before .before .before .if1 .taken))
+      (c .before .before .put .ensures) refl);
+  next-is = refl;
+}
 
 returns-2 : tie.Need-returns-2
 returns-2 c = record { out-is = rw (c .if1 .left) refl; next-is = refl }

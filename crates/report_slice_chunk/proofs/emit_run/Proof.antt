@@ -32,10 +32,13 @@ loop-less : tie.Need-loop-less Inv-loop μ-loop
 loop-less c = omega (arith, c .before .before .before .before .before .loop-test .taken)
 
 loop-again : tie.Need-loop-again Inv-loop μ-loop
-loop-again c = (omega (arith, c .before .before .before .before .before .loop-test .taken), turn-more _ _ _ _ _ _ _
-    (c .before .before .before .before .before .before .before .before .before .before .pre .1) _ _ _ (c .before .before .before .before .before .before .loop .inv .1)
-    (c .before .before .before .before .before .loop-test .taken) (c .before .before .before .before .text-of .ensures) (c .before .before .emit .ensures)
-    (c .before .before .emit .kept .0))
+loop-again c = (
+  omega (arith, c .before .before .before .before .before .loop-test .taken),
+  turn-more _ _ _ _ _ _ _
+      (c .before .before .before .before .before .before .before .before .before .before .pre .1) _ _ _ (c .before .before .before .before .before .before .loop .inv .1)
+      (c .before .before .before .before .before .loop-test .taken) (c .before .before .before .before .text-of .ensures) (c .before .before .emit .ensures)
+      (c .before .before .emit .kept .0),
+)
 
 same-length : tie.Need-same-length Inv-loop μ-loop
 same-length c = c .before .loop .inv .1 .same

@@ -32,8 +32,8 @@ returns c =
     let a = s .args in
     c .part .ensures
     ∙ ap (λ (n : ℕ). part (a .from) n (c .before .before .before .before .before .before .content .result .now))
-        (c .before .less2 .ensures ∙ ap (λ (n : ℕ). length (c .before .before .before .before .before .before .content .result .now) - n)
-        (c .before .before .less .ensures))
+    (c .before .less2 .ensures ∙ ap (λ (n : ℕ). length (c .before .before .before .before .before .before .content .result .now) - n)
+    (c .before .before .less .ensures))
     ∙ ap (λ (t : Text). part (a .from) (length t - (a .row .end - a .end)) t) (c .before .before .before .before .before .before .content .ensures)
     ∙ rw (sym (c .before .before .before .before .before .contains-end .ensures) ∙ c .before .before .before .before .if1 .taken) refl
 

@@ -22,7 +22,7 @@ returns-2 : tie.Need-returns-2
 returns-2 c =
     let a = c .before .before .before .before .before .before .before .args in
     blank-second (a .pattern) (a .source .now) (a .p .now) (a .s .now) (entryOf (a .r)) (sym (c .before .before .before .is-blank .ensures)
-        ∙ not-false _ (c .before .before .if1 .left)) (sym (c .before .is-blank-content .ensures) ∙ not-true _ (c .if2 .taken))
+    ∙ not-false _ (c .before .before .if1 .left)) (sym (c .before .is-blank-content .ensures) ∙ not-true _ (c .if2 .taken))
 
 is-blank-requires-2 : tie.Need-is-blank-requires-2
 is-blank-requires-2 c κs =
@@ -34,8 +34,8 @@ returns-3 c =
     let a = c .before .before .before .before .before .before .before .before .args in
     c .is-blank2 .ensures
     ∙ blank-third (a .pattern) (a .source .now) (a .p .now) (a .s .now) (entryOf (a .r)) (sym (c .before .before .before .before .is-blank .ensures)
-        ∙ not-false _ (c .before .before .before .if1 .left)) (sym (c .before .before .is-blank-content .ensures)
-        ∙ not-false _ (c .before .if2 .left))
+    ∙ not-false _ (c .before .before .before .if1 .left)) (sym (c .before .before .is-blank-content .ensures)
+    ∙ not-false _ (c .before .if2 .left))
 
 pub is-blank-spec : {M : Type 1} → statement M
 is-blank-spec =

@@ -33,7 +33,7 @@ returns-2 : tie.Need-returns-2
 returns-2 c =
     let a = c .before .before .before .before .before .before .before .before .args in
     let b = ap (λ (x : Place). all (blank (a .pattern)) (runOf (a .p .now) (a .s .now) x)) (sym (c .before .before .before .before .near .ensures))
-        ∙ sym (c .before .before .before .is-blank .ensures) ∙ not-false _ (c .before .before .if1 .left) in
+    ∙ sym (c .before .before .before .is-blank .ensures) ∙ not-false _ (c .before .before .if1 .left) in
     record {
       stops-near = λ z. absurd (omega arith);
       near-blank = λ _. b;
@@ -45,7 +45,7 @@ returns-3 : tie.Need-returns-3
 returns-3 c =
     let a = c .before .before .before .before .before .before .before .before .args in
     let b = ap (λ (x : Place). all (blank (a .pattern)) (runOf (a .p .now) (a .s .now) x)) (sym (c .before .before .before .before .near .ensures))
-        ∙ sym (c .before .before .before .is-blank .ensures) ∙ not-false _ (c .before .before .if1 .left) in
+    ∙ sym (c .before .before .before .is-blank .ensures) ∙ not-false _ (c .before .before .if1 .left) in
     record {
       stops-near = λ z. absurd (omega arith);
       near-blank = λ _. b;

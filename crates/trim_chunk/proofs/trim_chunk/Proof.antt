@@ -21,7 +21,7 @@ trim-run-requires c κs =
     let k = c .before .before .before .before .part .ensures in
     let b = k .stops-near (c .before .before .before .if1 .taken) in
     asks-at (a .pattern) (a .p .now) (a .s .now) (a .top) (c .before .before .near .ensures)
-        (near-asks (a .front) (a .pattern) (a .source .now) (a .p .now) (a .s .now) e (a .top) (a .byte) (start .pre .0) (start .pre .1 .0) b) b
+    (near-asks (a .front) (a .pattern) (a .source .now) (a .p .now) (a .s .now) e (a .top) (a .byte) (start .pre .0) (start .pre .1 .0) b) b
 
 with-near-requires : tie.Need-with-near-requires
 with-near-requires c κs = search needs
@@ -39,10 +39,10 @@ returns c =
     let e = entryOf (a .r) in
     let k = c .before .before .before .before .before .before .before .before .part in
     row-done (a .front) (a .pattern) (a .source .now) (a .p .now) (a .s .now) (a .r) (a .top) (a .byte) (c .before .before .before .trim-run .last .0)
-        (a .s .now) (c .with-near .result) (placeOf (c .before .before .before .trim-run .result)) (farOf (a .front) e) (e .text)
-        (c .with-near .ensures)
+    (a .s .now) (c .with-near .result) (placeOf (c .before .before .before .trim-run .result)) (farOf (a .front) e) (e .text)
+    (c .with-near .ensures)
     (row-near (a .front) (a .pattern) (a .source .now) (a .p .now) (a .s .now) e (a .top) (a .byte) (start .pre .0) (start .pre .1 .0) (k .result)
-        (k .ensures) (c .before .before .before .before .before .before .before .if1 .taken) _ _
+    (k .ensures) (c .before .before .before .before .before .before .before .if1 .taken) _ _
     (run-at (a .front) (a .pattern) (a .p .now) (a .s .now) (a .top) _ _ (c .before .before .before .before .before .before .near .ensures) (c .before .before .before .trim-run .ensures)))
 
 far-requires : tie.Need-far-requires
@@ -71,11 +71,11 @@ returns-2 c =
     let k = c .before .before .before .before .before .before .before .before .part in
     let w : Rewritten (a .r) (c .with-sides .result) (withSides (a .front) e (0, 0) (farOf (a .front) e) (placeOf (c .before .before .before .trim-content .result))) =
     subst (λ (x : Place). Rewritten (a .r) (c .with-sides .result) (withSides (a .front) e (0, 0) x (placeOf (c .before .before .before .trim-content .result))))
-        (c .before .before .before .before .before .before .far .ensures) (c .with-sides .ensures) in
+    (c .before .before .before .before .before .before .far .ensures) (c .with-sides .ensures) in
     row-done (a .front) (a .pattern) (a .source .now) (a .p .now) (a .s .now) (a .r) (a .top) (a .byte) (a .p .now) (c .before .before .before .trim-content .last .1 .0)
-        (c .with-sides .result) (0, 0) (farOf (a .front) e) (placeOf (c .before .before .before .trim-content .result)) w
+    (c .with-sides .result) (0, 0) (farOf (a .front) e) (placeOf (c .before .before .before .trim-content .result)) w
     (row-content (a .front) (a .pattern) (a .source .now) (a .p .now) (a .s .now) e (a .top) (a .byte) (start .pre .0) (start .pre .1 .0) (k .result)
-        (k .ensures) (c .before .before .before .before .before .if2 .taken) _ _ (c .before .before .before .trim-content .ensures))
+    (k .ensures) (c .before .before .before .before .before .if2 .taken) _ _ (c .before .before .before .trim-content .ensures))
 
 trim-run-requires-2 : tie.Need-trim-run-requires-2
 trim-run-requires-2 c κs =
@@ -84,9 +84,9 @@ trim-run-requires-2 c κs =
     let e = entryOf (a .r) in
     let k = c .before .before .before .before .before .part in
     let b = far-stays (a .front) (a .pattern) (a .source .now) (a .p .now) (a .s .now) e (a .top) (a .byte) (start .pre .0) (start .pre .1 .0) (k .result)
-        (k .ensures) (c .before .before .before .before .if1 .left) (c .before .before .if2 .left) (start .pre .1 .1) in
+    (k .ensures) (c .before .before .before .before .if1 .left) (c .before .before .if2 .left) (start .pre .1 .1) in
     asks-at (a .pattern) (a .p .now) (a .s .now) (a .top) (c .before .before .before .far .ensures)
-        (far-asks (a .front) (a .pattern) (a .source .now) (a .p .now) (a .s .now) e (a .top) (a .byte) (start .pre .0) (start .pre .1 .0) b) b
+    (far-asks (a .front) (a .pattern) (a .source .now) (a .p .now) (a .s .now) e (a .top) (a .byte) (start .pre .0) (start .pre .1 .0) b) b
 
 cleared-text-requires : tie.Need-cleared-text-requires
 cleared-text-requires c κs = c .before .before .before .before .before .before .before .before .before .before .before .before .before .before .pre .0 .span .ordered
@@ -110,12 +110,12 @@ returns-3 c =
     let w : Rewritten (a .r) (c .with-sides2 .result) (withSides (a .front) e (0, 0) q (clearedText e)) =
     subst (λ (x : Place). Rewritten (a .r) (c .with-sides2 .result) (withSides (a .front) e (0, 0) q x)) (c .before .cleared-text .ensures) (c .with-sides2 .ensures) in
     row-done (a .front) (a .pattern) (a .source .now) (a .p .now) (a .s .now) (a .r) (a .top) (a .byte) (c .before .before .before .before .trim-run2 .last .0)
-        (a .s .now) (c .with-sides2 .result) (0, 0) q (clearedText e) w
+    (a .s .now) (c .with-sides2 .result) (0, 0) q (clearedText e) w
     (row-far (a .front) (a .pattern) (a .source .now) (a .p .now) (a .s .now) e (a .top) (a .byte) (start .pre .0) (start .pre .1 .0) (k .result)
-        (k .ensures) (c .before .before .before .before .before .before .before .before .before .if1 .left)
-        (c .before .before .before .before .before .before .before .if2 .left) (start .pre .1 .1) _ _
+    (k .ensures) (c .before .before .before .before .before .before .before .before .before .if1 .left)
+    (c .before .before .before .before .before .before .before .if2 .left) (start .pre .1 .1) _ _
     (run-at (a .front) (a .pattern) (a .p .now) (a .s .now) (a .top) _ _ (c .before .before .before .before .before .before .before .before .far .ensures)
-        (c .before .before .before .before .trim-run2 .ensures)))
+    (c .before .before .before .before .trim-run2 .ensures)))
 
 pub trim-chunk-spec : {M : Type 1} → statement M
 trim-chunk-spec =

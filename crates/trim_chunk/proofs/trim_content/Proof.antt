@@ -40,7 +40,7 @@ returns-2 c =
     let start = c .before .before .before .before .before .before .before .before in
     let a = start .args in
     content-same (a .front) (a .pattern) (a .source .now) (a .s .now) (entryOf (a .r)) (a .byte) (start .pre) (c .before .before .before .before .if1 .left) _ _
-        (c .before .before .trim-place2 .ensures) (c .if2 .taken)
+    (c .before .before .trim-place2 .ensures) (c .if2 .taken)
 
 cast-from : tie.Need-cast-from
 cast-from c = search needs
@@ -81,8 +81,8 @@ returns-3 c =
     let q = c .before .before .before .before .before .before .before .before .before .trim-place2 in
     let z : q .result .at + q .result .n - q .result .at ≡ q .result .n = omega arith in
     content-copied (a .front) (a .pattern) (a .source .now) (a .s .now) (entryOf (a .r)) (a .byte) (start .pre)
-        (c .before .before .before .before .before .before .before .before .before .before .before .if1 .left) _ _ (q .ensures)
-        (c .before .before .before .before .before .before .before .if2 .left) (c .before .before .put-at .last .0)
+    (c .before .before .before .before .before .before .before .before .before .before .before .if1 .left) _ _ (q .ensures)
+    (c .before .before .before .before .before .before .before .if2 .left) (c .before .before .put-at .last .0)
     (rw z at (c .before .before .put-at .ensures))
 
 pub trim-content-spec : {M : Type 1} → statement M

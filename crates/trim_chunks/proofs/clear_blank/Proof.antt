@@ -27,9 +27,12 @@ loop-holds : tie.Need-loop-holds Inv-loop μ-loop
 loop-holds c =
     let start = c .before .before .before .before .before .before .before in
     let a = start .args in
-    let g = c .before .get-row .ensures in
-    (omega arith, search needs, walk-none (a .front) (a .pattern) (a .source .now) (a .p .now) (a .s .now) (a .t .now) _ _ (start .pre .0)
-        (ap (λ (r : Row). r .start) g) (c .step .ensures ∙ ap (stepOf (a .front)) g))
+    let g = c .before .get-row .ensures in (
+      omega arith,
+      search needs,
+      walk-none (a .front) (a .pattern) (a .source .now) (a .p .now) (a .s .now) (a .t .now) _ _ (start .pre .0)
+          (ap (λ (r : Row). r .start) g) (c .step .ensures ∙ ap (stepOf (a .front)) g),
+    )
 
 get-row-requires-2 : tie.Need-get-row-requires-2 Inv-loop μ-loop
 get-row-requires-2 c κs =
@@ -45,7 +48,7 @@ is-blank-requires c κs =
     let l = c .before .before .before .loop in
     subst (λ (r : Row). RowReady (a .source .now) (a .p .now) (a .s .now) (entryOf r)) (sym (c .get-row2 .ensures))
     (walk-ready (a .front) (a .pattern) (a .source .now) (a .p .now) (a .s .now) (a .t .now) (l .t) _ (l .k) (l .cur) (start .pre .1) (start .pre .0)
-        (l .inv .2) (c .before .before .loop-test .taken) .0)
+    (l .inv .2) (c .before .before .loop-test .taken) .0)
 
 same-length : tie.Need-same-length Inv-loop μ-loop
 same-length c = c .before .before .before .before .before .loop .inv .2 .len
@@ -56,7 +59,7 @@ returns c =
     let a = start .args in
     let l = c .before .before .before .before .before .loop in
     walk-stop (a .front) (a .pattern) (a .source .now) (a .p .now) (a .s .now) (a .t .now) (l .t) _ (l .k) (l .cur) (start .pre .0) (l .inv .2)
-        (c .before .before .before .before .loop-test .taken) (c .before .before .get-row2 .result) (c .before .before .get-row2 .ensures)
+    (c .before .before .before .before .loop-test .taken) (c .before .before .get-row2 .result) (c .before .before .get-row2 .ensures)
     (sym (c .before .is-blank .ensures) ∙ not-true _ (c .if1 .taken))
 
 cleared-requires : tie.Need-cleared-requires Inv-loop μ-loop
@@ -66,7 +69,7 @@ cleared-requires c κs =
     let l = c .before .before .before .before .before .before .loop in
     subst (λ (r : Row). RowReady (a .source .now) (a .p .now) (a .s .now) (entryOf r)) (sym (c .before .before .before .get-row2 .ensures))
     (walk-ready (a .front) (a .pattern) (a .source .now) (a .p .now) (a .s .now) (a .t .now) (l .t) _ (l .k) (l .cur) (start .pre .1) (start .pre .0)
-        (l .inv .2) (c .before .before .before .before .before .loop-test .taken) .0) .span .ordered
+    (l .inv .2) (c .before .before .before .before .before .loop-test .taken) .0) .span .ordered
 
 put-row-requires : tie.Need-put-row-requires Inv-loop μ-loop
 put-row-requires c κs =
@@ -74,14 +77,17 @@ put-row-requires c κs =
     let a = start .args in
     let l = c .before .before .before .before .before .before .before .loop in
     walk-ready (a .front) (a .pattern) (a .source .now) (a .p .now) (a .s .now) (a .t .now) (l .t) _ (l .k) (l .cur) (start .pre .1) (start .pre .0)
-        (l .inv .2) (c .before .before .before .before .before .before .loop-test .taken) .1
+    (l .inv .2) (c .before .before .before .before .before .before .loop-test .taken) .1
 
 step-requires-2 : tie.Need-step-requires-2 Inv-loop μ-loop
 step-requires-2 c κs = search needs
 
 add-k : tie.Need-add-k Inv-loop μ-loop
-add-k c = omega (arith, c .before .before .before .before .before .before .before .before .before .before .loop-test .taken,
-    c .before .before .before .before .before .before .before .before .before .before .before .loop .inv .1)
+add-k c = omega (
+  arith,
+  c .before .before .before .before .before .before .before .before .before .before .loop-test .taken,
+  c .before .before .before .before .before .before .before .before .before .before .before .loop .inv .1,
+)
 
 loop-less : tie.Need-loop-less Inv-loop μ-loop
 loop-less c = omega (arith, c .before .before .before .before .before .before .before .before .before .before .loop-test .taken)
@@ -96,11 +102,11 @@ loop-again c =
       l .inv .1,
       subst (WalkAt (a .front) (a .pattern) (a .source .now) (a .p .now) (a .s .now) (a .t .now) (c .before .before .before .put-row .last .0) _ (l .k + 1)) (sym (c .step2 .ensures))
           (walk-more (a .front) (a .pattern) (a .source .now) (a .p .now) (a .s .now) (a .t .now) (l .t) _ (l .k) (l .cur) (start .pre .0) (l .inv .2)
-              (c .before .before .before .before .before .before .before .before .before .before .loop-test .taken) (c .before .before .before .put-row .last .0)
-              (g .result) (c .before .before .before .before .cleared .result) (g .ensures)
+          (c .before .before .before .before .before .before .before .before .before .before .loop-test .taken) (c .before .before .before .put-row .last .0)
+          (g .result) (c .before .before .before .before .cleared .result) (g .ensures)
           (sym (c .before .before .before .before .before .before .before .is-blank .ensures) ∙ not-false _ (c .before .before .before .before .before .before .if1 .left))
-              (c .before .before .before .before .cleared .ensures) (c .before .before .before .put-row .ensures)
-              (c .before .before .before .put-row .kept .0)),
+          (c .before .before .before .before .cleared .ensures) (c .before .before .before .put-row .ensures)
+          (c .before .before .before .put-row .kept .0)),
     )
 
 same-length-2 : tie.Need-same-length-2 Inv-loop μ-loop

@@ -39,7 +39,7 @@ is-blank-requires c κs =
     let start = c .before .before .before .before .before in
     let l = c .before .before .loop in
     rw (c .text-of .ensures) (text-valid (start .args .p .now) (start .args .s .now) (start .args .at) (start .args .n) (l .k - 1) (start .pre .valid)
-        (omega (arith, l .inv .1, c .before .loop-test .taken)))
+    (omega (arith, l .inv .1, c .before .loop-test .taken)))
 
 cast-result : tie.Need-cast-result Inv-loop μ-loop
 cast-result c = omega arith

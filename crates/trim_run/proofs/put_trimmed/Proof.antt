@@ -28,15 +28,21 @@ copy-rows-requires c κs =
 
 add-put-piece : tie.Need-add-put-piece
 add-put-piece c =
-    omega (arith, c .before .before .before .before .before .before .before .before .before .before .pre .1 .0 .room,
-        c .before .before .before .before .before .before .before .before .before .before .pre .1 .0 .narrow,
-        c .before .before .before .before .before .before .before .before .before .before .pre .1 .1)
+    omega (
+      arith,
+      c .before .before .before .before .before .before .before .before .before .before .pre .1 .0 .room,
+      c .before .before .before .before .before .before .before .before .before .before .pre .1 .0 .narrow,
+      c .before .before .before .before .before .before .before .before .before .before .pre .1 .1,
+    )
 
 put-piece-requires : tie.Need-put-piece-requires
 put-piece-requires c κs =
-    omega (arith, c .before .before .before .before .before .before .before .before .before .before .pre .1 .0 .room,
-        c .before .before .before .before .before .before .before .before .before .before .pre .1 .1,
-        c .before .before .before .copy-rows .kept .0)
+    omega (
+      arith,
+      c .before .before .before .before .before .before .before .before .before .before .pre .1 .0 .room,
+      c .before .before .before .before .before .before .before .before .before .before .pre .1 .1,
+      c .before .before .before .copy-rows .kept .0,
+    )
 
 same-length : tie.Need-same-length
 same-length c = search needs
@@ -47,12 +53,12 @@ returns c =
     let a = start .args in
     let room = start .pre .1 .0 in
     put-trimmed (a .front) (a .pattern) (a .p .now) (a .s .now) (c .before .before .before .before .before .before .copy-rows .last .0)
-        (c .before .before .put-piece .last .0) (a .at) (a .n) (a .k) (a .top) (c .before .before .before .before .before .before .before .before .before .get-piece .result)
-        (c .before .before .before .before .before .before .before .before .trim-place .result)
+    (c .before .before .put-piece .last .0) (a .at) (a .n) (a .k) (a .top) (c .before .before .before .before .before .before .before .before .before .get-piece .result)
+    (c .before .before .before .before .before .before .before .before .trim-place .result)
     (start .pre .1 .1) (rows-copied (a .p .now) _ (a .at) (a .n) (a .top) (room .below) (room .room) (c .before .before .before .before .before .before .copy-rows .ensures))
-        (c .before .before .before .before .before .before .before .before .before .get-piece .ensures)
-        (c .before .before .before .before .before .before .before .before .trim-place .ensures) (c .before .before .put-piece .ensures)
-        (c .before .before .put-piece .kept .0)
+    (c .before .before .before .before .before .before .before .before .before .get-piece .ensures)
+    (c .before .before .before .before .before .before .before .before .trim-place .ensures) (c .before .before .put-piece .ensures)
+    (c .before .before .put-piece .kept .0)
 
 pub put-trimmed-spec : {M : Type 1} → statement M
 put-trimmed-spec =

@@ -40,8 +40,8 @@ returns c =
     let k = c .before .before .before .before .blank-front .result in
     let g = front-stop (a .pattern) (a .p .now) (a .s .now) (a .at) (a .n) k b (start .pre .1 .1) in
     rw (c .before .before .before .before .before .before .if1 .taken)
-        (trimmed-front (a .pattern) (a .p .now) (a .s .now) (c .before .before .put-trimmed .last .0) (a .at) (a .n) k (a .top) b g
-        (rw (c .before .before .before .before .before .before .if1 .taken) at (c .before .before .put-trimmed .ensures)))
+    (trimmed-front (a .pattern) (a .p .now) (a .s .now) (c .before .before .put-trimmed .last .0) (a .at) (a .n) k (a .top) b g
+    (rw (c .before .before .before .before .before .before .if1 .taken) at (c .before .before .put-trimmed .ensures)))
 
 blank-back-requires : tie.Need-blank-back-requires
 blank-back-requires c κs = search needs
@@ -75,8 +75,8 @@ returns-2 c =
     let k = c .before .before .before .before .blank-back .result in
     let g = back-stop (a .pattern) (a .p .now) (a .s .now) (a .at) (a .n) k b (start .pre .1 .1) in
     rw (c .before .before .before .before .before .before .if1 .left) (trimmed-back (a .pattern) (a .p .now) (a .s .now) (c .before .before .put-trimmed2 .last .0)
-        (a .at) (a .n) k (a .top) b g (rw (c .before .before .before .before .before .before .if1 .left) at
-        (c .before .before .put-trimmed2 .ensures)))
+    (a .at) (a .n) k (a .top) b g (rw (c .before .before .before .before .before .before .if1 .left) at
+    (c .before .before .put-trimmed2 .ensures)))
 
 pub trim-run-spec : {M : Type 1} → statement M
 trim-run-spec =

@@ -41,8 +41,8 @@ returns c =
     let w = c .before .before .before .with-near in
     let u = c .before .before .put-row in
     own-gone (a .front) (a .pattern) (a .p .now) (a .s .now) (a .top) (a .t .now) (start .pre) (g .result) (g .ensures) (placeOf (q .result)) (q .ensures)
-        (w .result) (w .ensures) _ (u .ensures) (u .kept .0) (sym (c .before .before .before .before .before .before .is-blank .ensures)
-        ∙ c .before .before .before .before .before .if1 .taken)
+    (w .result) (w .ensures) _ (u .ensures) (u .kept .0) (sym (c .before .before .before .before .before .before .is-blank .ensures)
+    ∙ c .before .before .before .before .before .if1 .taken)
 
 trim-run-requires : tie.Need-trim-run-requires
 trim-run-requires c κs =
@@ -50,10 +50,13 @@ trim-run-requires c κs =
     let a = start .args in
     let g = c .before .before .before .before .before .get-row in
     let q = c .before .before .before .before .near in
-    let e = sym (c .before .before .is-blank .ensures) ∙ c .before .if1 .left in
-    (own-run (a .front) (a .pattern) (a .p .now) (a .s .now) (a .top) (a .t .now) (start .pre) (g .result) (g .ensures) (placeOf (q .result)) (q .ensures),
-        (own-room (a .front) (a .pattern) (a .p .now) (a .s .now) (a .top) (a .t .now) (start .pre) (g .result) (g .ensures) (placeOf (q .result)) (q .ensures) e,
-        e))
+    let e = sym (c .before .before .is-blank .ensures) ∙ c .before .if1 .left in (
+      own-run (a .front) (a .pattern) (a .p .now) (a .s .now) (a .top) (a .t .now) (start .pre) (g .result) (g .ensures) (placeOf (q .result)) (q .ensures),
+      (
+        own-room (a .front) (a .pattern) (a .p .now) (a .s .now) (a .top) (a .t .now) (start .pre) (g .result) (g .ensures) (placeOf (q .result)) (q .ensures) e,
+        e,
+      ),
+    )
 
 with-near-requires-2 : tie.Need-with-near-requires-2
 with-near-requires-2 c κs = search needs
@@ -77,9 +80,9 @@ returns-2 c =
     let w = c .before .before .before .with-near2 in
     let u = c .before .before .put-row2 in
     own-left (a .front) (a .pattern) (a .p .now) (a .s .now) (a .top) (a .t .now) (start .pre) (g .result) (g .ensures) (placeOf (q .result)) (q .ensures) _
-        (placeOf (n .result)) (n .ensures) (w .result) (w .ensures) _ (u .ensures) (u .kept .0)
-        (sym (c .before .before .before .before .before .before .before .before .before .before .is-blank .ensures)
-        ∙ c .before .before .before .before .before .before .before .before .before .if1 .left)
+    (placeOf (n .result)) (n .ensures) (w .result) (w .ensures) _ (u .ensures) (u .kept .0)
+    (sym (c .before .before .before .before .before .before .before .before .before .before .is-blank .ensures)
+    ∙ c .before .before .before .before .before .before .before .before .before .if1 .left)
 
 pub trim-own-spec : {M : Type 1} → statement M
 trim-own-spec =

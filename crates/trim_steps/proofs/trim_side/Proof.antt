@@ -68,7 +68,7 @@ returns-2 c =
     let a = start .args in
     own-goes-on (a .front) (a .pattern) (a .source .now) (a .t .now) (a .p .now) (a .s .now) (a .top) _ (a .byte) (start .pre) _ _ _ (own .trim-own .ensures)
     (not-false (own .trim-own .result) (c .before .before .before .before .before .before .before .before .before .before .if1 .left)) _ _ _ _ _
-        (c .before .before .before .before .before .before .trim-chunks .ensures)
+    (c .before .before .before .before .before .before .trim-chunks .ensures)
 
 pub trim-side-spec : {M : Type 1} → statement M
 trim-side-spec =

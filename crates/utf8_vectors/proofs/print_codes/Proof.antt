@@ -29,19 +29,19 @@ print-code-requires c κs = search needs
 add-i : tie.Need-add-i Inv-loop μ-loop
 add-i c =
     let t = turn (c .before .before .before .before .before .before .before .args .s .now) (c .before .before .before .before .before .loop .i) _ _
-        (sym (c .before .before .before .before .decode .ensures) ∙ c .before .before .code .given .1) in
+    (sym (c .before .before .before .before .decode .ensures) ∙ c .before .before .code .given .1) in
     omega (arith, t .1)
 
 loop-less : tie.Need-loop-less Inv-loop μ-loop
 loop-less c =
     let t = turn (c .before .before .before .before .before .before .before .args .s .now) (c .before .before .before .before .before .loop .i) _ _
-        (sym (c .before .before .before .before .decode .ensures) ∙ c .before .before .code .given .1) in
+    (sym (c .before .before .before .before .decode .ensures) ∙ c .before .before .code .given .1) in
     omega (arith, t .0, t .1)
 
 loop-again : tie.Need-loop-again Inv-loop μ-loop
 loop-again c =
     let t = turn (c .before .before .before .before .before .before .before .args .s .now) (c .before .before .before .before .before .loop .i) _ _
-        (sym (c .before .before .before .before .decode .ensures) ∙ c .before .before .code .given .1) in
+    (sym (c .before .before .before .before .decode .ensures) ∙ c .before .before .code .given .1) in
     omega (arith, t .1)
 
 enum-told : tie.Need-enum-told Inv-loop μ-loop

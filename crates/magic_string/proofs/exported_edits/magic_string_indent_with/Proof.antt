@@ -47,7 +47,7 @@ same-length-6 c = search needs
 returns-2 : tie.Need-returns-2
 returns-2 c =
     let a = c .before .before .before .before .before .before .before .before .before .before .before .before .before .before .before .before .before
-        .before .before .before .before .before .before .args in
+    .before .before .before .before .before .before .args in
     let taken = c .before .before .before .before .before .before .before .before .before .before .before .before .before .taken in
     let used = c .before .before .before .before .before .before .before .before .before .before .before .used in
     let done = c .before .before .before .before .before .before .indent-with in

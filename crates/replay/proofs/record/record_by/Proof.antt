@@ -55,13 +55,17 @@ same-length-8 : tie.Need-same-length-8
 same-length-8 c = c .before .before .before .before .before .before .before .before .cut .kept .1 .1 .1 .1 .1 .1 .1 .1 .0
 
 returns : tie.Need-returns
-returns c = omega (arith, c .before .before .before .before .before .before .before .before .cut .ensures,
-    length-take-le (c .before .before .before .before .before .before .before .before .before .before .before .before .before .before .before .before
-    .before .before .before .use-source .result) (c .before .before .before .before .before .before .before .before .before .before .before .before
-    .before .before .before .before .before .before .before .use-source .last .1 .1 .0)
-    (c .before .before .before .before .before .before .before .before .before .before .before .before .before .before .before .before .before .before
-    .before .use-source .ensures), c .before .before .before .before .before .before .before .before .before .before .before .before .before .before
-    .before .before .before .before .before .use-source .ensures)
+returns c = omega (
+  arith,
+  c .before .before .before .before .before .before .before .before .cut .ensures,
+  length-take-le (c .before .before .before .before .before .before .before .before .before .before .before .before .before .before .before .before
+      .before .before .before .use-source .result) (c .before .before .before .before .before .before .before .before .before .before .before .before
+      .before .before .before .before .before .before .before .use-source .last .1 .1 .0)
+      (c .before .before .before .before .before .before .before .before .before .before .before .before .before .before .before .before .before .before
+      .before .use-source .ensures),
+  c .before .before .before .before .before .before .before .before .before .before .before .before .before .before
+      .before .before .before .before .before .use-source .ensures,
+)
 
 pub record-by-spec : {M : Type 1} → statement M
 record-by-spec =

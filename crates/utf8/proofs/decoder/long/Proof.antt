@@ -37,7 +37,7 @@ returns-4 : tie.Need-returns-4
 returns-4 c =
     let x = c .before .before .before .before .before .before .before .args in
     c .checked .ensures ∙ is-2 (x .a) (x .b) (x .c) (x .d) _ _ (omega arith) (omega arith) (c .before .before .before .before .following .ensures)
-        (not-false _ (c .before .before .before .if3 .left)) (c .before .join .ensures)
+    (not-false _ (c .before .before .before .if3 .left)) (c .before .join .ensures)
 
 following-requires-2 : tie.Need-following-requires-2
 following-requires-2 c κs = search needs
@@ -46,7 +46,7 @@ returns-5 : tie.Need-returns-5
 returns-5 c =
     let x = c .before .before .before .before .before .before .before .args in
     no-c (x .a) (x .b) (x .c) (x .d) _ _ (omega arith) (omega arith) (c .before .before .before .before .following .ensures)
-        (not-false _ (c .before .before .before .if3 .left)) (c .before .following2 .ensures) (not-true _ (c .if5 .taken))
+    (not-false _ (c .before .before .before .if3 .left)) (c .before .following2 .ensures) (not-true _ (c .if5 .taken))
 
 join-requires-2 : tie.Need-join-requires-2
 join-requires-2 c κs = omega (arith, and-le-r (c .before .before .before .before .before .before .before .before .args .a) 15)
@@ -61,9 +61,9 @@ returns-6 : tie.Need-returns-6
 returns-6 c =
     let x = c .before .before .before .before .before .before .before .before .before .before .before .args in
     c .checked2 .ensures ∙ is-3 (x .a) (x .b) (x .c) (x .d) _ _ _ _ (omega arith) (omega arith)
-        (c .before .before .before .before .before .before .before .before .following .ensures)
-        (not-false _ (c .before .before .before .before .before .before .before .if3 .left)) (c .before .before .before .before .before .following2 .ensures)
-        (not-false _ (c .before .before .before .before .if5 .left)) (c .before .before .join2 .ensures) (c .before .join3 .ensures)
+    (c .before .before .before .before .before .before .before .before .following .ensures)
+    (not-false _ (c .before .before .before .before .before .before .before .if3 .left)) (c .before .before .before .before .before .following2 .ensures)
+    (not-false _ (c .before .before .before .before .if5 .left)) (c .before .before .join2 .ensures) (c .before .join3 .ensures)
 
 following-requires-3 : tie.Need-following-requires-3
 following-requires-3 c κs = search needs
@@ -72,8 +72,8 @@ returns-7 : tie.Need-returns-7
 returns-7 c =
     let x = c .before .before .before .before .before .before .before .before .before .before .args in
     no-d (x .a) (x .b) (x .c) (x .d) _ _ _ (omega arith) (omega arith) (c .before .before .before .before .before .before .before .following .ensures)
-        (not-false _ (c .before .before .before .before .before .before .if3 .left)) (c .before .before .before .before .following2 .ensures)
-        (not-false _ (c .before .before .before .if5 .left)) (c .before .following3 .ensures) (not-true _ (c .if7 .taken))
+    (not-false _ (c .before .before .before .before .before .before .if3 .left)) (c .before .before .before .before .following2 .ensures)
+    (not-false _ (c .before .before .before .if5 .left)) (c .before .following3 .ensures) (not-true _ (c .if7 .taken))
 
 join-requires-4 : tie.Need-join-requires-4
 join-requires-4 c κs = omega (arith, and-le-r (c .before .before .before .before .before .before .before .before .before .before .args .a) 7)
@@ -91,12 +91,12 @@ returns-8 : tie.Need-returns-8
 returns-8 c =
     let x = c .before .before .before .before .before .before .before .before .before .before .before .before .before .before .args in
     c .checked3 .ensures ∙ is-4 (x .a) (x .b) (x .c) (x .d) _ _ _ _ _ _ (omega arith) (omega arith)
-        (c .before .before .before .before .before .before .before .before .before .before .before .following .ensures)
-        (not-false _ (c .before .before .before .before .before .before .before .before .before .before .if3 .left))
-        (c .before .before .before .before .before .before .before .before .following2 .ensures)
-        (not-false _ (c .before .before .before .before .before .before .before .if5 .left)) (c .before .before .before .before .before .following3 .ensures)
-        (not-false _ (c .before .before .before .before .if7 .left)) (c .before .before .before .join4 .ensures) (c .before .before .join5 .ensures)
-        (c .before .join6 .ensures)
+    (c .before .before .before .before .before .before .before .before .before .before .before .following .ensures)
+    (not-false _ (c .before .before .before .before .before .before .before .before .before .before .if3 .left))
+    (c .before .before .before .before .before .before .before .before .following2 .ensures)
+    (not-false _ (c .before .before .before .before .before .before .before .if5 .left)) (c .before .before .before .before .before .following3 .ensures)
+    (not-false _ (c .before .before .before .before .if7 .left)) (c .before .before .before .join4 .ensures) (c .before .before .join5 .ensures)
+    (c .before .join6 .ensures)
 
 pub long-spec : {M : Type 1} → statement M
 long-spec =

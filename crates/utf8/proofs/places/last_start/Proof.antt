@@ -35,15 +35,18 @@ sub-p-2 c =
 loop-less : tie.Need-loop-less Inv-loop μ-loop
 loop-less c =
     let l = c .before .before .before .loop in
-    omega (arith, over-positive (c .before .before .before .before .before .args .s .now) (l .p) (c .before .before .before .before .before .pre .0)
-        (l .inv) (sym (c .before .following .ensures) ∙ c .if1 .taken))
+    omega (
+      arith,
+      over-positive (c .before .before .before .before .before .args .s .now) (l .p) (c .before .before .before .before .before .pre .0)
+          (l .inv) (sym (c .before .following .ensures) ∙ c .if1 .taken),
+    )
 
 loop-again : tie.Need-loop-again Inv-loop μ-loop
 loop-again c =
     let x = c .before .before .before .before .before .args in
     let l = c .before .before .before .loop in
     over-next (x .s .now) (l .p) (over-positive (x .s .now) (l .p) (c .before .before .before .before .before .pre .0) (l .inv)
-        (sym (c .before .following .ensures) ∙ c .if1 .taken)) (l .inv) (sym (c .before .following .ensures) ∙ c .if1 .taken)
+    (sym (c .before .following .ensures) ∙ c .if1 .taken)) (l .inv) (sym (c .before .following .ensures) ∙ c .if1 .taken)
 
 returns : tie.Need-returns Inv-loop μ-loop
 returns c =

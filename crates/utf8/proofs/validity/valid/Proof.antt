@@ -52,7 +52,7 @@ returns : tie.Need-returns Inv-loop2 μ-loop2 Inv-loop μ-loop
 returns c =
     let l = c .before .before .before .loop2 in
     sym (l .inv .2 ∙ width-none (c .before .before .before .before .before .before .before .before .before .args .s .now) (l .i) (c .before .width-at .result)
-        (omega (arith, c .before .before .before .before .at-most .ensures)) (c .before .width-at .ensures) (c .if1 .taken))
+    (omega (arith, c .before .before .before .before .at-most .ensures)) (c .before .width-at .ensures) (c .if1 .taken))
 
 add-i : tie.Need-add-i Inv-loop2 μ-loop2 Inv-loop μ-loop
 add-i c = let t = width-turn (c .before .before .before .before .before .before .before .before .before .args .s .now) (c .before .before .before .loop2 .i)
@@ -66,7 +66,7 @@ loop2-again : tie.Need-loop2-again Inv-loop2 μ-loop2 Inv-loop μ-loop
 loop2-again c =
     let l = c .before .before .before .loop2 in
     let t = width-turn (c .before .before .before .before .before .before .before .before .before .args .s .now) (l .i) (c .before .width-at .result)
-        (c .before .width-at .ensures) (c .if1 .left) in (omega (arith, t .0), t .1, l .inv .2 ∙ t .2)
+    (c .before .width-at .ensures) (c .if1 .left) in (omega (arith, t .0), t .1, l .inv .2 ∙ t .2)
 
 returns-2 : tie.Need-returns-2 Inv-loop2 μ-loop2 Inv-loop μ-loop
 returns-2 c =

@@ -36,7 +36,7 @@ loop-again : tie.Need-loop-again Inv-loop μ-loop
 loop-again c =
     let l = c .before .before .before .before .loop in
     let t = turn (c .before .before .before .before .before .before .args .s .now) (l .i) _ _ (sym (c .before .before .before .decode .ensures)
-        ∙ c .before .width .given .1) in (t .1, l .inv .1 ∙ t .2)
+    ∙ c .before .width .given .1) in (t .1, l .inv .1 ∙ t .2)
 
 enum-told : tie.Need-enum-told Inv-loop μ-loop
 enum-told c = search needs
