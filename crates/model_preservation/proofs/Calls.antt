@@ -16,7 +16,7 @@ use Rattle.model.specs.Chunk.{new-chunk}
 use Rattle.model.specs.MagicString.{MagicString, Result, ok, err, new}
 use Rattle.model.specs.Limits.{Limits, within}
 use Rattle.model.specs.Call.{Edit, remove, update-with, reset, append-left, append-right, prepend-left, prepend-right, append, prepend, relocate, trim, trim-start, trim-end}
-use Rattle.model.specs.Call.{trim-lines, indent-with, change, report, Call, «open», on-desk, options-valid, given, texts, positions, steps, refused-before, judged, run, opened}
+use Rattle.model.specs.Call.{trim-lines, indent-with, change, report, «open», on-desk, options-valid, given, texts, positions, steps, refused-before, judged, run, opened}
 use Rattle.model.specs.Call.{perform}
 use Rattle.model.specs.WellFormed.{Valid, ValidReplacement, Covered, Formed, WellFormed}
 use Rattle.model.proofs.Lists.{all-true}

@@ -10,13 +10,12 @@ use Rattle.model.specs.Text.{Text, any, all, unwrap-or}
 use Rattle.model.specs.Chunk.{Chunk, start-of, is-edited}
 use Rattle.model.specs.MagicString.{MagicString, Result}
 use Rattle.model.specs.Limits.{Limits}
-use Rattle.model.specs.WellFormed.{Formed}
 use Rattle.model.specs.Slice.{Sliced, text, refused, Start, from, nothing, before, contains-end, ends-inside, chunk-slice, slice-rest, slice-from, find-start}
 use Rattle.model.specs.Slice as slice-rs
 use Rattle.model.specs.MagicString as mod-rs
 use Rattle.model.specs.Indent as indent-rs
-use Rattle.model.specs.Call.{change, report, Call, «open», on-desk, Report, to-string, slice, last-line, get-indent-string, len, len-utf16, line-count, is-empty, has-changed}
-use Rattle.model.specs.Call.{is-range-within-edited-chunk, last-char, Shown, into, sliced-into, slice-positions, run, edit-numbers, show, opened, report-numbers, numbers-of}
+use Rattle.model.specs.Call.{change, report, «open», on-desk, Report, to-string, slice, last-line, get-indent-string, len, len-utf16, line-count, is-empty, has-changed}
+use Rattle.model.specs.Call.{is-range-within-edited-chunk, last-char, Shown, into, sliced-into, slice-positions, run, edit-numbers, show, opened, report-numbers}
 use Rattle.model.specs.Call.{perform}
 use Rattle.model_preservation.proofs.Lists.{of-cond, of-either, of-guard}
 use Rattle.model_preservation.specs.Refusals.{among}

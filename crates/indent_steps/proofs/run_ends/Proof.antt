@@ -1,5 +1,4 @@
 use mathlib.Core.Path.{ap, _∙_, subst}
-use Rattle.memory_table.specs.declared.Row.{Row}
 use Rattle.memory_table.specs.Table.{Put}
 use Rattle.memory_table.specs.Sides.{with-side}
 use Rattle.memory.specs.Layout.{Place}
