@@ -15,15 +15,36 @@ fn the_functions() {
   assert_eq!(declared.len(), NAMES.len());
 }
 
-/// The value of a `#define`: numbers, products and hexadecimal in `UINT32_C`.
+/// The value of a `#define`: numbers, other such names, sums and products.
 fn defined(name: &str) -> usize {
   let line = HEADER.lines().find_map(|line| line.strip_prefix(&format!("#define {name} ")));
-  let value = line.unwrap_or_else(|| panic!("{name} is not there")).replace("UINT32_C", "");
-  let number = |word: &str| match word.trim().strip_prefix("0x") {
+  value(&line.unwrap_or_else(|| panic!("{name} is not there")).replace("UINT32_C", ""))
+}
+
+/// The value of a text: the last sum or product outside brackets is made last.
+fn value(text: &str) -> usize {
+  let text = text.trim();
+  for sign in ['+', '*'] {
+    let mut depth = 0;
+    for (at, part) in text.char_indices().rev() {
+      match part {
+        ')' => depth += 1,
+        '(' => depth -= 1,
+        _ if depth == 0 && part == sign => {
+          let (left, right) = (value(&text[..at]), value(&text[at + 1..]));
+          return if sign == '+' { left + right } else { left * right };
+        }
+        _ => {}
+      }
+    }
+  }
+  if let Some(inside) = text.strip_prefix('(').and_then(|rest| rest.strip_suffix(')')) {
+    return value(inside);
+  }
+  match text.strip_prefix("0x") {
     Some(digits) => usize::from_str_radix(digits, 16).unwrap(),
-    None => word.trim().parse().unwrap(),
-  };
-  value.trim_matches(['(', ')']).split('*').map(number).product()
+    None => text.parse().unwrap_or_else(|_| defined(text)),
+  }
 }
 
 #[test]
@@ -36,6 +57,9 @@ fn limits_lengths_and_marks() {
     ("CHUNKS_LEN", CHUNKS_LEN),
     ("PIECES_LEN", PIECES_LEN),
     ("STORE_LEN", STORE_LEN),
+    ("ROW", ROW),
+    ("PIECE", PIECE),
+    ("LIST_END", LIST_END as usize),
     ("NONE", NONE as usize),
     ("NO_CHAR", NO_CHAR as usize),
   ];
@@ -44,11 +68,14 @@ fn limits_lengths_and_marks() {
   }
 }
 
-/// The words of a row stand in the header's enum, counted from 0.
+/// The names of the header's enum number n, which are counted from 0.
+fn counted(n: usize) -> Vec<&'static str> {
+  let names = HEADER.split("enum {").nth(n).and_then(|rest| rest.split("};").next()).unwrap();
+  names.split(',').map(str::trim).collect()
+}
+
 #[test]
 fn words_of_a_row() {
-  let words = HEADER.split("enum {").nth(1).and_then(|rest| rest.split("};").next()).unwrap();
-  let words: Vec<&str> = words.lines().map(str::trim).filter(|line| !line.is_empty()).collect();
   let values = [
     ("START", START),
     ("END", END),
@@ -61,8 +88,13 @@ fn words_of_a_row() {
     ("TEXT_AT", TEXT_AT),
     ("TEXT_N", TEXT_N),
   ];
+  let words = counted(1);
+  assert_eq!(words.len(), values.len());
   for (name, value) in values {
-    assert_eq!(words[value], format!("MAGIC_STRING_{name},"));
+    assert_eq!(words[value], format!("MAGIC_STRING_{name}"));
   }
-  assert!(words.iter().any(|word| word.starts_with(&format!("MAGIC_STRING_ROW = {ROW} "))));
+  let words = counted(2);
+  assert_eq!(words.len(), 2);
+  assert_eq!(words[PIECE_AT], "MAGIC_STRING_PIECE_AT");
+  assert_eq!(words[PIECE_N], "MAGIC_STRING_PIECE_N");
 }
