@@ -3,3 +3,4 @@ pub mod Rest
 pub mod Steps
 pub mod Turns
 pub mod Walk
+pub mod State

@@ -3,6 +3,7 @@
 //! of lists of edits with each other.
 
 pub mod any_order;
+pub mod arguments;
 pub mod compare;
 pub mod cores;
 pub mod damage;

@@ -12,6 +12,7 @@ use std::{
 use differential::{
   Core,
   any_order::{CHECKS, Compared, UNTOLD, compare},
+  arguments::{Arguments, seed_count_seconds},
   cores,
 };
 
@@ -19,15 +20,9 @@ use differential::{
 const FAILING: u64 = 2_000;
 
 fn main() -> ExitCode {
-  let arguments: Vec<Option<u64>> =
-    std::env::args().skip(1).map(|word| word.parse().ok()).collect();
-  let (seed, count, most) = match arguments[..] {
-    [Some(seed), Some(count)] => (seed, count, Duration::MAX),
-    [Some(seed), Some(count), Some(seconds)] => (seed, count, Duration::from_secs(seconds)),
-    _ => {
-      eprintln!("usage: any_order SEED COUNT [SECONDS]");
-      return ExitCode::from(2);
-    }
+  let Arguments { seed, count, most } = match seed_count_seconds("any_order") {
+    Ok(arguments) => arguments,
+    Err(code) => return code,
   };
   let mut core = cores::chosen(seed);
   println!("core: {}", core.name());

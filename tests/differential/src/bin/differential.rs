@@ -11,21 +11,16 @@ use std::{
 
 use differential::{
   Core, Paper, Tally,
+  arguments::{Arguments, seed_count_seconds},
   compare::{Compared, compare_on},
   cores, papers,
   run::run,
 };
 
 fn main() -> ExitCode {
-  let arguments: Vec<Option<u64>> =
-    std::env::args().skip(1).map(|word| word.parse().ok()).collect();
-  let (seed, count, most) = match arguments[..] {
-    [Some(seed), Some(count)] => (seed, count, Duration::MAX),
-    [Some(seed), Some(count), Some(seconds)] => (seed, count, Duration::from_secs(seconds)),
-    _ => {
-      eprintln!("usage: differential SEED COUNT [SECONDS]");
-      return ExitCode::from(2);
-    }
+  let Arguments { seed, count, most } = match seed_count_seconds("differential") {
+    Ok(arguments) => arguments,
+    Err(code) => return code,
   };
   let mut core = cores::chosen(seed);
   println!("core: {}", core.name());

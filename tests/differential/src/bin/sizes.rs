@@ -4,13 +4,11 @@
 //! sizes. At the first difference it prints the smallest paper that it finds, or
 //! the image, and fails.
 
-use std::{
-  process::ExitCode,
-  time::{Duration, Instant},
-};
+use std::{process::ExitCode, time::Instant};
 
 use differential::{
   Core,
+  arguments::{Arguments, seed_count_seconds},
   compare::{Compared, compare_on},
   cores,
   damage::{self, Judge},
@@ -18,15 +16,9 @@ use differential::{
 };
 
 fn main() -> ExitCode {
-  let arguments: Vec<Option<u64>> =
-    std::env::args().skip(1).map(|word| word.parse().ok()).collect();
-  let (seed, count, most) = match arguments[..] {
-    [Some(seed), Some(count)] => (seed, count, Duration::MAX),
-    [Some(seed), Some(count), Some(seconds)] => (seed, count, Duration::from_secs(seconds)),
-    _ => {
-      eprintln!("usage: sizes SEED COUNT [SECONDS]");
-      return ExitCode::from(2);
-    }
+  let Arguments { seed, count, most } = match seed_count_seconds("sizes") {
+    Ok(arguments) => arguments,
+    Err(code) => return code,
   };
   let mut core = cores::chosen_inner(seed);
   println!("core: {}", core.name());

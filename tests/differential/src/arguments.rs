@@ -1,0 +1,26 @@
+//! The words behind a program's name.
+
+use std::{process::ExitCode, time::Duration};
+
+/// A seed, how many calls or lists are made, and in which time at most.
+pub struct Arguments {
+  pub seed: u64,
+  pub count: u64,
+  pub most: Duration,
+}
+
+/// `SEED COUNT [SECONDS]`. Other words are told on standard error, with the
+/// program's name, and make it fail.
+pub fn seed_count_seconds(program: &str) -> Result<Arguments, ExitCode> {
+  let words: Vec<Option<u64>> = std::env::args().skip(1).map(|word| word.parse().ok()).collect();
+  match words[..] {
+    [Some(seed), Some(count)] => Ok(Arguments { seed, count, most: Duration::MAX }),
+    [Some(seed), Some(count), Some(seconds)] => {
+      Ok(Arguments { seed, count, most: Duration::from_secs(seconds) })
+    }
+    _ => {
+      eprintln!("usage: {program} SEED COUNT [SECONDS]");
+      Err(ExitCode::from(2))
+    }
+  }
+}
