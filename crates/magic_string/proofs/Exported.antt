@@ -46,3 +46,10 @@ module _ {source t p s : List ℕ} where
 
   pub reported-no : {q : Report} {out : List ℕ} → (Taken source t p s → ⊥) → Reported q source t p s out out 2 0
   reported-no n = record { not-well-formed = λ _. (refl, refl, refl); well-formed = λ w. absurd (n w) }
+
+  -- the same call, by another name
+  pub edited-as : {e e′ : Edit} {t′ p′ s′ : List ℕ} {number : ℕ} → e ≡ e′ → Edited e source t p s t′ p′ s′ number → Edited e′ source t p s t′ p′ s′ number
+  edited-as {t′ = t′} {p′ = p′} {s′ = s′} {number = number} q x = subst (λ (e : Edit). Edited e source t p s t′ p′ s′ number) q x
+
+  pub reported-as : {q q′ : Report} {out out′ : List ℕ} {number value : ℕ} → q ≡ q′ → Reported q source t p s out out′ number value → Reported q′ source t p s out out′ number value
+  reported-as {out = out} {out′ = out′} {number = number} {value = value} e x = subst (λ (q : Report). Reported q source t p s out out′ number value) e x

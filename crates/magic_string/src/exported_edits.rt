@@ -50,6 +50,7 @@ pub extern "C" fn magic_string_update_with(
     ensures { λ r. ⌜ Edited (update-with start end (now (text .entry)) (flag overwrite)) (now (source .entry)) (now (chunks .entry)) (now (pieces .entry)) (now (store .entry))
         (now (chunks .exit)) (now (pieces .exit)) (now (store .exit)) (r .number) × (r .value ≡ 0) ⌝ }
 {
+    let overwrites = memory::flag(overwrite);
     let Seen::Desk(used) = check_well_formed::taken(source, chunks, pieces, store) else {
         return Answer {
             number: NO_DESK,
@@ -64,7 +65,7 @@ pub extern "C" fn magic_string_update_with(
         start,
         end,
         text,
-        overwrite != 0,
+        overwrites,
         used,
     );
     Answer {
@@ -381,6 +382,7 @@ pub extern "C" fn magic_string_indent_with(
         (now (chunks .entry)) (now (pieces .entry)) (now (store .entry))
         (now (chunks .exit)) (now (pieces .exit)) (now (store .exit)) (r .number) × (r .value ≡ 0) ⌝ }
 {
+    let given = memory::flag(has_indentor);
     let Seen::Desk(used) = check_well_formed::taken(source, chunks, pieces, store) else {
         return Answer {
             number: NO_DESK,
@@ -392,7 +394,7 @@ pub extern "C" fn magic_string_indent_with(
         chunks,
         pieces,
         store,
-        has_indentor != 0,
+        given,
         indentor,
         exclude,
         used,

@@ -43,8 +43,9 @@ pub extern "C" fn magic_string_slice<'a>(
     ensures { λ r. ⌜ Reported (Slice start (endOf (flag «has_end») end) (length (now (out .entry)))) (now (source .entry)) (now (chunks .entry))
         (now (pieces .entry)) (now (store .entry)) (now (out .entry)) (now (out .exit)) (r .number) (r .value) ⌝ }
 {
+    let given = memory::flag(has_end);
     if check_well_formed::well_formed(source, chunks, pieces, store) {
-        return report_slice::slice(source, chunks, pieces, store, start, has_end != 0, end, out);
+        return report_slice::slice(source, chunks, pieces, store, start, given, end, out);
     }
     Answer {
         number: 2,
