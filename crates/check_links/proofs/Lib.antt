@@ -1,4 +1,3 @@
-mod Tests
 mod Stretches
 mod Flip
 mod Rest

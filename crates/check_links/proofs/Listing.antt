@@ -20,7 +20,8 @@ use Rattle.memory_counting.proofs.Lists.{sum-swap}
 use Rattle.memory_counting.proofs.Once.{Once, sum-once, all-once, once-all, ring-once}
 use Rattle.check_spans.specs.Spans.{startOf, endOf, startsOf, endsOf, Empty, Listed}
 use Rattle.check_spans.proofs.Spans.{sum-ones-is}
-use Rattle.check_links.specs.Walk.{Proper, Alone}
+use Rattle.check_row.specs.Row.{Proper}
+use Rattle.check_links.specs.Walk.{Alone}
 use Rattle.check_links.proofs.Rest.{holds, sizeOf, Whole}
 
 -- how many bytes the spans of rows have, byte by byte of the source

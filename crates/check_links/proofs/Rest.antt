@@ -18,7 +18,8 @@ use Rattle.memory_counting.specs.Once.{In}
 use Rattle.check_spans.specs.Spans.{startOf, endOf}
 use Rattle.check_spans.proofs.Spans.{indicator-none}
 use Rattle.check_links.specs.declared.Side.{Side}
-use Rattle.check_links.specs.Walk.{leads, Joint, Behind, Proper, held, pendingSize, Sound, Stepped, Ended}
+use Rattle.check_row.specs.Row.{leads, Joint, Behind, Proper}
+use Rattle.check_links.specs.Walk.{held, pendingSize, Sound, Stepped, Ended}
 use Rattle.check_links.proofs.Flip.{flip-links, flip-each, flip-sum}
 
 -- 1 if byte b is in the span of row i, else 0; how many bytes it has

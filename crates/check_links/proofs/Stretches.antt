@@ -13,7 +13,8 @@ use Rattle.check_marks.specs.Marks.{Marked}
 use Rattle.check_marks.proofs.Marking.{marked-by}
 use Rattle.check_bit_marks.specs.BitMarks.{bitAt, Stretch}
 use Rattle.check_links.specs.declared.Side.{Side}
-use Rattle.check_links.specs.Walk.{Joint, Found, Proper, pendingSize, Turned, Stepped, Ended}
+use Rattle.check_row.specs.Row.{Joint, Found, Proper}
+use Rattle.check_links.specs.Walk.{pendingSize, Turned, Stepped, Ended}
 
 -- as many as lie between a and e, from a on
 among-between : (a e b n : ℕ) → a ≤ e → n ≡ e - a → indicator a e b ≡ among (a, n) b

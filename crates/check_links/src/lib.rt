@@ -6,69 +6,10 @@ ghost use lib.ListN.{length};
 ghost use Rattle.memory_layout.specs.Layout.{ROW, SOURCE-BYTES};
 ghost use Rattle.utf8.specs.Rfc3629.{utf8 as isText};
 ghost use Rattle.memory_counting.specs.Counts.{Decides, indicator};
-ghost use Rattle.check_spans.specs.Spans.{Edged, Empty, Listed};
+ghost use Rattle.check_spans.specs.Spans.{Listed};
 ghost use Rattle.check_marks.specs.Marks.{Marked};
 ghost use Rattle.check_bit_marks.specs.BitMarks.{bitAt};
-ghost use Rattle.check_links.specs.Walk.{Joint, Found, Proper, pendingSize, Sound, Turned, Stepped, Ended, Alone};
-
-// Whether word k of row a leads to row b, and the other word of b back to a. Words 2 (next) and 3 (prev) lead to the next row and to the one before: the other one of word k is word 5 - k.
-fn edge(t: &[u32], k: usize, a: u32, b: u32) -> bool
-    requires { ⌜ (a * ROW + ROW ≤ length (now t)) × (b * ROW + ROW ≤ length (now t)) × (k ≤ 5) ⌝ }
-    ensures { λ r. ⌜ Decides r (Joint (now (t .entry)) k a b) ⌝ }
-{
-    if check_spans::word(t, a, k) != b {
-        return false;
-    }
-    if check_spans::word(t, b, 5 - k) != a {
-        return false;
-    }
-    true
-}
-
-// The row to which word k of row a leads, if it is one of the rows 1 to n and its other word leads back to a; else the end mark.
-fn linked_row(t: &[u32], n: u32, k: usize, a: u32) -> u32
-    requires { ⌜ (n * ROW + ROW ≤ length (now t)) × (a ≤ n) × (k ≤ 5) ⌝ }
-    ensures { λ r. ⌜ Found (now (t .entry)) n k a r ⌝ }
-{
-    let x = check_spans::word(t, a, k);
-    if x == memory_layout::LIST_END {
-        return memory_layout::LIST_END;
-    }
-    if x > n {
-        return memory_layout::LIST_END;
-    }
-    if check_spans::word(t, x, 5 - k) != a {
-        return memory_layout::LIST_END;
-    }
-    x
-}
-
-// Whether the span of row i is not empty, ends inside the source, and both its ends stand between characters.
-// `from` and `to` stand there, so an end that is one of them is not tested anew.
-fn proper(source: &[u8], t: &[u32], i: u32, from: usize, to: usize) -> bool
-    requires { ⌜ (isText (now source) ≡ true) × (i * ROW + ROW ≤ length (now t)) ⌝ }
-    requires { ⌜ Edged (now source) from to ⌝ }
-    ensures { λ r. ⌜ Decides r (Proper (now (source .entry)) (now (t .entry)) i) ⌝ }
-{
-    let start = check_spans::start(t, i);
-    let end = check_spans::end(t, i);
-    if start >= end {
-        return false;
-    }
-    if end > source.len() {
-        return false;
-    }
-    if start == to {
-        return utf8::boundary(source, end);
-    }
-    if end == from {
-        return utf8::boundary(source, start);
-    }
-    if utf8::boundary(source, start) {
-        return utf8::boundary(source, end);
-    }
-    false
-}
+ghost use Rattle.check_links.specs.Walk.{pendingSize, Sound, Turned, Stepped, Ended, Alone};
 
 // One side of the walk: the row that it has come to; what is pending, the spans from `from` up to `to` that it passed and whose bytes are not marked yet;
 // and, on the side whose turn it is, how many bytes of the source are not marked.
@@ -136,9 +77,9 @@ fn step(source: &[u8], t: &[u32], n: u32, k: usize, side: Side, marks: &mut [u64
     requires { ⌜ (length (now source) ≤ length (now marks) * 64) × (length (now marks) < 0x400_0000_0000_0000) ⌝ }
     ensures { λ r. ⌜ Stepped (now (source .entry)) (now (t .entry)) n k (bitAt (now (marks .entry))) side (bitAt (now (marks .exit))) r ⌝ }
 {
-    let i = linked_row(t, n, k, side.row);
+    let i = check_row::linked_row(t, n, k, side.row);
     if i != memory_layout::LIST_END {
-        if proper(source, t, i, side.from, side.to) {
+        if check_row::proper(source, t, i, side.from, side.to) {
             return turn(
                 side,
                 i,
@@ -175,7 +116,7 @@ fn ended(t: &[u32], k: usize, near: Side, far: Side, marks: &mut [u64]) -> bool
     requires { ⌜ (far .from ≤ far .to) × (far .to ≤ length (now marks) * 64) ⌝ }
     ensures { λ r. ⌜ Decides r (Ended (now (t .entry)) k (bitAt (now (marks .entry))) near far) ⌝ }
 {
-    if edge(t, k, near.row, far.row) {
+    if check_row::edge(t, k, near.row, far.row) {
         if mark_pending(near, marks) {
             return mark_rest(far, near.left - (near.to - near.from), marks);
         }
@@ -236,31 +177,14 @@ fn walked(source: &[u8], t: &[u32], n: u32) -> bool
     walk(source, t, n, &mut marks[..memory_layout::SOURCE_MARKS])
 }
 
-// The one span of an empty source.
-fn span_empty(t: &[u32], n: u32) -> bool
-    requires { ⌜ n * ROW + ROW ≤ length (now t) ⌝ }
-    ensures { λ r. ⌜ Decides r (Empty (now (t .entry)) n) ⌝ }
-{
-    if n != 1 {
-        return false;
-    }
-    if check_spans::start(t, 1) != 0 {
-        return false;
-    }
-    if check_spans::end(t, 1) != 0 {
-        return false;
-    }
-    true
-}
-
 // The one chunk of an empty source.
 fn alone(t: &[u32], n: u32) -> bool
     requires { ⌜ n * ROW + ROW ≤ length (now t) ⌝ }
     ensures { λ r. ⌜ Decides r (Alone (now (t .entry)) n) ⌝ }
 {
-    if span_empty(t, n) {
-        if edge(t, memory_layout::NEXT, memory_layout::LIST_END, 1) {
-            return edge(t, memory_layout::NEXT, 1, memory_layout::LIST_END);
+    if check_row::span_empty(t, n) {
+        if check_row::edge(t, memory_layout::NEXT, memory_layout::LIST_END, 1) {
+            return check_row::edge(t, memory_layout::NEXT, 1, memory_layout::LIST_END);
         }
     }
     false

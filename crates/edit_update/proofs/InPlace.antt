@@ -39,8 +39,9 @@ use Rattle.edit_update_steps.specs.Steps.{update-past}
 use Rattle.edit_update_steps.proofs.Steps.{update-is}
 use Rattle.edit_update_steps.specs.Replaced.{Replaced}
 use Rattle.edit_update_steps.proofs.Replaced.{replaced-pieces, replaced-bytes}
-use Rattle.edit_update.specs.Calls.{stored, UpdateSteps, Settled}
-use Rattle.edit_update.proofs.Calls.{stored-none, steps-did}
+use Rattle.edit_update_steps.specs.Stored.{stored, UpdateSteps}
+use Rattle.edit_update_steps.proofs.Stored.{stored-none, steps-did}
+use Rattle.edit_update.specs.Calls.{Settled}
 
 -- ── rows and bytes stay apart ──
 text-uses : (b : ℕ) (x : Place) → replacementUses b x ≤ among x b

@@ -1,3 +1,2 @@
 pub mod UpdateTests
 pub mod InPlace
-pub mod Calls

@@ -1,3 +1,4 @@
 pub mod Replaced
 pub mod Steps
 pub mod Walk
+pub mod Stored

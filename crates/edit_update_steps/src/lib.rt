@@ -1,11 +1,13 @@
-// update.rs: the walk of `update_with` and its edit of the first chunk.
+// update.rs: the steps of `update_with`: two cuts, the walk, and the edit of the first chunk.
 ghost use Prim.Native.Nat.{_+_, _*_, _≤_};
 ghost use lib.ListN.{length};
 ghost use Rattle.memory_layout.specs.Layout.{ROW, STORE-LEN};
 ghost use Rattle.memory_table.specs.Order.{Linked};
 ghost use Rattle.memory_list.specs.Insert.{Placed};
 ghost use Rattle.edit_update_steps.specs.Walk.{Emptied, RunCleared, Walked};
+ghost use Rattle.edit_scratch.specs.Tables.{Roomy};
 ghost use Rattle.edit_update_steps.specs.Steps.{EditedRow, FirstEdited};
+ghost use Rattle.edit_update_steps.specs.Stored.{UpdateSteps};
 use memory_list::Found;
 use memory_list::Key;
 
@@ -96,4 +98,37 @@ pub fn edit_first(text: &[u8], t: &mut [u32], s: &mut [u8], i: u32, overwrite: b
     memory_texts::put(&mut s[byte..], text);
     let c = memory_table::get_row(t, i);
     memory_table::put_row(t, i, edited(c, byte as u32, text.len() as u32, overwrite));
+}
+
+// The steps past 5 and 4: two cuts, 10, the walk and its 7, and the edit, with the text at `byte`; 13 where the text alone is longer than the store.
+pub fn update_steps(
+    text: &[u8],
+    t: &mut [u32],
+    s: &mut [u8],
+    len: usize,
+    start: u32,
+    end: u32,
+    overwrite: bool,
+    byte: usize,
+) -> u32
+    requires { ⌜ Roomy 2 (now t) ⌝ }
+    requires { ⌜ byte ≤ STORE-LEN ⌝ }
+    requires { ⌜ (length (now text) ≤ STORE-LEN → byte + length (now text) ≤ length (now s)) ⌝ }
+    ensures { λ r. ⌜ UpdateSteps start end (now (text .entry)) overwrite len byte (now (t .entry)) (now (s .entry)) (now (t .exit)) (now (s .exit)) r ⌝ }
+{
+    let r = edit_split_at::split_both(t, start, end);
+    if r != 0 {
+        return r;
+    }
+    if len < end as usize {
+        return 10;
+    }
+    let Found::At(i) = update_walk(t, start, end) else {
+        return 7;
+    };
+    if text.len() > memory_layout::STORE_LEN {
+        return 13;
+    }
+    edit_first(text, t, s, i, overwrite, byte);
+    0
 }

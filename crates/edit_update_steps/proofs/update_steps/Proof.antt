@@ -1,11 +1,11 @@
 use mathlib.Core.Path.{subst}
 use native.Mathlib.Omega.{arith}
 use Rattle.memory_table.proofs.Order.{inside-at}
 use Rattle.edit_update_steps.specs.Walk.{Walked}
-use Rattle.edit_update.proofs.Calls.{update-refused, update-either-end, update-broken, update-long, update-done}
+use Rattle.edit_update_steps.proofs.Stored.{update-refused, update-either-end, update-broken, update-long, update-done}
 use borrow.Author.Needs.{needs}
-use Rattle.edit_update.proofs.update_steps.Statement.{statement}
-use Rattle.edit_update.proofs.update_steps.Tie as tie
+use Rattle.edit_update_steps.proofs.update_steps.Statement.{statement}
+use Rattle.edit_update_steps.proofs.update_steps.Tie as tie
 
 split-both-requires : tie.Need-split-both-requires
 split-both-requires c κs = search needs

@@ -1,7 +1,7 @@
-use Rattle.check_links.proofs.Tests.{found-end, found-far, found-other, found-some}
+use Rattle.check_row.proofs.Tests.{found-end, found-far, found-other, found-some}
 use borrow.Author.Needs.{needs}
-use Rattle.check_links.proofs.linked_row.Statement.{statement}
-use Rattle.check_links.proofs.linked_row.Tie as tie
+use Rattle.check_row.proofs.linked_row.Statement.{statement}
+use Rattle.check_row.proofs.linked_row.Tie as tie
 
 word-requires : tie.Need-word-requires
 word-requires c κs = search needs

@@ -9,7 +9,7 @@ use Rattle.utf8.specs.Rfc3629.{between}
 use Rattle.memory_counting.specs.Counts.{Decides}
 use Rattle.memory_counting.proofs.Sums.{not-both}
 use Rattle.check_spans.specs.Spans.{startOf, endOf}
-use Rattle.check_links.specs.Walk.{leads, Behind, Found, Proper}
+use Rattle.check_row.specs.Row.{leads, Behind, Found, Proper}
 
 -- ── the row after a: x is where word k of a leads ──
 found-none : {t : List ℕ} {n k a : ℕ} → ((y : ℕ) → Behind t n k a y → ⊥) → Found t n k a 0

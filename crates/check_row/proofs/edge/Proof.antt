@@ -1,8 +1,8 @@
 use mathlib.Core.Path.{sym, _∙_}
 use Rattle.memory_counting.proofs.Sums.{is-yes, is-no}
 use borrow.Author.Needs.{needs}
-use Rattle.check_links.proofs.edge.Statement.{statement}
-use Rattle.check_links.proofs.edge.Tie as tie
+use Rattle.check_row.proofs.edge.Statement.{statement}
+use Rattle.check_row.proofs.edge.Tie as tie
 
 word-requires : tie.Need-word-requires
 word-requires c κs = search needs

@@ -1,5 +1,5 @@
--- Laws of what `Calls` in specs/ defines.
-use mathlib.Core.Path.{_≡_, refl, sym, ap, _∙_, subst}
+-- Laws of what `Stored` in specs/ defines.
+use mathlib.Core.Path.{_≡_, refl, sym, ap, _∙_}
 use mathlib.Core.Bool.{Bool, true, false}
 use mathlib.Core.List.{List, [], _∷_, _++_}
 use mathlib.Core.Logic.{⊎-elim}
@@ -12,28 +12,26 @@ use Rattle.model.specs.MagicString.{MagicString, Result, ok, err, and-then, wit
 use Rattle.model.specs.Chunk.{edit}
 use Rattle.model.specs.Limits.{full, within}
 use Rattle.model.specs.Update.{update-chunks}
-use Rattle.model.specs.Call.{update-with, refused-before, idle}
+use Rattle.model.specs.Call.{update-with, idle}
 use Rattle.memory.specs.Layout.{magicStringOf}
-use Rattle.memory.specs.WellFormed.{Readable, WellFormed}
-use Rattle.memory.specs.Calls.{may-write, Ran}
+use Rattle.memory.specs.WellFormed.{Readable}
+use Rattle.memory.specs.Calls.{may-write}
 use Rattle.memory.proofs.Desks.{source-of}
 use Rattle.memory_texts.specs.Over.{over}
 use Rattle.memory_texts.proofs.Over.{over-nil, over-behind}
 use Rattle.memory_list.specs.declared.Found.the-variants.{At, Nothing}
-use Rattle.edit_rebuild.specs.Rebuilt.{Finished}
 use Rattle.edit_scratch.proofs.Front.{desk-front}
-use Rattle.edit_scratch.specs.Loaded.{Loaded}
-use Rattle.edit_scratch.proofs.Tables.{past-bytes, loaded-readable, loaded-desk, ran-finished, ran-past-limits, may-write-0, may-write-leaving}
+use Rattle.edit_scratch.proofs.Tables.{past-bytes, may-write-0, may-write-leaving}
 use Rattle.edit_scratch.specs.Tables.{Did}
 use Rattle.edit_split_at.specs.Cuts.{Spans, CutsDone}
-use Rattle.edit_split_at.proofs.Cuts.{loaded-spans, stop}
+use Rattle.edit_split_at.proofs.Cuts.{stop}
 use Rattle.memory_list.specs.Insert.{Placed}
 use Rattle.edit_row_laws.proofs.Kept.{kept-then}
 use Rattle.edit_update_steps.specs.Walk.{Walked}
 use Rattle.edit_update_steps.proofs.Replaced.{kept-replaced, replaced-then, walked-kept, walked-count, edited-replaced, edited-count}
 use Rattle.edit_update_steps.specs.Steps.{update-step, update-past, FirstEdited}
-use Rattle.edit_update_steps.proofs.Steps.{update-is, edit-readable, edit-desk, edited-big, walked-readable, walk-refused, walk-done}
-use Rattle.edit_update.specs.Calls.{stored, UpdateSteps, UpdateScratch}
+use Rattle.edit_update_steps.proofs.Steps.{edit-readable, edit-desk, edited-big, walked-readable, walk-refused, walk-done}
+use Rattle.edit_update_steps.specs.Stored.{stored, UpdateSteps}
 
 pub stored-none : (r : ℕ) (text : List ℕ) → (r ≡ 0 → ⊥) → stored r text ≡ []
 stored-none r text h = rw (ne-eqb r 0 h)
@@ -161,31 +159,3 @@ pub steps-did : {a b : ℕ} {text : List ℕ} {o : Bool} {n at : ℕ} {t s1 t' s
 steps-did {text = text} {at = at} {r = r} x k source p s y z ln rd sp e ls =
     let q = x .store ∙ ap (λ (l : List ℕ). over l at (stored r text)) e ∙ over-behind s z (stored r text) at (sym ls) in
     rw q (x .leave k source p s y (drop (length (stored r text)) z) ln rd sp ls)
-
--- ── the call ──
-module _ {a b : ℕ} {text : List ℕ} {o : Bool} {n : ℕ} {source t p s t₀ p₀ s₀ t1 p1 s1 t2 s2 : List ℕ} {r : ℕ} (ab : a < b) (w : WellFormed source t p s)
-    (h : refused-before (magicStringOf source t p s) (update-with a b text o) ≡ 0) (f : UpdateScratch t₀ p₀ s₀) (d : Loaded t p s t₀ p₀ s₀ t1 p1 s1)
-    (x : UpdateSteps a b text o n (length s) t1 s1 t2 s2 r)
-    (ln : length source ≡ n) where
-  did : (r ≡ 13 → ⊥) → Did (update-past a b text o) source t1 p s t2 p1 s2 r
-  did k =
-      subst (λ (l : List ℕ). Did (update-past a b text o) source t1 p s t2 l s2 r) (sym (d .pieces))
-      (steps-did x k source p s (drop (length p) p₀) (drop (length s) s₀) ln (loaded-readable w (f .scratch) d) (loaded-spans w (f .scratch) d) (d .store) refl)
-
-  pub update-readable : (r ≡ 13 → ⊥) → Readable t2 p1 s2
-  update-readable k = did k .readable
-
-  pub update-too-long : r ≡ 13 → Ran (update-with a b text o) source t p s t p s 13
-  update-too-long z =
-      ran-past-limits (update-with a b text o) source t p s w h
-      (ap (λ (y : Result). within full (y .desk)) (update-is a b text o (magicStringOf source t p s) ab ∙ ap (update-past a b text o) (sym (loaded-desk w (f .scratch) d)))
-      ∙ x .long z source p s ln (loaded-readable w (f .scratch) d) (loaded-spans w (f .scratch) d))
-
-  pub update-ran : {t' p' s' : List ℕ} {r' : ℕ} → (r ≡ 13 → ⊥) → Finished t2 p1 s2 t p s t' p' s' r r' → Ran (update-with a b text o) source t p s t' p' s' r'
-  update-ran k y =
-      ran-finished w h
-      (record {
-        readable = did k .readable;
-        result = update-is a b text o (magicStringOf source t p s) ab ∙ ap (update-past a b text o) (sym (loaded-desk w (f .scratch) d))
-            ∙ did k .result;
-      }) (x .writes k) y

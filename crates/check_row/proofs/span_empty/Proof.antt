@@ -1,8 +1,8 @@
 use mathlib.Core.Path.{sym, _∙_}
 use Rattle.memory_counting.proofs.Sums.{is-yes, is-no}
 use borrow.Author.Needs.{needs}
-use Rattle.check_links.proofs.span_empty.Statement.{statement}
-use Rattle.check_links.proofs.span_empty.Tie as tie
+use Rattle.check_row.proofs.span_empty.Statement.{statement}
+use Rattle.check_row.proofs.span_empty.Tie as tie
 
 returns : tie.Need-returns
 returns c = is-no (λ x. c .if1 .taken (x .single))

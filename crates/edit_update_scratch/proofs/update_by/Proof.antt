@@ -2,10 +2,10 @@ use mathlib.Core.Path.{refl}
 use native.Mathlib.Omega.{arith}
 use Rattle.edit_scratch.proofs.Tables.{loaded-roomy}
 use Rattle.edit_room_above.proofs.Finishing.{formed-usable}
-use Rattle.edit_update.proofs.Calls.{update-readable, update-too-long, update-ran}
+use Rattle.edit_update_scratch.proofs.Ran.{update-readable, update-too-long, update-ran}
 use borrow.Author.Needs.{needs}
-use Rattle.edit_update.proofs.update_by.Statement.{statement}
-use Rattle.edit_update.proofs.update_by.Tie as tie
+use Rattle.edit_update_scratch.proofs.update_by.Statement.{statement}
+use Rattle.edit_update_scratch.proofs.update_by.Tie as tie
 
 load-requires : tie.Need-load-requires
 load-requires c κs =

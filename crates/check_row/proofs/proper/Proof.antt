@@ -1,9 +1,9 @@
 use native.Mathlib.Omega.{arith}
 use Rattle.memory_counting.proofs.Sums.{is-no}
-use Rattle.check_links.proofs.Tests.{stands, stands-not, stands-at, proper-end, proper-start}
+use Rattle.check_row.proofs.Tests.{stands, stands-not, stands-at, proper-end, proper-start}
 use borrow.Author.Needs.{needs}
-use Rattle.check_links.proofs.proper.Statement.{statement}
-use Rattle.check_links.proofs.proper.Tie as tie
+use Rattle.check_row.proofs.proper.Statement.{statement}
+use Rattle.check_row.proofs.proper.Tie as tie
 
 start-requires : tie.Need-start-requires
 start-requires c κs = search needs

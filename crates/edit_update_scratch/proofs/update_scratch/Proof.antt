@@ -4,8 +4,8 @@ use Rattle.memory_layout.specs.Layout.{PIECES-LEN, SCRATCH-LEN, UPDATE-STORE-LE
 use Rattle.memory.proofs.Desks.{zeros-length}
 use Rattle.edit_scratch.proofs.Tables.{zeros-scratch}
 use borrow.Author.Needs.{needs}
-use Rattle.edit_update.proofs.update_scratch.Statement.{statement}
-use Rattle.edit_update.proofs.update_scratch.Tie as tie
+use Rattle.edit_update_scratch.proofs.update_scratch.Statement.{statement}
+use Rattle.edit_update_scratch.proofs.update_scratch.Tie as tie
 
 array-borrow-prefix-t : tie.Need-array-borrow-prefix-t
 array-borrow-prefix-t c = search needs
