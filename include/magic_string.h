@@ -8,8 +8,8 @@
  * object of the element's type. A slice that is written lies apart from the
  * others, and nothing else writes any of them during the call.
  *
- * A call uses no heap. Its stack, measured: an indent up to 170 kB, other edits
- * up to 128 kB, the check and reports up to 20 kB.
+ * A call uses no heap. Its stack, measured: an edit up to 128 kB, the check and
+ * a report up to 20 kB.
  *
  * The tables do not hold the source, and nothing in them tells which it was. A
  * caller lends the same source to every call on a desk: another one of the same

@@ -1,18 +1,17 @@
 -- Laws of what `Call` in specs/ defines.
 use mathlib.Core.Path.{_≡_, refl, sym, ap, _∙_, subst}
 use mathlib.Core.Bool.{Bool, true, false, _&&_, cond}
-use mathlib.Core.List.{List, [], _∷_, _++_}
+use mathlib.Core.List.{List, [], _∷_}
 use mathlib.Core.Option.{Option, none, some}
 use mathlib.Core.Logic.{⊎-elim}
 use Prim.Native.Nat.{ℕ, _+_, _%_, _≤_, _<_}
 use native.Mathlib.Omega.{arith}
-use lib.ListN.{length, getD, take, drop, replicate, length-append, length-drop, length-replicate, drop-of-length-le}
-use lib.Seq.{take-at, drop-cons}
+use lib.ListN.{length, getD, take, drop, length-append, length-drop, drop-of-length-le}
+use lib.Seq.{drop-cons}
 use native.Mathlib.Numerals.{add-one}
 use borrow.Author.Tests.{eq-eqb, ne-eqb}
-use Rattle.memory_layout.specs.Layout.{SOURCE-BYTES}
 use Rattle.utf8.specs.Rfc3629.{utf8, between}
-use Rattle.model.specs.Text.{Text, TAB, SPACE, all, is-nil}
+use Rattle.model.specs.Text.{Text, TAB, all, is-nil}
 use Rattle.model.specs.MagicString.{MagicString, Result, ok}
 use Rattle.model.specs.Limits.{full, within}
 use Rattle.model.specs.Indent.{get-indent-string, indent-by}
@@ -151,26 +150,12 @@ module _ {source t p s : List ℕ} (w : WellFormed source t p s) where
           nil-false [] n = absurd (n refl)
           nil-false (x ∷ l) n = refl
 
--- ---- the guess in a buffer
+-- ---- the guess in the source
 
-text-fits : (b : Bool) (k : ℕ) → k ≤ SOURCE-BYTES → length (cond b (TAB ∷ []) (replicate k SPACE)) ≤ SOURCE-BYTES
-text-fits true k l = omega arith
-text-fits false k l = simp length-replicate (omega arith)
-
-module _ (source : Text) (g : Indentor) (h : Guessed source g) where
-  pub guess-fits : length source ≤ SOURCE-BYTES → (n : ℕ) → n ≡ length (indentor-text g) → n ≤ SOURCE-BYTES
+module _ {source : Text} {g : Indentor} (h : Guessed source g) where
+  pub tab-guessed : g .tab ≡ true → {tab : List ℕ} → tab ≡ TAB ∷ [] → tab ≡ get-indent-string source
   unfolding indentor-text
-  guess-fits l n e = omega (arith, e, text-fits (g .tab) (g .spaces) (omega (arith, h .short)))
+  tab-guessed e q = let text : indentor-text g ≡ TAB ∷ [] = rw e in q ∙ sym text ∙ h .text
 
-  -- it is in the buffer
-  pub guess-room : length source ≤ SOURCE-BYTES → (a : List ℕ) → SOURCE-BYTES ≤ length a → length (indentor-text g) ≤ length a
-  guess-room l a k = omega (arith, guess-fits l (length (indentor-text g)) refl)
-
-  pub guess-in : (a b : List ℕ) (n : ℕ) → n ≡ length (indentor-text g) → b ≡ indentor-text g ++ drop (length (indentor-text g)) a → n ≤ length b
-  guess-in a b n e q = omega (arith, e, ap length q, length-append (indentor-text g) (drop (length (indentor-text g)) a))
-
-  pub guess-part : (a b : List ℕ) (n : ℕ) → n ≡ length (indentor-text g) → b ≡ indentor-text g ++ drop (length (indentor-text g)) a → n ≡ length (take n b)
-  guess-part a b n e q = sym (ap length (ap (take n) q ∙ take-at (indentor-text g) (drop (length (indentor-text g)) a) n (sym e)) ∙ sym e)
-
-  pub guess-is : (a b : List ℕ) (n : ℕ) → n ≡ length (indentor-text g) → b ≡ indentor-text g ++ drop (length (indentor-text g)) a → take n b ≡ get-indent-string source
-  guess-is a b n e q = ap (take n) q ∙ take-at (indentor-text g) (drop (length (indentor-text g)) a) n (sym e) ∙ h .text
+  pub spaces-guessed : g .tab ≡ false → (n : ℕ) → n ≡ g .spaces → take n (drop (g .at) source) ≡ get-indent-string source
+  spaces-guessed e n q = ap (λ (k : ℕ). take k (drop (g .at) source)) q ∙ h .place e

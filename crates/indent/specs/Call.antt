@@ -13,7 +13,7 @@ use Rattle.edit_scratch.specs.Tables.{Scratch}
 
 -- ---- the steps
 
--- scratch tables with room for the indentor, for the head, the tail and the intros written anew, and for the bytes of a full store twice
+-- scratch tables with rows for the indentor, and for the head, the tail and the intros written anew, and with room for the bytes of a full store twice
 pub record IndentScratch (t p s : List ℕ) : Type 0 where
   pub scratch : Scratch t p s
   pub pieces : length p ≡ INDENT-PIECES-LEN

@@ -1,18 +1,19 @@
 // indent.rs: `indent_with`.
 ghost use mathlib.Core.Path.{_≡_};
 ghost use mathlib.Core.Bool.{true};
+ghost use mathlib.Core.List.{[], _∷_};
 ghost use mathlib.Core.Option.{none, some};
-ghost use Prim.Native.Nat.{_≤_};
-ghost use lib.ListN.{length};
-ghost use Rattle.memory_layout.specs.Layout.{SOURCE-BYTES};
 ghost use Rattle.utf8.specs.Rfc3629.{utf8, between};
-ghost use Rattle.model.specs.Text.{all};
+ghost use Rattle.model.specs.Text.{TAB, all};
+ghost use Rattle.model.specs.Indent.{get-indent-string};
 ghost use Rattle.model.specs.Call.{indent-with, options-valid};
 ghost use Rattle.memory_used.specs.Above.{Above, Desk, Leaves};
 ghost use Rattle.memory.specs.Calls.{indentor-of};
+ghost use Rattle.report_indent_string.specs.Guess.{Guessed};
 ghost use Rattle.indent.specs.Call.{IndentScratch, IndentRan};
 use memory_used::Outcome;
 use memory_used::Used;
+use report_indent_string::Indentor;
 
 // Whether every position of an exclude list stands between characters.
 fn positions_between(source: &[u8], exclude: &[u32]) -> bool
@@ -91,27 +92,18 @@ fn indent_scratch(
     )
 }
 
-// By the guess, written to a lent buffer as long as the longest source.
-fn guessed_in(
-    source: &[u8],
-    chunks: &mut [u32],
-    pieces: &mut [u32],
-    store: &mut [u8],
-    exclude: &[u32],
-    out: &mut [u8],
-    used: Used,
-) -> Outcome
-    requires { ⌜ Desk (now source) (now chunks) (now pieces) (now store) used ⌝ }
-    requires { ⌜ SOURCE-BYTES ≤ length (now out) ⌝ }
-    requires { ⌜ options-valid (indent-with none (now exclude)) ≡ true ⌝ }
-    requires { ⌜ all (between (now source)) (now exclude) ≡ true ⌝ }
-    ensures { λ o. ⌜ Leaves (indent-with none (now (exclude .entry))) (now (source .entry)) (now (chunks .entry)) (now (pieces .entry)) (now (store .entry))
-        (now (chunks .exit)) (now (pieces .exit)) (now (store .exit)) o ⌝ }
+// The guess as a part of the source, or as the lent tab.
+fn guessed<'a>(source: &'a [u8], tab: &'a [u8], g: Indentor) -> &'a [u8]
+    requires { ⌜ Guessed (now source) g ⌝ }
+    requires { ⌜ now tab ≡ TAB ∷ [] ⌝ }
+    ensures { λ r. ⌜ now r ≡ get-indent-string (now (source .entry)) ⌝ }
 {
-    let g = report_indent_string::guess_indentor(source);
-    let n = report_indent_string::indentor_len(g) as usize;
-    report_indent_string::put_indentor(out, g);
-    indent_scratch(source, chunks, pieces, store, &out[..n], exclude, used)
+    if g.tab {
+        return tab;
+    }
+    let at = g.at as usize;
+    let end = at + g.spaces as usize;
+    &source[at..end]
 }
 
 // Without an indentor: by the guess.
@@ -129,17 +121,10 @@ fn by_guess(
     ensures { λ o. ⌜ Leaves (indent-with none (now (exclude .entry))) (now (source .entry)) (now (chunks .entry)) (now (pieces .entry)) (now (store .entry))
         (now (chunks .exit)) (now (pieces .exit)) (now (store .exit)) o ⌝ }
 {
-    let size = memory_layout::SOURCE_BYTES;
-    let mut out = [0u8; memory_layout::SOURCE_BYTES];
-    guessed_in(
-        source,
-        chunks,
-        pieces,
-        store,
-        exclude,
-        &mut out[..size],
-        used,
-    )
+    let tab = [9u8; 1];
+    let g = report_indent_string::guess_indentor(source);
+    let indentor = guessed(source, &tab[..1], g);
+    indent_scratch(source, chunks, pieces, store, indentor, exclude, used)
 }
 
 // With an indentor: 1, 3; an empty one leaves everything.

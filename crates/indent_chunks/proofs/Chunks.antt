@@ -3,10 +3,10 @@ use mathlib.Core.Path.{_≡_, refl, sym, ap, ap₂, _∙_, subst}
 use mathlib.Core.Bool.{Bool}
 use mathlib.Core.List.{List, [], _∷_, _++_, map, append-assoc, append-nil, map-append}
 use mathlib.Core.Logic.{inl, inr, ⊎-elim}
-use Prim.Native.Nat.{ℕ, suc, _+_, _*_, _≤_, _<_}
+use Prim.Native.Nat.{ℕ, suc, _+_, _*_, _-_, _≤_, _<_}
 use native.Mathlib.Omega.{arith}
 use lib.ListN.{length, length-append, length-map}
-use Rattle.memory_layout.specs.Layout.{ROW, PIECE-ROWS}
+use Rattle.memory_layout.specs.Layout.{ROW}
 use Rattle.utf8.specs.Chars.{All, nil, cons}
 use Rattle.memory_table.specs.declared.Row.{Row}
 use Rattle.memory_table.specs.Ring.{Edge, Links}
@@ -25,7 +25,7 @@ use Rattle.memory_texts.proofs.Texts.{run-length}
 use Rattle.model_preservation.proofs.Spans.{Inside, spans-inside}
 use Rattle.model_preservation.proofs.Trim.{content-valid}
 use Rattle.memory_texts.specs.Low.{RowsKept, BytesKept, TextLow, EntryLow}
-use Rattle.memory_texts.proofs.Low.{rows-same, bytes-same, run-same, run-still, entry-same, entry-still, entries-same, entries-still}
+use Rattle.memory_texts.proofs.Low.{rows-same, bytes-same, entry-same, entry-still, entries-same, entries-still}
 use Rattle.model_indent_closed.specs.Indent.{IndentedChunks, then-chunks, indented-chunks}
 use Rattle.model_indent_closed.proofs.Growth.{chunks-grow}
 use Rattle.indent_chunks.specs.Walk.{chunksOf, WalkReady, closedOf}
@@ -60,9 +60,9 @@ rest-rows source store p s top byte v (cons {x = e} a ls) (cons b bs) (cons c cs
     cons (record { low = a; span = record { ordered = c .ordered; inside = c .inside }; valid = content-valid source (chunkOf p s e) v c d; text-low = b })
     (rest-rows source store p s top byte v ls bs cs ds)
 
-pub walk-start : {indentor source store t p s : List ℕ} {top byte : ℕ} (exclude : List ℕ) (mark : Bool) (z : Row) → WalkReady indentor source store t p s top byte → z ≡ rowAt t 0
-    → WalkAt indentor exclude source store t p s mark top byte (z .start) t p s 0 (z .next) mark top byte
-walk-start {indentor} {source} {store} {t} {p} {s} {top} {byte} exclude mark z h ez =
+pub walk-start : {source store t p s : List ℕ} {top byte : ℕ} (indentor exclude : List ℕ) (mark : Bool) (z : Row) → WalkReady source store t p s top byte → z ≡ rowAt t 0
+    → WalkAt indentor exclude source store t p s mark top byte (z .start) t p s 0 (z .next) mark top byte 0
+walk-start {source} {store} {t} {p} {s} {top} {byte} indentor exclude mark z h ez =
     record {
       us = [];
       rest = order t;
@@ -79,7 +79,7 @@ walk-start {indentor} {source} {store} {t} {p} {s} {top} {byte} exclude mark z h
       byte-in = h .byte-in;
       low = nil;
       todo = rest-rows source store p s top byte (h .formed .source) (h .low) (h .texts-low) (spans-inside source (chunksOf t p s) (h .formed .covered)) (h .formed .texts);
-      indentor-row = h .indentor-row;
+      indentor-row = λ g. absurd (omega arith);
       result = refl;
       rows-used = omega (arith, order-length t);
       bytes-used = omega arith;
@@ -111,8 +111,8 @@ pub record NextRow (t us rest : List ℕ) (cur : ℕ) : Type 0 where
   pub place : order t ≡ us ++ cur ∷ bs
   pub step : nextOf t cur ≡ headOr bs
 
-module _ {indentor exclude source store t₀ p₀ s₀ : List ℕ} {mark₀ : Bool} {top₀ byte₀ n : ℕ} {t p s : List ℕ} {k cur : ℕ} {mark : Bool} {top byte : ℕ}
-    (h : WalkReady indentor source store t₀ p₀ s₀ top₀ byte₀) (w : WalkAt indentor exclude source store t₀ p₀ s₀ mark₀ top₀ byte₀ n t p s k cur mark top byte) where
+module _ {indentor exclude source store t₀ p₀ s₀ : List ℕ} {mark₀ : Bool} {top₀ byte₀ n : ℕ} {t p s : List ℕ} {k cur : ℕ} {mark : Bool} {top byte laid : ℕ}
+    (h : WalkReady source store t₀ p₀ s₀ top₀ byte₀) (w : WalkAt indentor exclude source store t₀ p₀ s₀ mark₀ top₀ byte₀ n t p s k cur mark top byte laid) where
   abbrev us : List ℕ
   us = w .us
 
@@ -134,8 +134,8 @@ module _ {indentor exclude source store t₀ p₀ s₀ : List ℕ} {mark₀ : Bo
     rest-here : All (RestRow source store p s top byte) (entryAt t cur ∷ map (entryAt t) bs)
     rest-here = subst (λ (l : List ℕ). All (RestRow source store p s top byte) (map (entryAt t) l)) (next .rest-is) (w .todo)
 
-    rows-here : top + ((chunk-pieces (chunkOf p s (entryAt t cur)) + sum chunk-pieces (chunksAt t p s bs)) + suc (length bs)) ≤ top₀ + (sum chunk-pieces (chunksOf t₀ p₀ s₀) + countOf t₀)
-    rows-here = subst (λ (l : List ℕ). top + (sum chunk-pieces (chunksAt t p s l) + length l) ≤ top₀ + (sum chunk-pieces (chunksOf t₀ p₀ s₀) + countOf t₀)) (next .rest-is) (w .rows-used)
+    rows-here : top + (1 - laid) + ((chunk-pieces (chunkOf p s (entryAt t cur)) + sum chunk-pieces (chunksAt t p s bs)) + suc (length bs)) ≤ top₀ + 1 + (sum chunk-pieces (chunksOf t₀ p₀ s₀) + countOf t₀)
+    rows-here = subst (λ (l : List ℕ). top + (1 - laid) + (sum chunk-pieces (chunksAt t p s l) + length l) ≤ top₀ + 1 + (sum chunk-pieces (chunksOf t₀ p₀ s₀) + countOf t₀)) (next .rest-is) (w .rows-used)
 
     result-here : closedOf indentor exclude source t₀ p₀ s₀ mark₀ ≡ then-chunks (chunksAt t p s us) (indented-chunks indentor exclude source mark (chunkOf p s (entryAt t cur) ∷ chunksAt t p s bs))
     result-here = w .result ∙ ap (λ (l : List ℕ). then-chunks (chunksAt t p s us) (indented-chunks indentor exclude source mark (chunksAt t p s l))) (next .rest-is)
@@ -144,32 +144,34 @@ module _ {indentor exclude source store t₀ p₀ s₀ : List ℕ} {mark₀ : Bo
     pub walk-row : cur * ROW + ROW ≤ length t
     walk-row = omega (arith, w .linked .room, inside-at t us cur bs (w .linked) (next .place) .1)
 
-    pub walk-ready : RowReady indentor source store t p s cur top byte
+    pub walk-ready : RowReady indentor source store t p s cur top byte laid
     walk-ready =
         let e = entryAt t cur in
         let r = first-of rest-here in
         record {
-          linked = w .linked;
-          placed = record { us = us; bs = bs; place = next .place };
-          span = r .span;
-          valid = r .valid;
-          low = r .low;
+          row =
+              record {
+                linked = w .linked;
+                placed = record { us = us; bs = bs; place = next .place };
+                span = r .span;
+                valid = r .valid;
+                low = r .low;
+                above = omega (arith, h .above, w .top-up);
+                indentor-row = w .indentor-row;
+                chunk-rows = omega (arith, h .chunk-rows, w .len);
+                narrow-chunks = omega (arith, h .narrow-chunks, w .len);
+                rows = omega (arith, h .rows, rows-here, w .rows .len, run-length p s (e .intro .0) (e .intro .1));
+                narrow-pieces = omega (arith, h .narrow-pieces, w .rows .len);
+                byte-in = w .byte-in;
+                narrow = omega (arith, h .narrow, w .bytes .len);
+              };
           text-low = r .text-low;
           store-front = part-kept (length store) 0 byte₀ s₀ s (w .bytes .bytes) (omega (arith, h .store-low)) ∙ h .store-front;
-          store-low = omega (arith, h .store-low, w .byte-up);
-          indentor-row = w .indentor-row;
-          chunk-rows = omega (arith, h .chunk-rows, w .len);
-          narrow-chunks = omega (arith, h .narrow-chunks, w .len);
-          rows = omega (arith, h .rows, rows-here, w .rows .len, run-length p s (e .intro .0) (e .intro .1));
-          narrow-pieces = omega (arith, h .narrow-pieces, w .rows .len);
-          byte-in = w .byte-in;
-          bytes = omega (arith, h .bytes, w .byte-up, w .bytes .len);
-          narrow = omega (arith, h .narrow, w .bytes .len);
         }
 
     -- 13
-    pub walk-past : {t' p' s' t2 p2 s2 : List ℕ} {number : ℕ} {mark' mark2 : Bool} {top' byte' top2 byte2 : ℕ} →
-        RowDone indentor exclude source t p s cur mark top byte t' p' s' number mark' top' byte' → (number ≡ 0 → ⊥)
+    pub walk-past : {t' p' s' t2 p2 s2 : List ℕ} {number : ℕ} {mark' mark2 : Bool} {top' byte' laid' top2 byte2 : ℕ} →
+        RowDone indentor exclude source t p s cur mark top byte laid t' p' s' number mark' top' byte' laid' → (number ≡ 0 → ⊥)
         → WalkDone indentor exclude source t₀ p₀ s₀ mark₀ top₀ byte₀ t2 p2 s2 number mark2 top2 byte2
     walk-past {number = number} d nz =
         let c = chunkOf p s (entryAt t cur) in
@@ -211,7 +213,7 @@ module _ {indentor exclude source store t₀ p₀ s₀ : List ℕ} {mark₀ : Bo
         record { zero-or = inr z; done = λ y. absurd (nz y); past = λ _. P }
 
     -- one chunk more
-    module _ {t' p' s' : List ℕ} {mark' : Bool} {top' byte' : ℕ} (d : RowIndented indentor exclude source t p s cur mark top byte t' p' s' mark' top' byte') where
+    module _ {t' p' s' : List ℕ} {mark' : Bool} {top' byte' laid' : ℕ} (d : RowIndented indentor exclude source t p s cur mark top byte laid t' p' s' mark' top' byte' laid') where
       at : SplicedAt t' us bs (d .es)
       at = d .spliced .place us bs (next .place)
 
@@ -230,7 +232,7 @@ module _ {indentor exclude source store t₀ p₀ s₀ : List ℕ} {mark₀ : Bo
       rest-chunks : chunksAt t' p' s' bs ≡ chunksAt t p s bs
       rest-chunks = ap (map (chunkOf p' s')) rest-entries ∙ entries-same top byte p s p' s' (d .rows) (d .bytes) (rest-low (rest-of rest-here))
 
-      pub walk-more : (r : Row) → r ≡ rowAt t cur → WalkAt indentor exclude source store t₀ p₀ s₀ mark₀ top₀ byte₀ n t' p' s' (k + 1) (r .next) mark' top' byte'
+      pub walk-more : (r : Row) → r ≡ rowAt t cur → WalkAt indentor exclude source store t₀ p₀ s₀ mark₀ top₀ byte₀ n t' p' s' (k + 1) (r .next) mark' top' byte' laid'
       walk-more r er =
           let C = closedRow indentor exclude source t p s cur mark in
           record {
@@ -249,12 +251,7 @@ module _ {indentor exclude source store t₀ p₀ s₀ : List ℕ} {mark₀ : Bo
             byte-in = d .byte-in;
             low = subst (All (EntryLow p' top' byte')) (sym done-entries) (all-append (entries-still top byte p p' (d .rows) top' byte' (d .top-up) (d .byte-up) (w .low)) (d .low));
             todo = subst (All (RestRow source store p' s' top' byte')) (sym rest-entries) (rest-still top' byte' (d .rows) (d .bytes) (d .top-up) (d .byte-up) (rest-of rest-here));
-            indentor-row = λ l.
-                let x = w .indentor-row l in
-                record {
-                  text = run-same top byte p s p' s' (d .rows) (d .bytes) (PIECE-ROWS, 1) (x .low) ∙ x .text;
-                  low = run-still top byte p p' (d .rows) top' byte' (d .top-up) (d .byte-up) (PIECE-ROWS, 1) (x .low);
-                };
+            indentor-row = d .indentor-row;
             result =
                 let D : IndentedChunks = indented-chunks indentor exclude source (C .mark) (chunksAt t p s bs) in
                 result-here

@@ -2,127 +2,192 @@
 use mathlib.Core.Path.{_≡_, refl, sym, ap, ap₂, _∙_, subst}
 use mathlib.Core.Bool.{Bool, true, false}
 use mathlib.Core.List.{List, [], _∷_, append-nil}
-use mathlib.Core.Logic.{inl, inr, ⊎-elim}
+use mathlib.Core.Logic.{inl, inr}
 use mathlib.Core.Option.{Option, none, some}
 use Prim.Native.Nat.{ℕ, _+_, _≤_, _<_}
 use native.Mathlib.Omega.{arith}
-use lib.Dec.{leb}
+use native.Mathlib.Decide.{decLt}
 use lib.ListN.{length, take, drop}
 use lib.Seq.{take-all}
-use borrow.Author.Tests.{leb-true}
-use Rattle.memory_layout.specs.Layout.{STORE-LEN, NONE}
+use Rattle.memory_layout.specs.Layout.{NONE}
 use Rattle.utf8.specs.Chars.{nil, cons}
 use Rattle.memory_table.specs.Order.{Entry, entryAt}
 use Rattle.model.specs.Text.{Text, sum, unwrap-or}
 use Rattle.model.specs.Chunk.{Chunk, with-texts, span-text, edit}
 use Rattle.model.specs.Limits.{chunk-pieces, chunk-bytes}
-use Rattle.model.specs.Indent.{Indented, indent-frag, excluded, Starts}
+use Rattle.model.specs.Indent.{Indented, indent-frag, excluded, Starts, then-start}
 use Rattle.model.specs.WellFormed.{Valid}
 use Rattle.memory.specs.Layout.{bytesAt, replacementOf, chunkOf}
 use Rattle.memory.proofs.Desks.{none-text, some-text}
 use Rattle.memory_texts.proofs.Over.{length-over, take-over, over-part, part-kept}
 use Rattle.memory_texts.proofs.Texts.{run-length}
-use Rattle.memory_texts.specs.Low.{BytesKept}
-use Rattle.memory_texts.proofs.Low.{rows-same, bytes-same, run-same, run-still}
+use Rattle.memory_texts.specs.Low.{BytesKept, EntryLow}
+use Rattle.memory_texts.proofs.Low.{rows-same, bytes-same, run-same, run-still, entry-same, entry-still}
 use Rattle.model_indent_closed.specs.Indent.{split-lines, IndentedChunks}
 use Rattle.model_indent_closed.proofs.Indent.{indented-lines, indented-excluded, indented-replaced}
 use Rattle.model_indent_closed.proofs.Growth.{lines-indentor, replaced-bytes}
+use Rattle.indent_mark.specs.Bytes.{NextStart}
 use Rattle.indent_mark.proofs.ByCharacters.{line-starts-is}
 use Rattle.indent_cuts.specs.Splice.{withText}
 use Rattle.indent_cuts.proofs.Splice.{spliced-same, spliced-set}
-use Rattle.indent_cuts.proofs.Lines.{leb-less, lines-parts}
-use Rattle.indent_source_chunk.specs.Parts.{IndentorRow}
-use Rattle.indent_source_chunk.specs.Source.{SourceReady, SourceDone, rowLines}
+use Rattle.indent_cuts.specs.Lines.{linesFrom}
+use Rattle.indent_cuts.proofs.Lines.{lines-parts}
+use Rattle.indent_head_tail.specs.Own.{LayRoom, LaidRow, Laid}
+use Rattle.indent_source_chunk.specs.Parts.{IndentorRow, PartsDone}
+use Rattle.indent_source_chunk.specs.Source.{SourceReady}
 use Rattle.indent_replaced_chunk.specs.Replacement.{ReplacementReady, Replaced, ReplacementDone}
-use Rattle.indent_chunks.specs.Row.{RowReady, closedRow, RowIndented, RowDone}
+use Rattle.indent_chunks.specs.Row.{RowAt, RowReady, closedRow, RowIndented, RowDone}
 
 -- ---- the row
 
 content-or-is : {o : Option Text} (p : Option Text) (x : Text) → o ≡ p → unwrap-or o x ≡ unwrap-or p x
 content-or-is p x e = ap (λ (y : Option Text). unwrap-or y x) e
 
-module _ {indentor source store t p s : List ℕ} {i top byte : ℕ} (exclude : List ℕ) (mark : Bool) (h : RowReady indentor source store t p s i top byte) where
+module _ {indentor source t p s : List ℕ} {i top byte laid : ℕ} (exclude : List ℕ) (mark : Bool) (h : RowAt indentor source t p s i top byte laid) (none-is : entryAt t i .text .0 ≡ NONE) where
+  abbrev e₁ : Entry
+  e₁ = entryAt t i
+
+  abbrev c₁ : Chunk
+  c₁ = chunkOf p s (entryAt t i)
+
+  pieces-are : chunk-pieces c₁ ≡ e₁ .intro .1 + e₁ .outro .1
+  pieces-are = ap₂ (λ (x y : ℕ). x + y) (run-length p s (e₁ .intro .0) (e₁ .intro .1)) (run-length p s (e₁ .outro .0) (e₁ .outro .1))
+
+  edited-none : c₁ .texts .edited-content ≡ none
+  edited-none = none-text s (e₁ .text) none-is
+
+  module _ {start end : ℕ} (es : start ≡ e₁ .start) (ee : end ≡ e₁ .end) where
+    pub lines-span : (start ≤ end) × (end ≤ length source)
+    lines-span = (omega (arith, h .span .ordered), omega (arith, h .span .inside))
+
+    abbrev W : Starts
+    W = linesFrom exclude source mark start end
+
+    lines-are : linesFrom exclude source mark (e₁ .start) (e₁ .end) ≡ W
+    lines-are = ap₂ (λ (x y : ℕ). linesFrom exclude source mark x y) (sym es) (sym ee)
+
+    closed-lines : closedRow indentor exclude source t p s i mark ≡ record { mark = W .mark; chunks = split-lines indentor c₁ (W .starts) }
+    closed-lines =
+        let v : Valid (span-text (c₁ .span) source) = subst Valid (content-or-is none (span-text (c₁ .span) source) edited-none) (h .valid) in
+        indented-lines indentor exclude source mark c₁ edited-none
+        ∙ ap (λ (y : Starts). record { mark = y .mark; chunks = split-lines indentor c₁ (y .starts) }) (line-starts-is exclude mark (e₁ .start) (span-text (c₁ .span) source) v ∙ lines-are)
+
+    module _ (x : ℕ) (m : Bool) (n : NextStart source exclude mark start end x m) where
+      -- no line start
+      pub lines-none : x ≡ end → RowDone indentor exclude source t p s i mark top byte laid t p s 0 m top byte laid
+      lines-none z =
+          let q = closed-lines ∙ ap (λ (y : Starts). record { mark = y .mark; chunks = split-lines indentor c₁ (y .starts) }) (n .none-left z) in
+          record {
+            zero-or = inl refl;
+            done = λ _.
+                record {
+                  es = e₁ ∷ [];
+                  spliced = spliced-same t i (h .linked);
+                  rows = rows-same top p;
+                  bytes = bytes-same byte s;
+                  top-up = omega arith;
+                  byte-up = omega arith;
+                  byte-in = h .byte-in;
+                  chunks = sym (ap (λ (y : IndentedChunks). y .chunks) q);
+                  mark-is = sym (ap (λ (y : IndentedChunks). y .mark) q);
+                  low = cons (h .low) nil;
+                  indentor-row = h .indentor-row;
+                  rows-used = omega arith;
+                  bytes-used = omega arith;
+                };
+            past = λ z. absurd (omega arith);
+          }
+
+      module _ (ne : x ≡ end → ⊥) where
+        lines-below : x < end
+        lines-below = elim (decLt x end) [ yes k ↦ k | no k ↦ absurd (ne (omega (arith, n .up-to))) ]
+
+        abbrev W₁ : Starts
+        W₁ = then-start x (linesFrom exclude source false (x + 1) end)
+
+        closed-then : closedRow indentor exclude source t p s i mark ≡ record { mark = W₁ .mark; chunks = split-lines indentor c₁ (W₁ .starts) }
+        closed-then = closed-lines ∙ ap (λ (y : Starts). record { mark = y .mark; chunks = split-lines indentor c₁ (y .starts) }) (n .found lines-below)
+
+        chunks-then : closedRow indentor exclude source t p s i mark .chunks ≡ split-lines indentor c₁ (W₁ .starts)
+        chunks-then = ap (λ (y : IndentedChunks). y .chunks) closed-then
+
+        -- the chunk's bytes hold the indentor's
+        lines-bytes : length indentor ≤ sum chunk-bytes (closedRow indentor exclude source t p s i mark .chunks)
+        lines-bytes = omega (arith, ap (sum chunk-bytes) chunks-then, lines-indentor indentor c₁ x (linesFrom exclude source false (x + 1) end .starts) edited-none)
+
+        pub lay-room : LayRoom p s top byte laid
+        lay-room = record { above = h .above; rows = omega (arith, h .rows); rows-narrow = h .narrow-pieces; byte-in = h .byte-in; narrow = omega (arith, h .narrow) }
+
+        -- the indentor does not fit
+        pub lines-short : {p1 s1 : List ℕ} {fits : Bool} {top1 byte1 laid1 : ℕ} → Laid indentor p s top byte laid p1 s1 fits top1 byte1 laid1 → fits ≡ false
+            → (t' p' s' : List ℕ) (mark' : Bool) (top' byte' laid' : ℕ) → RowDone indentor exclude source t p s i mark top byte laid t' p' s' 13 mark' top' byte' laid'
+        lines-short d f t' p' s' mark' top' byte' laid' =
+            record { zero-or = inr refl; done = λ z. absurd (omega arith); past = λ _. inr (omega (arith, d .short f, lines-bytes)) }
+
+        module _ {p1 s1 : List ℕ} {top1 byte1 laid1 : ℕ} (d : LaidRow indentor p s top byte laid p1 s1 top1 byte1 laid1) where
+          laid-row : IndentorRow indentor p1 s1 top1 byte1 laid1
+          laid-row = record { text = d .text (λ g. h .indentor-row g .text); low = d .low (λ g. h .indentor-row g .low) }
+
+          entry-low : EntryLow p1 top1 byte1 e₁
+          entry-low = entry-still top byte p p1 (d .rows) top1 byte1 (d .top-up) (d .byte-up) e₁ (h .low)
+
+          pub source-ready : SourceReady source t p1 i start x end top1 laid1
+          source-ready =
+              record {
+                own =
+                    record {
+                      linked = h .linked;
+                      placed = h .placed;
+                      below = λ k g. entry-low .runs .intro k g .0;
+                      indentor = omega (arith, laid-row .low 0 (omega arith) .0);
+                      room = omega (arith, h .rows, d .rows-used, d .rows .len);
+                      narrow = omega (arith, h .narrow-pieces, d .rows .len);
+                    };
+                at-start = es;
+                from-on = n .from-on;
+                below = lines-below;
+                inside = lines-span .1;
+                chunk-rows = h .chunk-rows;
+                narrow-chunks = h .narrow-chunks;
+              }
+
+          pub lines-done : {t2 p2 : List ℕ} {number top2 : ℕ} {mark2 : Bool} → PartsDone t p1 i top1 laid1 W₁ t2 p2 number mark2 top2
+              → RowDone indentor exclude source t p s i mark top byte laid t2 p2 s1 number mark2 top2 byte1 laid1
+          lines-done {t2} {p2} {number} {top2} {mark2} y =
+              record {
+                zero-or = y .zero-or;
+                done = λ z.
+                    let k = y .done z in
+                    record {
+                      es = k .es;
+                      spliced = k .spliced;
+                      rows = record { len = k .rows .len ∙ d .rows .len; rows = λ j g. k .rows .rows j (omega (arith, d .top-up)) ∙ d .rows .rows j g };
+                      bytes = d .bytes;
+                      top-up = omega (arith, d .top-up, k .up);
+                      byte-up = d .byte-up;
+                      byte-in = d .byte-in;
+                      chunks =
+                          k .chunks s1 indentor byte1 laid-row entry-low
+                          ∙ ap (λ (c : Chunk). split-lines indentor c (W₁ .starts)) (entry-same top byte p s p1 s1 (d .rows) (d .bytes) e₁ (h .low)) ∙ sym chunks-then;
+                      mark-is = y .mark-is z ∙ sym (ap (λ (c : IndentedChunks). c .mark) closed-then);
+                      low = k .low byte1 (laid-row .low) entry-low;
+                      indentor-row = λ _.
+                          record {
+                            text = run-same top1 byte1 p1 s1 p2 s1 (k .rows) (bytes-same byte1 s1) (laid1, 1) (laid-row .low) ∙ laid-row .text;
+                            low = run-still top1 byte1 p1 p2 (k .rows) top2 byte1 (k .up) (omega arith) (laid1, 1) (laid-row .low);
+                          };
+                      rows-used = omega (arith, k .used, d .rows-used, d .some, pieces-are);
+                      bytes-used = omega (arith, d .bytes-used, lines-bytes);
+                    };
+                past = λ z. inl (omega (arith, y .past z, ap length chunks-then, lines-parts indentor c₁ (W₁ .starts)));
+              }
+
+module _ {indentor source store t p s : List ℕ} {i top byte laid : ℕ} (exclude : List ℕ) (mark : Bool) (h : RowReady indentor source store t p s i top byte laid) where
   abbrev e : Entry
   e = entryAt t i
 
   abbrev c : Chunk
   c = chunkOf p s (entryAt t i)
-
-  pieces-are : chunk-pieces c ≡ e .intro .1 + e .outro .1
-  pieces-are = ap₂ (λ (x y : ℕ). x + y) (run-length p s (e .intro .0) (e .intro .1)) (run-length p s (e .outro .0) (e .outro .1))
-
-  -- its part of the source
-  pub source-ready : (usable : Bool) → usable ≡ leb (length indentor) STORE-LEN → SourceReady source t p i top usable
-  source-ready usable u =
-      record {
-        linked = h .linked;
-        placed = h .placed;
-        span = h .span;
-        below = λ z.
-            let r = h .indentor-row (leb-true (length indentor) STORE-LEN (sym u ∙ z)) in
-            record {
-              linked = h .linked;
-              placed = h .placed;
-              below = λ k g. h .low .runs .intro k g .0;
-              indentor = omega (arith, r .low 0 (omega arith) .0);
-              room = h .rows;
-              narrow = h .narrow-pieces;
-            };
-        chunk-rows = h .chunk-rows;
-        narrow-chunks = h .narrow-chunks;
-      }
-
-  module _ (none-is : e .text .0 ≡ NONE) where
-    edited-none : c .texts .edited-content ≡ none
-    edited-none = none-text s (e .text) none-is
-
-    closed-lines : closedRow indentor exclude source t p s i mark ≡ record { mark = rowLines exclude source t i mark .mark; chunks = split-lines indentor c (rowLines exclude source t i mark .starts) }
-    closed-lines =
-        let v : Valid (span-text (c .span) source) = subst Valid (content-or-is none (span-text (c .span) source) edited-none) (h .valid) in
-        indented-lines indentor exclude source mark c edited-none
-        ∙ ap (λ (y : Starts). record { mark = y .mark; chunks = split-lines indentor c (y .starts) }) (line-starts-is exclude mark (e .start) (span-text (c .span) source) v)
-
-    pub row-lines : {t' p' : List ℕ} {number top' : ℕ} {usable mark' : Bool} → usable ≡ leb (length indentor) STORE-LEN → SourceDone exclude source t p i top mark usable t' p' number mark' top'
-        → RowDone indentor exclude source t p s i mark top byte t' p' s number mark' top' byte
-    row-lines {t'} {p'} {number} {top'} {usable} {mark'} u d =
-        let W = rowLines exclude source t i mark in
-        let cs = ap (λ (y : IndentedChunks). y .chunks) closed-lines in
-        record {
-          zero-or = d .zero-or;
-          done = λ z.
-              let k = d .done z in
-              let ir : 0 < length (W .starts) → IndentorRow indentor p s top byte = row-of usable u (d .used z) in
-              record {
-                es = k .es;
-                spliced = k .spliced;
-                rows = k .rows;
-                bytes = bytes-same byte s;
-                top-up = k .up;
-                byte-up = omega arith;
-                byte-in = h .byte-in;
-                chunks = k .chunks s indentor byte ir (h .low) ∙ sym cs;
-                mark-is = d .mark-is z ∙ sym (ap (λ (y : IndentedChunks). y .mark) closed-lines);
-                low = k .low byte (λ g. ir g .low) (h .low);
-                rows-used = omega (arith, k .used, pieces-are);
-                bytes-used = omega arith;
-              };
-          past = λ z.
-              ⊎-elim (λ g. inl (omega (arith, g, ap length cs, lines-parts indentor c (W .starts))))
-              (λ g. inr (long (W .starts) refl (g .1) (leb-less (length indentor) STORE-LEN (sym u ∙ g .0)) (ap (sum chunk-bytes) cs)))
-              (d .past z);
-        }
-      where
-        row-of : (b : Bool) → b ≡ leb (length indentor) STORE-LEN
-            → (b ≡ false → rowLines exclude source t i mark .starts ≡ []) → 0 < length (rowLines exclude source t i mark .starts) → IndentorRow indentor p s top byte
-        row-of true u f g = h .indentor-row (leb-true (length indentor) STORE-LEN (sym u))
-        row-of false u f g = absurd (omega (arith, ap length (f refl)))
-
-        long : (l : List ℕ) → rowLines exclude source t i mark .starts ≡ l → 0 < length (rowLines exclude source t i mark .starts) → STORE-LEN < length indentor
-            → sum chunk-bytes (closedRow indentor exclude source t p s i mark .chunks) ≡ sum chunk-bytes (split-lines indentor c (rowLines exclude source t i mark .starts))
-            → length s < byte + sum chunk-bytes (closedRow indentor exclude source t p s i mark .chunks)
-        long [] q g k w = absurd (omega (arith, ap length q))
-        long (x ∷ l) q g k w =
-            omega (arith, w, ap (λ (y : List ℕ). sum chunk-bytes (split-lines indentor c y)) q, lines-indentor indentor c x l edited-none, h .bytes)
 
   -- its replacement
   module _ (some-is : e .text .0 ≡ NONE → ⊥) where
@@ -136,15 +201,15 @@ module _ {indentor source store t p s : List ℕ} {i top byte : ℕ} (exclude : 
     pub replacement-ready : ReplacementReady store t s i byte
     replacement-ready =
         record {
-          linked = h .linked;
-          placed = h .placed;
+          linked = h .row .linked;
+          placed = h .row .placed;
           inside = h .text-low some-is;
-          valid = subst Valid (content-or-is (some (bytesAt s (e .text))) (span-text (c .span) source) edited-some ∙ sym lent) (h .valid);
-          byte-in = h .byte-in;
-          narrow = h .narrow;
+          valid = subst Valid (content-or-is (some (bytesAt s (e .text))) (span-text (c .span) source) edited-some ∙ sym lent) (h .row .valid);
+          byte-in = h .row .byte-in;
+          narrow = h .row .narrow;
         }
 
-    pub row-excluded : excluded exclude (e .start) ≡ true → RowDone indentor exclude source t p s i mark top byte t p s 0 mark top byte
+    pub row-excluded : excluded exclude (e .start) ≡ true → RowDone indentor exclude source t p s i mark top byte laid t p s 0 mark top byte laid
     row-excluded x =
         let q = indented-excluded indentor exclude source mark c edited-some x in
         record {
@@ -152,15 +217,16 @@ module _ {indentor source store t p s : List ℕ} {i top byte : ℕ} (exclude : 
           done = λ _.
               record {
                 es = e ∷ [];
-                spliced = spliced-same t i (h .linked);
+                spliced = spliced-same t i (h .row .linked);
                 rows = rows-same top p;
                 bytes = bytes-same byte s;
                 top-up = omega arith;
                 byte-up = omega arith;
-                byte-in = h .byte-in;
+                byte-in = h .row .byte-in;
                 chunks = sym (ap (λ (y : IndentedChunks). y .chunks) q);
                 mark-is = sym (ap (λ (y : IndentedChunks). y .mark) q);
-                low = cons (h .low) nil;
+                low = cons (h .row .low) nil;
+                indentor-row = h .row .indentor-row;
                 rows-used = omega arith;
                 bytes-used = omega arith;
               };
@@ -183,16 +249,16 @@ module _ {indentor source store t p s : List ℕ} {i top byte : ℕ} (exclude : 
       more-bytes = omega (arith, replaced-bytes indentor exclude source mark c edited-some x, ap (λ (y : Indented). length (y .text)) same-frag)
 
       row-replaced-done : {t' s' : List ℕ} {mark' : Bool} {byte' : ℕ} → Replaced indentor (bytesAt store (e .text)) t s i mark byte t' s' mark' byte'
-          → RowIndented indentor exclude source t p s i mark top byte t' p s' mark' top byte'
+          → RowIndented indentor exclude source t p s i mark top byte laid t' p s' mark' top byte' laid
       row-replaced-done {t'} {s'} {mark'} {byte'} d =
           let T : Text = F .text in
           let z : byte + 0 ≡ byte = omega arith in
-          let ks : BytesKept byte s s' = record { len = ap length (d .store-is) ∙ length-over s byte T (d .room); bytes = ap (take byte) (d .store-is) ∙ take-over s byte T (h .byte-in) } in
-          let b : take (length T) (drop byte s') ≡ T = rw (d .store-is) (rw (z, append-nil T) at (over-part s byte [] T [] (h .byte-in))) in
-          let o : replacementOf s' (byte, length T) ≡ some T = some-text s' (byte, length T) (λ y. omega (arith, h .byte-in, h .narrow)) ∙ ap some b in
+          let ks : BytesKept byte s s' = record { len = ap length (d .store-is) ∙ length-over s byte T (d .room); bytes = ap (take byte) (d .store-is) ∙ take-over s byte T (h .row .byte-in) } in
+          let b : take (length T) (drop byte s') ≡ T = rw (d .store-is) (rw (z, append-nil T) at (over-part s byte [] T [] (h .row .byte-in))) in
+          let o : replacementOf s' (byte, length T) ≡ some T = some-text s' (byte, length T) (λ y. omega (arith, h .row .byte-in, h .row .narrow)) ∙ ap some b in
           let e' : Entry = withText (byte, length T) e in
           let q : chunkOf p s' e' ≡ with-texts (edit T false) c =
-          rw (run-same top byte p s p s' (rows-same top p) ks (e .intro) (h .low .runs .intro), run-same top byte p s p s' (rows-same top p) ks (e .outro) (h .low .runs .outro), o) in
+          rw (run-same top byte p s p s' (rows-same top p) ks (e .intro) (h .row .low .runs .intro), run-same top byte p s p s' (rows-same top p) ks (e .outro) (h .row .low .runs .outro), o) in
           record {
             es = e' ∷ [];
             spliced = spliced-set (d .set) (d .len);
@@ -208,18 +274,22 @@ module _ {indentor source store t p s : List ℕ} {i top byte : ℕ} (exclude : 
                 (record {
                   runs =
                       record {
-                        intro = run-still top byte p p (rows-same top p) top byte' (omega arith) (omega (arith, d .end-is)) (e .intro) (h .low .runs .intro);
-                        outro = run-still top byte p p (rows-same top p) top byte' (omega arith) (omega (arith, d .end-is)) (e .outro) (h .low .runs .outro);
+                        intro = run-still top byte p p (rows-same top p) top byte' (omega arith) (omega (arith, d .end-is)) (e .intro) (h .row .low .runs .intro);
+                        outro = run-still top byte p p (rows-same top p) top byte' (omega arith) (omega (arith, d .end-is)) (e .outro) (h .row .low .runs .outro);
                       };
                   text = λ _. omega (arith, d .end-is);
                 })
                 nil;
+            indentor-row = λ g.
+                let x = h .row .indentor-row g in
+                record {
+                  text = run-same top byte p s p s' (rows-same top p) ks (laid, 1) (x .low) ∙ x .text;
+                  low = run-still top byte p p (rows-same top p) top byte' (omega arith) (omega (arith, d .end-is)) (laid, 1) (x .low);
+                };
             rows-used = omega arith;
             bytes-used = omega (arith, d .end-is, more-bytes);
           }
 
-      pub row-replaced : {t' s' : List ℕ} {number : ℕ} {mark' : Bool} {top' byte' : ℕ} → top' ≡ top → ReplacementDone indentor store t s i mark byte t' s' number mark' byte'
-          → RowDone indentor exclude source t p s i mark top byte t' p s' number mark' top' byte'
-      row-replaced {t'} {s'} {number} {mark'} {top'} {byte'} k d =
-          subst (λ (y : ℕ). RowDone indentor exclude source t p s i mark top byte t' p s' number mark' y byte') (sym k)
-          (record { zero-or = d .zero-or; done = λ z. row-replaced-done (d .done z); past = λ z. inr (omega (arith, d .past z, more-bytes)) })
+      pub row-replaced : {t' s' : List ℕ} {number : ℕ} {mark' : Bool} {byte' : ℕ} → ReplacementDone indentor store t s i mark byte t' s' number mark' byte'
+          → RowDone indentor exclude source t p s i mark top byte laid t' p s' number mark' top byte' laid
+      row-replaced d = record { zero-or = d .zero-or; done = λ z. row-replaced-done (d .done z); past = λ z. inr (omega (arith, d .past z, more-bytes)) }

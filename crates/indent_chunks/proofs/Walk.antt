@@ -28,7 +28,7 @@ pub record ChunksIndented (indentor exclude source t p s : List ℕ) (mark : Boo
   pub low : All (EntryLow p' top' byte') (entries t')
   pub chunks : chunksOf t' p' s' ≡ closedOf indentor exclude source t p s mark .chunks
   pub mark-is : mark' ≡ closedOf indentor exclude source t p s mark .mark
-  pub rows-used : top' ≤ top + (sum chunk-pieces (chunksOf t p s) + countOf t)
+  pub rows-used : top' ≤ top + 1 + (sum chunk-pieces (chunksOf t p s) + countOf t)
   pub bytes-used : byte' ≤ byte + sum chunk-bytes (closedOf indentor exclude source t p s mark .chunks)
 
 -- the model's chunks pass a limit: there are too many, or more new bytes than the scratch store has room for

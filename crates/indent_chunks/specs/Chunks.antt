@@ -2,9 +2,8 @@
 use mathlib.Core.Path.{_≡_}
 use mathlib.Core.Bool.{Bool}
 use mathlib.Core.List.{List, [], _∷_, _++_, map}
-use Prim.Native.Nat.{ℕ, _+_, _≤_}
+use Prim.Native.Nat.{ℕ, _+_, _-_, _≤_, _<_}
 use lib.ListN.{length}
-use Rattle.memory_layout.specs.Layout.{STORE-LEN}
 use Rattle.utf8.specs.Chars.{All}
 use Rattle.memory_table.specs.Table.{rowAt}
 use Rattle.memory_table.specs.Order.{Entry, entryAt, order, countOf, Linked}
@@ -36,7 +35,7 @@ abbrev pub chunksAt : List ℕ → List ℕ → List ℕ → List ℕ → List C
 chunksAt t p s xs = map (chunkOf p s) (map (entryAt t) xs)
 
 -- k of n chunks are done: the rows us hold what became of them
-pub record WalkAt (indentor exclude source store t₀ p₀ s₀ : List ℕ) (mark₀ : Bool) (top₀ byte₀ n : ℕ) (t p s : List ℕ) (k cur : ℕ) (mark : Bool) (top byte : ℕ) : Type 0 where
+pub record WalkAt (indentor exclude source store t₀ p₀ s₀ : List ℕ) (mark₀ : Bool) (top₀ byte₀ n : ℕ) (t p s : List ℕ) (k cur : ℕ) (mark : Bool) (top byte laid : ℕ) : Type 0 where
   pub us : List ℕ
   pub rest : List ℕ
   pub order-is : order t ≡ us ++ rest
@@ -52,7 +51,7 @@ pub record WalkAt (indentor exclude source store t₀ p₀ s₀ : List ℕ) (mar
   pub byte-in : byte ≤ length s
   pub low : All (EntryLow p top byte) (map (entryAt t) us)
   pub todo : All (RestRow source store p s top byte) (map (entryAt t) rest)
-  pub indentor-row : length indentor ≤ STORE-LEN → IndentorRow indentor p s top byte
+  pub indentor-row : 0 < laid → IndentorRow indentor p s top byte laid
   pub result : closedOf indentor exclude source t₀ p₀ s₀ mark₀ ≡ then-chunks (chunksAt t p s us) (indented-chunks indentor exclude source mark (chunksAt t p s rest))
-  pub rows-used : top + (sum chunk-pieces (chunksAt t p s rest) + length rest) ≤ top₀ + (sum chunk-pieces (chunksOf t₀ p₀ s₀) + countOf t₀)
+  pub rows-used : top + (1 - laid) + (sum chunk-pieces (chunksAt t p s rest) + length rest) ≤ top₀ + 1 + (sum chunk-pieces (chunksOf t₀ p₀ s₀) + countOf t₀)
   pub bytes-used : byte ≤ byte₀ + sum chunk-bytes (chunksAt t p s us)

@@ -4,7 +4,7 @@ use mathlib.Core.Bool.{Bool}
 use mathlib.Core.List.{List, [], map}
 use Prim.Native.Nat.{ℕ, _+_, _*_, _≤_, _<_}
 use lib.ListN.{length, take}
-use Rattle.memory_layout.specs.Layout.{CHUNKS, CHUNKS-LEN, STORE-LEN}
+use Rattle.memory_layout.specs.Layout.{CHUNKS, CHUNKS-LEN}
 use Rattle.utf8.specs.Chars.{All}
 use Rattle.memory_table.specs.Order.{entries, countOf, Linked}
 use Rattle.model.specs.Text.{Text, sum}
@@ -14,7 +14,6 @@ use Rattle.model.specs.Limits.{chunk-pieces}
 use Rattle.model.specs.WellFormed.{Formed}
 use Rattle.memory.specs.Layout.{chunkOf}
 use Rattle.memory_texts.specs.Low.{TextLow, EntryLow}
-use Rattle.indent_source_chunk.specs.Parts.{IndentorRow}
 use Rattle.model_indent_closed.specs.Indent.{IndentedChunks, indented-chunks}
 
 -- a desk's chunks alone
@@ -25,22 +24,21 @@ bodyOf source cs = record { source = source; intro = []; outro = []; chunks = cs
 abbrev pub chunksOf : List ℕ → List ℕ → List ℕ → List Chunk
 chunksOf t p s = map (chunkOf p s) (entries t)
 
--- the lent store is the front of the scratch one, and the chunks' texts lie there. An indentor that no store can hold has no row
-pub record WalkReady (indentor source store t p s : List ℕ) (top byte : ℕ) : Type 0 where
+-- the lent store is the front of the scratch one, and the chunks' texts lie there. The indentor is no piece yet: there is room for its row
+pub record WalkReady (source store t p s : List ℕ) (top byte : ℕ) : Type 0 where
   pub linked : Linked t
   pub formed : Formed (bodyOf source (chunksOf t p s))
   pub low : All (EntryLow p top byte) (entries t)
   pub texts-low : All (λ e. TextLow (length store) (e .text)) (entries t)
   pub store-front : take (length store) s ≡ store
   pub store-low : length store ≤ byte
-  pub indentor-row : length indentor ≤ STORE-LEN → IndentorRow indentor p s top byte
+  pub above : 0 < top
   pub few : countOf t ≤ CHUNKS
   pub chunk-rows : CHUNKS-LEN ≤ length t
   pub narrow-chunks : length t ≤ 4294967296
-  pub rows : (top + (sum chunk-pieces (chunksOf t p s) + countOf t)) * 2 ≤ length p
-  pub narrow-pieces : length p ≤ 4294967296
+  pub rows : (top + 1 + (sum chunk-pieces (chunksOf t p s) + countOf t)) * 2 ≤ length p
+  pub narrow-pieces : length p < 4294967296
   pub byte-in : byte ≤ length s
-  pub bytes : length s ≤ byte + STORE-LEN
   pub narrow : length s < 4294967295
 
 -- what the model leaves of the chunks

@@ -9,7 +9,7 @@ use native.Mathlib.Decide.{decLt}
 use lib.Dec.{leb}
 use lib.ListN.{length, length-append}
 use borrow.Author.Tests.{lt-ltb, le-ltb, leb-true, le-leb}
-use Rattle.memory_layout.specs.Layout.{ROW, CHUNKS, PIECE-ROWS}
+use Rattle.memory_layout.specs.Layout.{ROW, CHUNKS}
 use Rattle.utf8.specs.Chars.{All, nil}
 use Rattle.memory_table.specs.Order.{Entry, entryAt, countOf}
 use Rattle.model.specs.Text.{Text}
@@ -59,37 +59,37 @@ lines-parts indentor c (i ∷ l) =
 
 -- ---- the two halves of a row, as chunks
 
-module _ (p s : List ℕ) (q : ℕ) (e : Entry) where
+module _ (p s : List ℕ) (q laid : ℕ) (e : Entry) where
   pub lift-first : chunkOf p s (first q e) ≡ first-half q (chunkOf p s e)
   lift-first = rw (no-run p s 0)
 
-  pub lift-begun : (indentor : Text) → runOf p s (PIECE-ROWS, 1) ≡ indentor ∷ [] → chunkOf p s (begun (second q e)) ≡ with-texts (prepend-intro indentor) (second-half q (chunkOf p s e))
+  pub lift-begun : (indentor : Text) → runOf p s (laid, 1) ≡ indentor ∷ [] → chunkOf p s (begun laid (second q e)) ≡ with-texts (prepend-intro indentor) (second-half q (chunkOf p s e))
   lift-begun indentor r = rw r
 
 module _ (p : List ℕ) (top byte q : ℕ) (e : Entry) (h : EntryLow p top byte e) where
   pub first-low : EntryLow p top byte (first q e)
   first-low = record { runs = record { intro = h .runs .intro; outro = none-below p byte top 0 }; text = h .text }
 
-  pub begun-low : Below p byte top (PIECE-ROWS, 1) → EntryLow p top byte (begun (second q e))
-  begun-low b = record { runs = record { intro = b; outro = h .runs .outro }; text = h .text }
+  pub begun-low : (laid : ℕ) → Below p byte top (laid, 1) → EntryLow p top byte (begun laid (second q e))
+  begun-low laid b = record { runs = record { intro = b; outro = h .runs .outro }; text = h .text }
 
 -- ---- cuts behind the row's start
 
 -- the parts ds are done, row cur is the last one, and its line starts from `from` on are left
-pub record LinesAt (exclude source t₀ : List ℕ) (i from₀ end : ℕ) (mark₀ : Bool) (t : List ℕ) (cur from : ℕ) (mark : Bool) : Type 0 where
+pub record LinesAt (exclude source t₀ : List ℕ) (i from₀ end : ℕ) (mark₀ : Bool) (laid : ℕ) (t : List ℕ) (cur from : ℕ) (mark : Bool) : Type 0 where
   pub ds : List Entry
   pub cutting : Cutting t₀ t i cur ds
   pub after : entryAt t cur .start < from
   pub up-to : from ≤ end
   pub mark-is : linesFrom exclude source mark₀ from₀ end .mark ≡ linesFrom exclude source mark from end .mark
   pub count : parts (entryAt t₀ i .start) (linesFrom exclude source mark₀ from₀ end .starts) ≡ length ds + parts (entryAt t cur .start) (linesFrom exclude source mark from end .starts)
-  pub chunks : (p s indentor : List ℕ) → runOf p s (PIECE-ROWS, 1) ≡ indentor ∷ []
+  pub chunks : (p s indentor : List ℕ) → runOf p s (laid, 1) ≡ indentor ∷ []
       → split-lines indentor (chunkOf p s (entryAt t₀ i)) (linesFrom exclude source mark₀ from₀ end .starts)
       ≡ map (chunkOf p s) ds ++ split-lines indentor (chunkOf p s (entryAt t cur)) (linesFrom exclude source mark from end .starts)
-  pub low : (p : List ℕ) (top byte : ℕ) → Below p byte top (PIECE-ROWS, 1) → EntryLow p top byte (entryAt t₀ i) → All (EntryLow p top byte) ds × EntryLow p top byte (entryAt t cur)
+  pub low : (p : List ℕ) (top byte : ℕ) → Below p byte top (laid, 1) → EntryLow p top byte (entryAt t₀ i) → All (EntryLow p top byte) ds × EntryLow p top byte (entryAt t cur)
 
-pub lines-start : (exclude source t : List ℕ) (i from end : ℕ) (mark : Bool) → LinesReady source t i from end → LinesAt exclude source t i from end mark t i from mark
-lines-start exclude source t i from end mark h =
+pub lines-start : (exclude source t : List ℕ) (i from end : ℕ) (mark : Bool) (laid : ℕ) → LinesReady source t i from end → LinesAt exclude source t i from end mark laid t i from mark
+lines-start exclude source t i from end mark laid h =
     record {
       ds = [];
       cutting = cutting-none t i (h .linked);
@@ -107,8 +107,8 @@ startsF r = r .starts
 markF : Starts → Bool
 markF r = r .mark
 
-module _ (exclude source t₀ : List ℕ) (i from₀ end : ℕ) (mark₀ : Bool) (t : List ℕ) (cur from : ℕ) (mark : Bool) (h : LinesReady source t₀ i from₀ end)
-    (a : LinesAt exclude source t₀ i from₀ end mark₀ t cur from mark) where
+module _ (exclude source t₀ : List ℕ) (i from₀ end : ℕ) (mark₀ : Bool) (laid : ℕ) (t : List ℕ) (cur from : ℕ) (mark : Bool) (h : LinesReady source t₀ i from₀ end)
+    (a : LinesAt exclude source t₀ i from₀ end mark₀ laid t cur from mark) where
   abbrev W₀ : Starts
   W₀ = linesFrom exclude source mark₀ from₀ end
 
@@ -123,7 +123,7 @@ module _ (exclude source t₀ : List ℕ) (i from₀ end : ℕ) (mark₀ : Bool)
   lines-room f = (omega (arith, leb-less CHUNKS (countOf t) f, h .rows, a .cutting .len), omega (arith, h .narrow, a .cutting .len))
 
   -- where no line start is left
-  none-left : (m : Bool) → W ≡ record { mark = m; starts = [] } → CutLines t₀ t i (W₀ .starts) × (m ≡ W₀ .mark)
+  none-left : (m : Bool) → W ≡ record { mark = m; starts = [] } → CutLines t₀ t i laid (W₀ .starts) × (m ≡ W₀ .mark)
   unfolding startsF markF
   none-left m e =
       let s0 : W .starts ≡ [] = ap startsF e in (
@@ -139,14 +139,14 @@ module _ (exclude source t₀ : List ℕ) (i from₀ end : ℕ) (mark₀ : Bool)
         sym (a .mark-is ∙ ap markF e),
       )
 
-  finished : (m : Bool) → W ≡ record { mark = m; starts = [] } → LinesDone exclude source t₀ t i from₀ end mark₀ 0 m
+  finished : (m : Bool) → W ≡ record { mark = m; starts = [] } → LinesDone exclude source t₀ t i from₀ end mark₀ laid 0 m
   finished m e = record { zero-or = inl refl; done = λ _. none-left m e .0; mark-is = λ _. none-left m e .1; past = λ z. absurd (omega arith) }
 
   -- the search found none, or there was nothing to search
-  pub lines-end : (x : ℕ) (m : Bool) → NextStart source exclude mark from end x m → x ≡ end → LinesDone exclude source t₀ t i from₀ end mark₀ 0 m
+  pub lines-end : (x : ℕ) (m : Bool) → NextStart source exclude mark from end x m → x ≡ end → LinesDone exclude source t₀ t i from₀ end mark₀ laid 0 m
   lines-end x m n e = finished m (n .none-left e)
 
-  pub lines-out : end ≤ from → LinesDone exclude source t₀ t i from₀ end mark₀ 0 mark
+  pub lines-out : end ≤ from → LinesDone exclude source t₀ t i from₀ end mark₀ laid 0 mark
   unfolding starts-from
   lines-out k =
       let e : from ≡ end = omega (arith, a .up-to) in
@@ -167,7 +167,7 @@ module _ (exclude source t₀ : List ℕ) (i from₀ end : ℕ) (mark₀ : Bool)
     past-start = omega (arith, a .after, n .from-on)
 
     -- too many chunks
-    pub lines-full : leb CHUNKS (countOf t) ≡ true → LinesDone exclude source t₀ t i from₀ end mark₀ 13 mark
+    pub lines-full : leb CHUNKS (countOf t) ≡ true → LinesDone exclude source t₀ t i from₀ end mark₀ laid 13 mark
     unfolding startsF
     lines-full f =
         let q : parts (entryAt t cur .start) (W .starts) ≡ suc (parts x (W' .starts)) = ap (λ (r : Starts). parts (entryAt t cur .start) (r .starts)) next
@@ -180,11 +180,11 @@ module _ (exclude source t₀ : List ℕ) (i from₀ end : ℕ) (mark₀ : Bool)
         }
 
     -- one more cut
-    pub lines-more : (t' : List ℕ) (k : ℕ) → CutPart t t' cur k x → LinesAt exclude source t₀ i from₀ end mark₀ t' k (x + 1) false
+    pub lines-more : (t' : List ℕ) (k : ℕ) → CutPart t t' cur k x laid → LinesAt exclude source t₀ i from₀ end mark₀ laid t' k (x + 1) false
     unfolding startsF markF
     lines-more t' k c =
         let e = entryAt t cur in
-        let e' : entryAt t' k ≡ begun (second x e) = c .new in
+        let e' : entryAt t' k ≡ begun laid (second x e) = c .new in
         let q : parts (e .start) (W .starts) ≡ suc (parts x (W' .starts)) = ap (λ (r : Starts). parts (e .start) (r .starts)) next ∙ parts-inside (e .start) x (W' .starts) past-start in
         let st : entryAt t' k .start ≡ x = ap (λ (y : Entry). y .start) e' in
         record {
@@ -201,10 +201,10 @@ module _ (exclude source t₀ : List ℕ) (i from₀ end : ℕ) (mark₀ : Bool)
               ∙ ap (λ (l : List Chunk). map (chunkOf p s) (a .ds) ++ l) (split-lines-inside indentor c0 x (W' .starts) past-start)
               ∙ sym (
               ap₂ (λ (u : List Chunk) (d : Chunk). u ++ split-lines indentor d (W' .starts)) (map-append (chunkOf p s) (a .ds) (first x e ∷ [])
-              ∙ ap (λ (d : Chunk). map (chunkOf p s) (a .ds) ++ d ∷ []) (lift-first p s x e))
-              (ap (chunkOf p s) e' ∙ lift-begun p s x e indentor r)
+              ∙ ap (λ (d : Chunk). map (chunkOf p s) (a .ds) ++ d ∷ []) (lift-first p s x laid e))
+              (ap (chunkOf p s) e' ∙ lift-begun p s x laid e indentor r)
               ∙ append-assoc (map (chunkOf p s) (a .ds)) (first-half x c0 ∷ []) (split-lines indentor (with-texts (prepend-intro indentor) (second-half x c0)) (W' .starts)));
           low = λ p top byte b z.
               let y = a .low p top byte b z in
-              (all-snoc (y .0) (first-low p top byte x e (y .1)), subst (EntryLow p top byte) (sym e') (begun-low p top byte x e (y .1) b));
+              (all-snoc (y .0) (first-low p top byte x e (y .1)), subst (EntryLow p top byte) (sym e') (begun-low p top byte x e (y .1) laid b));
         }

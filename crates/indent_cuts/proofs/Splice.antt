@@ -5,7 +5,6 @@ use mathlib.Core.List.{List, [], _∷_, _++_, map, append-assoc, map-append}
 use Prim.Native.Nat.{ℕ, _+_, _≤_, _<_}
 use native.Mathlib.Omega.{arith}
 use lib.ListN.{length, length-append}
-use Rattle.memory_layout.specs.Layout.{PIECE-ROWS}
 use Rattle.memory_table.specs.declared.Row.{Row}
 use Rattle.memory_table.specs.Ring.{Each, Not}
 use Rattle.memory_table.proofs.Ring.{each-map, each-both, map-same}
@@ -86,16 +85,16 @@ set-then {t} {t1} {t2} {i} r m d =
 
 -- ---- the row cut at q: row n, behind it, begins with the indentor
 
-pub cut-part : {t t1 t2 : List ℕ} {i n q : ℕ} → Linked t → Placed t i → n ≡ countOf t + 1 → SplitRow t t1 i q → length t1 ≡ length t → RowSet t1 t2 n (begun (entryAt t1 n)) → length t2 ≡ length t1
-    → CutPart t t2 i n q
-cut-part {t} {t1} {t2} {i} {n} {q} l w en d m r k =
+pub cut-part : {t t1 t2 : List ℕ} {i n q laid : ℕ} → Linked t → Placed t i → n ≡ countOf t + 1 → SplitRow t t1 i q → length t1 ≡ length t → RowSet t1 t2 n (begun laid (entryAt t1 n)) → length t2 ≡ length t1
+    → CutPart t t2 i n q laid
+cut-part {t} {t1} {t2} {i} {n} {q} {laid} l w en d m r k =
     let b = inside-at t (w .us) i (w .bs) l (w .place) in
     record {
       linked = r .linked;
       number = en;
       order-is = λ us bs o. r .order-is ∙ d .order-is us bs o ∙ ap (λ (x : ℕ). us ++ i ∷ x ∷ bs) (sym en);
       here = ap entryOf (r .off i (λ e. omega arith)) ∙ d .here;
-      new = r .here ∙ ap begun (ap (entryAt t1) en ∙ d .new);
+      new = r .here ∙ ap (begun laid) (ap (entryAt t1) en ∙ d .new);
       off = λ a h c x. ap entryOf (r .off a (λ e. omega arith)) ∙ d .off a (λ e. omega arith) (λ e. omega arith) x;
       desk = r .desk ∙ d .desk;
       count = omega (arith, r .count, d .count);
@@ -103,10 +102,10 @@ cut-part {t} {t1} {t2} {i} {n} {q} l w en d m r k =
     }
 
 -- the writes that cut it
-pub cut-made : {t t1 t2 : List ℕ} {i q : ℕ} {z r x : Row} → Linked t → Placed t i → z ≡ rowAt t 0 → SplitRow t t1 i q → length t1 ≡ length t →
-    r ≡ rowAt t1 (z .start + 1) → x ≡ with-side false (PIECE-ROWS, 1) r
-    → Put t1 t2 (z .start + 1) x → length t2 ≡ length t1 → CutPart t t2 i (z .start + 1) q
-cut-made {t} {t1} {t2} {i} {q} {z} {r} {x} l w ez d m er c u k =
+pub cut-made : {t t1 t2 : List ℕ} {i q laid : ℕ} {z r x : Row} → Linked t → Placed t i → z ≡ rowAt t 0 → SplitRow t t1 i q → length t1 ≡ length t →
+    r ≡ rowAt t1 (z .start + 1) → x ≡ with-side false (laid, 1) r
+    → Put t1 t2 (z .start + 1) x → length t2 ≡ length t1 → CutPart t t2 i (z .start + 1) q laid
+cut-made {t} {t1} {t2} {i} {q} {laid} {z} {r} {x} l w ez d m er c u k =
     let en : z .start + 1 ≡ countOf t + 1 = ap (λ (y : Row). y .start + 1) ez in
     let p : Placed t1 (z .start + 1) =
     record {
@@ -114,16 +113,16 @@ cut-made {t} {t1} {t2} {i} {q} {z} {r} {x} l w ez d m er c u k =
       bs = w .bs;
       place = d .order-is (w .us) (w .bs) (w .place) ∙ ap (λ (y : ℕ). w .us ++ i ∷ y ∷ w .bs) (sym en) ∙ sym (append-assoc (w .us) (i ∷ []) ((z .start + 1) ∷ w .bs));
     } in
-    cut-part l w en d m (intro-set (PIECE-ROWS, 1) (d .linked) p er c u k) k
+    cut-part l w en d m (intro-set (laid, 1) (d .linked) p er c u k) k
 
 -- the new row stands in the list
-pub cut-placed : {t t' : List ℕ} {i n q : ℕ} → CutPart t t' i n q → Placed t i → Placed t' n
+pub cut-placed : {t t' : List ℕ} {i n q laid : ℕ} → CutPart t t' i n q laid → Placed t i → Placed t' n
 cut-placed {t} {t'} {i} {n} c w =
     record { us = w .us ++ i ∷ []; bs = w .bs; place = c .order-is (w .us) (w .bs) (w .place) ∙ sym (append-assoc (w .us) (i ∷ []) (n ∷ w .bs)) }
 
 -- and then row n replaced
-pub cut-then : {t t1 t2 : List ℕ} {i n q : ℕ} {es : List Entry} → Linked t → Placed t i → CutPart t t1 i n q → Spliced t1 t2 n es → Spliced t t2 i (first q (entryAt t i) ∷ es)
-cut-then {t} {t1} {t2} {i} {n} {q} {es} l w c d =
+pub cut-then : {t t1 t2 : List ℕ} {i n q laid : ℕ} {es : List Entry} → Linked t → Placed t i → CutPart t t1 i n q laid → Spliced t1 t2 n es → Spliced t t2 i (first q (entryAt t i) ∷ es)
+cut-then {t} {t1} {t2} {i} {n} {q} {laid} {es} l w c d =
     let b = inside-at t (w .us) i (w .bs) l (w .place) in
     let e : entryAt t2 i ≡ first q (entryAt t i) = d .off i (b .0) (omega (arith, c .count)) (λ z. omega (arith, c .number)) ∙ c .here in
     record {
@@ -174,8 +173,8 @@ cutting-placed {t₀} {t} {i} {cur} c w =
     let k = c .place (w .us) (w .bs) (w .place) in
     record { us = w .us ++ k .ws; bs = w .bs; place = k .order-is ∙ sym (append-assoc (w .us) (k .ws) (cur ∷ w .bs)) }
 
-pub cutting-more : {t₀ t t' : List ℕ} {i cur n q : ℕ} {ds : List Entry} → Cutting t₀ t i cur ds → CutPart t t' cur n q → Cutting t₀ t' i n (ds ++ first q (entryAt t cur) ∷ [])
-cutting-more {t₀} {t} {t'} {i} {cur} {n} {q} {ds} c d =
+pub cutting-more : {t₀ t t' : List ℕ} {i cur n q laid : ℕ} {ds : List Entry} → Cutting t₀ t i cur ds → CutPart t t' cur n q laid → Cutting t₀ t' i n (ds ++ first q (entryAt t cur) ∷ [])
+cutting-more {t₀} {t} {t'} {i} {cur} {n} {q} {laid} {ds} c d =
     record {
       linked = d .linked;
       place = λ us bs o.

@@ -6,7 +6,7 @@ use mathlib.Core.Logic.{_⊎_}
 use Prim.Native.Nat.{ℕ, suc, _+_, _≤_, _<_}
 use lib.Dec.{ltb}
 use lib.ListN.{length}
-use Rattle.memory_layout.specs.Layout.{CHUNKS, CHUNKS-LEN, PIECE-ROWS}
+use Rattle.memory_layout.specs.Layout.{CHUNKS, CHUNKS-LEN}
 use Rattle.utf8.specs.Chars.{All}
 use Rattle.memory_table.specs.Order.{Entry, entryAt, countOf, Linked}
 use Rattle.model.specs.Indent.{Starts}
@@ -38,14 +38,14 @@ pub record LinesReady (source t : List ℕ) (i from end : ℕ) : Type 0 where
   pub rows : CHUNKS-LEN ≤ length t
   pub narrow : length t ≤ 4294967296
 
-pub record CutLines (t t' : List ℕ) (i : ℕ) (starts : List ℕ) : Type 0 where
+pub record CutLines (t t' : List ℕ) (i laid : ℕ) (starts : List ℕ) : Type 0 where
   pub es : List Entry
   pub spliced : Spliced t t' i es
-  pub chunks : (p s indentor : List ℕ) → runOf p s (PIECE-ROWS, 1) ≡ indentor ∷ [] → map (chunkOf p s) es ≡ split-lines indentor (chunkOf p s (entryAt t i)) starts
-  pub low : (p : List ℕ) (top byte : ℕ) → Below p byte top (PIECE-ROWS, 1) → EntryLow p top byte (entryAt t i) → All (EntryLow p top byte) es
+  pub chunks : (p s indentor : List ℕ) → runOf p s (laid, 1) ≡ indentor ∷ [] → map (chunkOf p s) es ≡ split-lines indentor (chunkOf p s (entryAt t i)) starts
+  pub low : (p : List ℕ) (top byte : ℕ) → Below p byte top (laid, 1) → EntryLow p top byte (entryAt t i) → All (EntryLow p top byte) es
 
-pub record LinesDone (exclude source t t' : List ℕ) (i from end : ℕ) (mark : Bool) (number : ℕ) (mark' : Bool) : Type 0 where
+pub record LinesDone (exclude source t t' : List ℕ) (i from end : ℕ) (mark : Bool) (laid number : ℕ) (mark' : Bool) : Type 0 where
   pub zero-or : (number ≡ 0) ⊎ (number ≡ 13)
-  pub done : number ≡ 0 → CutLines t t' i (linesFrom exclude source mark from end .starts)
+  pub done : number ≡ 0 → CutLines t t' i laid (linesFrom exclude source mark from end .starts)
   pub mark-is : number ≡ 0 → mark' ≡ linesFrom exclude source mark from end .mark
   pub past : number ≡ 13 → CHUNKS + 1 < countOf t + parts (entryAt t i .start) (linesFrom exclude source mark from end .starts)

@@ -3,7 +3,6 @@ use mathlib.Core.Path.{_≡_}
 use mathlib.Core.List.{List, _∷_, _++_, map}
 use Prim.Native.Nat.{ℕ, _+_, _≤_, _<_}
 use lib.ListN.{length}
-use Rattle.memory_layout.specs.Layout.{PIECE-ROWS}
 use Rattle.memory_table.specs.declared.Row.{Row}
 use Rattle.memory_table.specs.Ring.{Not}
 use Rattle.memory_table.specs.Table.{rowAt}
@@ -15,9 +14,9 @@ use Rattle.memory_list.specs.Split.{first, second}
 abbrev pub withIntro : Place → Entry → Entry
 withIntro r e = record { start = e .start; end = e .end; intro = r; outro = e .outro; text = e .text }
 
--- the indentor alone as the intro: the first row behind the lent pieces
-abbrev pub begun : Entry → Entry
-begun e = withIntro (PIECE-ROWS, 1) e
+-- the indentor alone as the intro: its piece row is `laid`
+abbrev pub begun : ℕ → Entry → Entry
+begun laid e = withIntro (laid, 1) e
 
 abbrev pub withText : Place → Entry → Entry
 withText r e = record { start = e .start; end = e .end; intro = e .intro; outro = e .outro; text = r }
@@ -44,12 +43,12 @@ pub record Spliced (t t' : List ℕ) (i : ℕ) (es : List Entry) : Type 0 where
 
 -- ---- the row cut at q: row n, behind it, begins with the indentor
 
-pub record CutPart (t t' : List ℕ) (i n q : ℕ) : Type 0 where
+pub record CutPart (t t' : List ℕ) (i n q laid : ℕ) : Type 0 where
   pub linked : Linked t'
   pub number : n ≡ countOf t + 1
   pub order-is : (us bs : List ℕ) → order t ≡ us ++ i ∷ bs → order t' ≡ us ++ i ∷ n ∷ bs
   pub here : entryAt t' i ≡ first q (entryAt t i)
-  pub new : entryAt t' n ≡ begun (second q (entryAt t i))
+  pub new : entryAt t' n ≡ begun laid (second q (entryAt t i))
   pub off : (a : ℕ) → 0 < a → a ≤ countOf t → Not i a → entryAt t' a ≡ entryAt t a
   pub desk : runsOf (rowAt t' 0) ≡ runsOf (rowAt t 0)
   pub count : countOf t' ≡ countOf t + 1

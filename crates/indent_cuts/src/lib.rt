@@ -10,22 +10,18 @@ ghost use Rattle.memory_list.specs.Insert.{Placed};
 ghost use Rattle.indent_cuts.specs.Splice.{CutPart};
 ghost use Rattle.indent_cuts.specs.Lines.{LinesReady, LinesDone};
 
-// Row i cut at q: the new row begins with the indentor. Returns its number.
-pub fn cut_part(t: &mut [u32], i: u32, q: u32) -> u32
+// Row i cut at q: the new row begins with the indentor, whose piece row is `laid`. Returns its number.
+pub fn cut_part(t: &mut [u32], i: u32, q: u32, laid: u32) -> u32
     requires { ⌜ Linked (now t) ⌝ }
     requires { ⌜ Placed (now t) i ⌝ }
     requires { ⌜ ((countOf (now t) + 1) * ROW + ROW ≤ length (now t)) × (length (now t) ≤ 4294967296) ⌝ }
-    ensures { λ n. ⌜ CutPart (now (t .entry)) (now (t .exit)) i n q ⌝ }
+    ensures { λ n. ⌜ CutPart (now (t .entry)) (now (t .exit)) i n q laid ⌝ }
 {
     let z = memory_table::get_row(t, 0);
     let n = z.start + 1;
     memory_list::split_row(t, i, q);
     let r = memory_table::get_row(t, n);
-    memory_table::put_row(
-        t,
-        n,
-        memory_table::with_side(r, false, memory_layout::NEW_ROW, 1),
-    );
+    memory_table::put_row(t, n, memory_table::with_side(r, false, laid, 1));
     n
 }
 
@@ -53,9 +49,10 @@ pub fn cut_lines(
     from: u32,
     end: u32,
     mark: bool,
+    laid: u32,
 ) -> Cut
     requires { ⌜ LinesReady (now source) (now t) i from end ⌝ }
-    ensures { λ r. ⌜ LinesDone (now (exclude .entry)) (now (source .entry)) (now (t .entry)) (now (t .exit)) i from end mark (r .number) (r .mark) ⌝ }
+    ensures { λ r. ⌜ LinesDone (now (exclude .entry)) (now (source .entry)) (now (t .entry)) (now (t .exit)) i from end mark laid (r .number) (r .mark) ⌝ }
 {
     let mut cur = i;
     let mut at = from;
@@ -75,7 +72,7 @@ pub fn cut_lines(
                 mark: m,
             };
         }
-        cur = cut_part(t, cur, x);
+        cur = cut_part(t, cur, x, laid);
         at = x + 1;
         m = false;
     }

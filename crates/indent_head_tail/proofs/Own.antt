@@ -2,11 +2,10 @@
 use mathlib.Core.Path.{_≡_, refl, sym, ap, _∙_, subst}
 use mathlib.Core.Bool.{Bool, true, false}
 use mathlib.Core.List.{List, [], _∷_, _++_, append-nil}
-use Prim.Native.Nat.{ℕ, _+_, _≤_, _<_}
+use Prim.Native.Nat.{ℕ, zero, suc, _+_, _-_, _≤_, _<_}
 use native.Mathlib.Omega.{arith}
 use native.Mathlib.Nat.{add-zero}
 use lib.ListN.{length, take}
-use Rattle.memory_layout.specs.Layout.{PIECE-ROWS, STORE-LEN}
 use Rattle.utf8.specs.Chars.{concat}
 use Rattle.memory_table.specs.Table.{rowAt, Put}
 use Rattle.memory_table.specs.Order.{entryAt}
@@ -88,22 +87,57 @@ module _ (outro : Bool) (indentor : Text) (mark : Bool) (pieces store t p s : Li
 
 -- ---- the indentor
 
-module _ (indentor p s : List ℕ) where
-  pub laid-none : STORE-LEN < length indentor → Laid indentor p s p s
-  laid-none h = record { rows = rows-same PIECE-ROWS p; bytes = bytes-same STORE-LEN s; row = λ k. absurd (omega arith) }
+module _ (indentor p s : List ℕ) (top byte laid : ℕ) (w : LayRoom p s top byte laid) where
+  pub laid-before : (laid ≡ 0 → ⊥) → Laid indentor p s top byte laid p s true top byte laid
+  laid-before n =
+      let g : 0 < laid = positive laid n in
+      record {
+        done = λ _.
+            record {
+              rows = rows-same top p;
+              bytes = bytes-same byte s;
+              top-up = omega arith;
+              byte-up = omega arith;
+              byte-in = w .byte-in;
+              some = g;
+              text = λ f. f g;
+              low = λ f. f g;
+              rows-used = omega arith;
+              bytes-used = omega arith;
+            };
+        short = λ k. clash refl k;
+      }
+    where
+      positive : (n : ℕ) → (n ≡ 0 → ⊥) → 0 < n
+      positive zero z = absurd (z refl)
+      positive (suc n) z = omega arith
 
-  module _ (w : LayRoom p s) (l : length indentor ≤ STORE-LEN) where
-    pub lay-room : RoomFor indentor p s STORE-LEN PIECE-ROWS
-    lay-room = record { row-in = omega (arith, w .rows); bytes-in = omega (arith, w .bytes); narrow = w .narrow }
+  pub laid-short : length s - byte < length indentor → Laid indentor p s top byte laid p s false top byte laid
+  laid-short l = record { done = λ k. clash k refl; short = λ _. omega (arith, w .byte-in) }
 
-    pub laid-one : (p' s' : List ℕ) (byte' : ℕ) → Pushed indentor p s STORE-LEN PIECE-ROWS p' s' byte' → Laid indentor p s p' s'
-    laid-one p' s' byte' x =
+  module _ (z : laid ≡ 0) (l : length indentor ≤ length s - byte) where
+    pub lay-room : RoomFor indentor p s byte top
+    lay-room = record { row-in = omega (arith, w .rows); bytes-in = omega (arith, w .byte-in); narrow = w .narrow }
+
+    pub laid-now : (p' s' : List ℕ) (byte' : ℕ) → Pushed indentor p s byte top p' s' byte' → Laid indentor p s top byte laid p' s' true (top + 1) byte' top
+    laid-now p' s' byte' x =
         let one : List Text = indentor ∷ [] in
         let e : length (concat one) ≡ length indentor = ap length (concat-one indentor) in
-        let r : RoomOf one p s STORE-LEN PIECE-ROWS = record { rows-in = omega (arith, w .rows); bytes-in = omega (arith, w .bytes); rows-narrow = w .rows-narrow; narrow = w .narrow } in
+        let r : RoomOf one p s byte top = record { rows-in = omega (arith, w .rows); bytes-in = omega (arith, w .byte-in); rows-narrow = w .rows-narrow; narrow = w .narrow } in
         let k = run-put (carried-one x) r in
         record {
-          rows = k .rows;
-          bytes = k .bytes;
-          row = λ _. record { text = k .run; low = λ j h. (k .low j h .0, omega (arith, k .low j h .1, k .byte-is)) };
+          done = λ _.
+              record {
+                rows = k .rows;
+                bytes = k .bytes;
+                top-up = omega arith;
+                byte-up = omega (arith, k .byte-is);
+                byte-in = k .byte-in;
+                some = w .above;
+                text = λ _. k .run;
+                low = λ _. k .low;
+                rows-used = omega arith;
+                bytes-used = omega (arith, k .byte-is);
+              };
+          short = λ k. clash refl k;
         }

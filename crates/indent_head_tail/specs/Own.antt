@@ -1,10 +1,10 @@
 -- The head or the tail indented, with row 0 naming the new run; and the indentor as a piece of its own.
 use mathlib.Core.Path.{_≡_}
-use mathlib.Core.Bool.{Bool}
+use mathlib.Core.Bool.{Bool, true, false}
 use mathlib.Core.List.{List, [], _∷_}
-use Prim.Native.Nat.{ℕ, _+_, _*_, _^_, _≤_, _<_}
+use Prim.Native.Nat.{ℕ, _+_, _*_, _-_, _^_, _≤_, _<_}
 use lib.ListN.{length}
-use Rattle.memory_layout.specs.Layout.{PIECE, PIECE-ROWS, STORE-LEN, INDENT-ROW, INDENT-BYTE}
+use Rattle.memory_layout.specs.Layout.{PIECE}
 use Rattle.utf8.specs.Chars.{concat}
 use Rattle.memory_table.specs.declared.Row.{Row}
 use Rattle.memory_table.specs.Table.{rowAt}
@@ -52,17 +52,27 @@ pub record OwnDone (outro : Bool) (indentor : Text) (mark : Bool) (ts : List Tex
 
 -- ---- the indentor
 
-pub record LayRoom (p s : List ℕ) : Type 0 where
-  pub rows : INDENT-ROW * PIECE ≤ length p
-  pub bytes : INDENT-BYTE ≤ length s
+-- room for it as a piece, where it is none (`laid` is 0)
+pub record LayRoom (p s : List ℕ) (top byte laid : ℕ) : Type 0 where
+  pub above : 0 < top
+  pub rows : (top + (1 - laid)) * PIECE ≤ length p
   pub rows-narrow : length p < 2 ^ 32
+  pub byte-in : byte ≤ length s
   pub narrow : length s < 2 ^ 32
 
-pub record LaidRow (indentor p' s' : List ℕ) : Type 0 where
-  pub text : runOf p' s' (PIECE-ROWS, 1) ≡ indentor ∷ []
-  pub low : Below p' INDENT-BYTE INDENT-ROW (PIECE-ROWS, 1)
+-- its row is laid'
+pub record LaidRow (indentor p s : List ℕ) (top byte laid : ℕ) (p' s' : List ℕ) (top' byte' laid' : ℕ) : Type 0 where
+  pub rows : RowsKept top p p'
+  pub bytes : BytesKept byte s s'
+  pub top-up : top ≤ top'
+  pub byte-up : byte ≤ byte'
+  pub byte-in : byte' ≤ length s'
+  pub some : 0 < laid'
+  pub text : (0 < laid → runOf p s (laid, 1) ≡ indentor ∷ []) → runOf p' s' (laid', 1) ≡ indentor ∷ []
+  pub low : (0 < laid → Below p byte top (laid, 1)) → Below p' byte' top' (laid', 1)
+  pub rows-used : top' ≤ top + (1 - laid)
+  pub bytes-used : byte' ≤ byte + length indentor
 
-pub record Laid (indentor p s p' s' : List ℕ) : Type 0 where
-  pub rows : RowsKept PIECE-ROWS p p'
-  pub bytes : BytesKept STORE-LEN s s'
-  pub row : length indentor ≤ STORE-LEN → LaidRow indentor p' s'
+pub record Laid (indentor p s : List ℕ) (top byte laid : ℕ) (p' s' : List ℕ) (fits : Bool) (top' byte' laid' : ℕ) : Type 0 where
+  pub done : fits ≡ true → LaidRow indentor p s top byte laid p' s' top' byte' laid'
+  pub short : fits ≡ false → length s < byte + length indentor

@@ -73,19 +73,48 @@ pub fn indent_at(
     }
 }
 
-// The indentor as the first piece row behind the lent ones, with its bytes behind the lent ones. One that no store holds has no row.
-pub fn lay_indentor(p: &mut [u32], s: &mut [u8], indentor: &[u8])
-    requires { ⌜ LayRoom (now p) (now s) ⌝ }
-    ensures { λ _. ⌜ Laid (now (indentor .entry)) (now (p .entry)) (now (s .entry)) (now (p .exit)) (now (s .exit)) ⌝ }
+// Whether the indentor is a piece; then the piece row and the byte behind those in use, and its row.
+pub struct LaidAt {
+    pub fits: bool,
+    pub top: u32,
+    pub byte: u32,
+    pub laid: u32,
+}
+
+// The indentor as a piece: as it is laid already, or (`laid` is 0) at row top, with its bytes from `byte` on.
+pub fn lay_indentor(
+    p: &mut [u32],
+    s: &mut [u8],
+    indentor: &[u8],
+    top: u32,
+    byte: u32,
+    laid: u32,
+) -> LaidAt
+    requires { ⌜ LayRoom (now p) (now s) top byte laid ⌝ }
+    ensures { λ r. ⌜ Laid (now (indentor .entry)) (now (p .entry)) (now (s .entry)) top byte laid (now (p .exit)) (now (s .exit)) (r .fits) (r .top) (r .byte) (r .laid) ⌝ }
 {
-    if indentor.len() > memory_layout::STORE_LEN {
-        return;
+    if laid != 0 {
+        return LaidAt {
+            fits: true,
+            top,
+            byte,
+            laid,
+        };
     }
-    memory_copy::push_piece(
-        p,
-        s,
-        indentor,
-        memory_layout::STORE_LEN,
-        memory_layout::PIECE_ROWS,
-    );
+    let at = byte as usize;
+    if s.len() - at < indentor.len() {
+        return LaidAt {
+            fits: false,
+            top,
+            byte,
+            laid,
+        };
+    }
+    let end = memory_copy::push_piece(p, s, indentor, at, top as usize);
+    LaidAt {
+        fits: true,
+        top: top + 1,
+        byte: end as u32,
+        laid: top,
+    }
 }

@@ -60,11 +60,10 @@ fn write_indented(
     }
 }
 
-// What the walk leaves: 0, or 13 where the chunks pass a limit; the mark behind them; the piece row and the byte behind those in use.
-pub struct Walked {
+// What a replacement leaves: 0, or 13 where it does not fit; the mark and the byte behind it.
+pub struct NewText {
     pub number: u32,
     pub mark: bool,
-    pub top: u32,
     pub byte: u32,
 }
 
@@ -76,28 +75,25 @@ pub fn indent_replacement(
     s: &mut [u8],
     i: u32,
     mark: bool,
-    top: u32,
     byte: u32,
-) -> Walked
+) -> NewText
     requires { ⌜ ReplacementReady (now store) (now t) (now s) i byte ⌝ }
-    ensures { λ r. ⌜ (r .top ≡ top) × ReplacementDone (now (indentor .entry)) (now (store .entry)) (now (t .entry)) (now (s .entry)) i mark byte
+    ensures { λ r. ⌜ ReplacementDone (now (indentor .entry)) (now (store .entry)) (now (t .entry)) (now (s .entry)) i mark byte
         (now (t .exit)) (now (s .exit)) (r .number) (r .mark) (r .byte) ⌝ }
 {
     let r = memory_table::get_row(t, i);
     let w = write_indented(store, indentor, s, r.text_at, r.text_n, byte, mark);
     if !w.fits {
-        return Walked {
+        return NewText {
             number: 13,
             mark,
-            top,
             byte,
         };
     }
     memory_table::put_row(t, i, with_text(r, byte, w.end - byte));
-    Walked {
+    NewText {
         number: 0,
         mark: w.mark,
-        top,
         byte: w.end,
     }
 }

@@ -5,7 +5,6 @@ use mathlib.Core.List.{List, [], _∷_}
 use Prim.Native.Nat.{ℕ, zero, suc, _+_, _-_, _<_}
 use native.Mathlib.Omega.{arith}
 use lib.ListN.{length}
-use Rattle.memory_layout.specs.Layout.{PIECE-ROWS}
 use Rattle.memory_table.specs.declared.Piece.{Piece}
 use Rattle.memory_table.specs.declared.Row.{Row}
 use Rattle.memory_table.specs.Table.{rowAt, Put}
@@ -26,9 +25,9 @@ use Rattle.indent_source_chunk.specs.Begin.{PrefixRoom, Prefixed, BeginR
 
 -- ---- rows
 
-pub prefixed : (p p1 p2 : List ℕ) (at n top : ℕ) (r : Piece) → PrefixRoom p at n top
-    → r ≡ rows.pieceAt p PIECE-ROWS → rows.PutPiece p p1 top r → length p1 ≡ length p → Copied p1 p2 at n (top + 1) → Prefixed p p2 at n top
-prefixed p p1 p2 at n top r h e w m c =
+pub prefixed : (p p1 p2 : List ℕ) (at n top laid : ℕ) (r : Piece) → PrefixRoom p at n top laid
+    → r ≡ rows.pieceAt p laid → rows.PutPiece p p1 top r → length p1 ≡ length p → Copied p1 p2 at n (top + 1) → Prefixed p p2 at n top laid
+prefixed p p1 p2 at n top laid r h e w m c =
     record {
       kept = record { len = c .kept .len ∙ m; rows = λ j k. c .kept .rows j (omega arith) ∙ pair (w .off j (λ z. omega arith)) };
       first = c .kept .rows top (omega arith) ∙ pair (w .here) ∙ sym (pair (sym e));
@@ -50,12 +49,12 @@ first-of : List Text → Text
 first-of [] = []
 first-of (x ∷ l) = x
 
-module _ {p p' : List ℕ} {at n top : ℕ} (c : Prefixed p p' at n top) where
-  prefixed-text : (s indentor : List ℕ) → runOf p s (PIECE-ROWS, 1) ≡ indentor ∷ [] → runOf p' s (top, n + 1) ≡ indentor ∷ runOf p s (at, n)
+module _ {p p' : List ℕ} {at n top laid : ℕ} (c : Prefixed p p' at n top laid) where
+  prefixed-text : (s indentor : List ℕ) → runOf p s (laid, 1) ≡ indentor ∷ [] → runOf p' s (top, n + 1) ≡ indentor ∷ runOf p s (at, n)
   unfolding first-of
   prefixed-text s indentor e =
       let q : n + 1 ≡ suc n = omega arith in
-      let x : bytesAt s (pieceAt p PIECE-ROWS) ≡ indentor = ap first-of (sym (run-cons p s PIECE-ROWS 0) ∙ e) in
+      let x : bytesAt s (pieceAt p laid) ≡ indentor = ap first-of (sym (run-cons p s laid 0) ∙ e) in
       ap (λ (k : ℕ). runOf p' s (top, k)) q
       ∙ run-cons p' s top n
       ∙ ap₂ (λ (y : Text) (l : List Text). y ∷ l) (ap (bytesAt s) (c .first) ∙ x)
@@ -63,10 +62,11 @@ module _ {p p' : List ℕ} {at n top : ℕ} (c : Prefixed p p' at n top) where
       ∙ tabulate-ext (λ k. bytesAt s (pieceAt p' (top + 1 + k))) (λ k. bytesAt s (pieceAt p (at + k))) n (λ k h. ap (bytesAt s) (c .others k h))
       ∙ sym (run-tabulate p s at n))
 
-  prefixed-low : (byte : ℕ) → Below p byte top (PIECE-ROWS, 1) → Below p byte top (at, n) → Below p' byte (top + n + 1) (top, n + 1)
+  prefixed-low : (byte : ℕ) → Below p byte top (laid, 1) → Below p byte top (at, n) → Below p' byte (top + n + 1) (top, n + 1)
   prefixed-low byte i h zero g =
       let z : top + 0 ≡ top = omega arith in
-      let e = ap (λ (x : Place). x .0 + x .1) (ap (pieceAt p') z ∙ c .first) in
+      let y : laid + 0 ≡ laid = omega arith in
+      let e = ap (λ (x : Place). x .0 + x .1) (ap (pieceAt p') z ∙ c .first ∙ ap (pieceAt p) (sym y)) in
       (omega arith, omega (arith, i 0 (omega arith) .1))
   prefixed-low byte i h (suc k) g =
       let z : top + suc k ≡ top + 1 + k = omega arith in
@@ -75,12 +75,12 @@ module _ {p p' : List ℕ} {at n top : ℕ} (c : Prefixed p p' at n top) where
 
 -- ---- row i
 
-module _ {t p : List ℕ} {i top : ℕ} (h : BeginReady t p i top) (r : Row) (er : r ≡ rowAt t i) where
+module _ {t p : List ℕ} {i top laid : ℕ} (h : BeginReady t p i top laid) (r : Row) (er : r ≡ rowAt t i) where
   entry-is : entryOf r ≡ entryAt t i
   entry-is = ap entryOf er
 
   -- an intro with pieces lies below top
-  pub begin-room : (r .«intro_n» ≡ 0 → ⊥) → PrefixRoom p (r .«intro_at») (r .«intro_n») top
+  pub begin-room : (r .«intro_n» ≡ 0 → ⊥) → PrefixRoom p (r .«intro_at») (r .«intro_n») top laid
   begin-room z =
       let e = ap (λ (x : Entry). x .intro .0) entry-is in
       let n = ap (λ (x : Entry). x .intro .1) entry-is in
@@ -101,12 +101,12 @@ module _ {t p : List ℕ} {i top : ℕ} (h : BeginReady t p i top) (r : Row) (er
     row-with run c = intro-set run (h .linked) (h .placed) er c u m
 
     -- no piece: the indentor's own row
-    pub begun-alone : r .«intro_n» ≡ 0 → q ≡ with-side false (PIECE-ROWS, 1) r → Begun t p i top t' p top
+    pub begun-alone : r .«intro_n» ≡ 0 → q ≡ with-side false (laid, 1) r → Begun t p i top laid t' p top
     begun-alone z c =
         let n : entryAt t i .intro .1 ≡ 0 = sym (ap (λ (x : Entry). x .intro .1) entry-is) ∙ z in
         record {
-          run = (PIECE-ROWS, 1);
-          set = row-with (PIECE-ROWS, 1) c;
+          run = (laid, 1);
+          set = row-with (laid, 1) c;
           len = m;
           kept = rows-same top p;
           text = λ s indentor e. e ∙ ap (λ (l : List Text). indentor ∷ l) (sym (ap (λ (k : ℕ). runOf p s (entryAt t i .intro .0, k)) n ∙ no-run p s (entryAt t i .intro .0)));
@@ -116,7 +116,7 @@ module _ {t p : List ℕ} {i top : ℕ} (h : BeginReady t p i top) (r : Row) (er
         }
 
     -- else the copy
-    pub begun-copied : (p' : List ℕ) → Prefixed p p' (r .«intro_at») (r .«intro_n») top → q ≡ with-side false (top, r .«intro_n» + 1) r → Begun t p i top t' p' (top + r .«intro_n» + 1)
+    pub begun-copied : (p' : List ℕ) → Prefixed p p' (r .«intro_at») (r .«intro_n») top laid → q ≡ with-side false (top, r .«intro_n» + 1) r → Begun t p i top laid t' p' (top + r .«intro_n» + 1)
     begun-copied p' d c =
         let x : _≡_ {A = Place} (r .«intro_at», r .«intro_n») (entryAt t i .intro) = ap (λ (y : Entry). y .intro) entry-is in
         let n = ap (λ (y : Entry). y .intro .1) entry-is in

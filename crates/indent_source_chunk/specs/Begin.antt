@@ -3,7 +3,6 @@ use mathlib.Core.Path.{_≡_}
 use mathlib.Core.List.{List, [], _∷_}
 use Prim.Native.Nat.{ℕ, _+_, _*_, _≤_, _<_}
 use lib.ListN.{length}
-use Rattle.memory_layout.specs.Layout.{PIECE-ROWS}
 use Rattle.memory_table.specs.Order.{entryAt, Linked}
 use Rattle.memory.specs.Layout.{Place, pieceAt, runOf}
 use Rattle.memory_used.specs.Below.{Below}
@@ -15,34 +14,34 @@ use Rattle.indent_cuts.specs.Splice.{withIntro}
 -- ---- rows
 
 -- room for n + 1 rows from row top on, behind the indentor's row and those that are copied
-pub record PrefixRoom (p : List ℕ) (at n top : ℕ) : Type 0 where
+pub record PrefixRoom (p : List ℕ) (at n top laid : ℕ) : Type 0 where
   pub below : at + n ≤ top
-  pub indentor : PIECE-ROWS < top
+  pub indentor : laid < top
   pub room : (top + (n + 1)) * 2 ≤ length p
   pub narrow : length p ≤ 4294967296
 
 -- row top is the indentor's, and the n rows behind it are the rows at .. at + n - 1
-pub record Prefixed (p p' : List ℕ) (at n top : ℕ) : Type 0 where
+pub record Prefixed (p p' : List ℕ) (at n top laid : ℕ) : Type 0 where
   pub kept : RowsKept top p p'
-  pub first : pieceAt p' top ≡ pieceAt p PIECE-ROWS
+  pub first : pieceAt p' top ≡ pieceAt p laid
   pub others : (j : ℕ) → j < n → pieceAt p' (top + 1 + j) ≡ pieceAt p (at + j)
 
 -- ---- row i
 
-pub record BeginReady (t p : List ℕ) (i top : ℕ) : Type 0 where
+pub record BeginReady (t p : List ℕ) (i top laid : ℕ) : Type 0 where
   pub linked : Linked t
   pub placed : Placed t i
   pub below : (k : ℕ) → k < entryAt t i .intro .1 → entryAt t i .intro .0 + k < top
-  pub indentor : PIECE-ROWS < top
+  pub indentor : laid < top
   pub room : (top + (entryAt t i .intro .1 + 1)) * 2 ≤ length p
   pub narrow : length p ≤ 4294967296
 
-pub record Begun (t p : List ℕ) (i top : ℕ) (t' p' : List ℕ) (top' : ℕ) : Type 0 where
+pub record Begun (t p : List ℕ) (i top laid : ℕ) (t' p' : List ℕ) (top' : ℕ) : Type 0 where
   pub run : Place
   pub set : RowSet t t' i (withIntro run (entryAt t i))
   pub len : length t' ≡ length t
   pub kept : RowsKept top p p'
-  pub text : (s indentor : List ℕ) → runOf p s (PIECE-ROWS, 1) ≡ indentor ∷ [] → runOf p' s run ≡ indentor ∷ runOf p s (entryAt t i .intro)
-  pub low : (byte : ℕ) → Below p byte top (PIECE-ROWS, 1) → Below p byte top (entryAt t i .intro) → Below p' byte top' run
+  pub text : (s indentor : List ℕ) → runOf p s (laid, 1) ≡ indentor ∷ [] → runOf p' s run ≡ indentor ∷ runOf p s (entryAt t i .intro)
+  pub low : (byte : ℕ) → Below p byte top (laid, 1) → Below p byte top (entryAt t i .intro) → Below p' byte top' run
   pub up : top ≤ top'
   pub used : top' ≤ top + (entryAt t i .intro .1 + 1)

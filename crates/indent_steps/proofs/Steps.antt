@@ -9,7 +9,7 @@ use lib.Dec.{leb}
 use lib.ListN.{length, take}
 use lib.Seq.{take-at, take-take}
 use borrow.Author.Tests.{leb-true}
-use Rattle.memory_layout.specs.Layout.{SOURCE-BYTES, CHUNKS, PIECES, PIECE-ROWS, PIECES-LEN, STORE-LEN, INDENT-ROW, INDENT-BYTE}
+use Rattle.memory_layout.specs.Layout.{SOURCE-BYTES, CHUNKS, PIECES, PIECE-ROWS, PIECES-LEN, STORE-LEN}
 use Rattle.utf8.specs.Chars.{All, nil, cons, concat}
 use Rattle.memory_table.specs.Order.{Entry, entryAt, entries}
 use Rattle.model.specs.Text.{sum}
@@ -22,18 +22,17 @@ use Rattle.model.proofs.Lists.{concat-sum, and-left, and-right}
 use Rattle.memory.specs.Layout.{Place, runOf, chunkOf, magicStringOf}
 use Rattle.memory.specs.WellFormed.{RunIn, ReplacementIn, EntryIn}
 use Rattle.memory.proofs.Desks.{piece-front, desk-same}
-use Rattle.memory_texts.proofs.Over.{part-kept}
 use Rattle.memory_texts.proofs.Texts.{run-length}
 use Rattle.memory_used.specs.Below.{Below}
 use Rattle.edit_scratch.proofs.Front.{chunks-front}
 use Rattle.edit_scratch.proofs.Tables.{few-chunks}
 use Rattle.memory_texts.specs.Low.{RowsKept, BytesKept, TextLow, EntryLow}
-use Rattle.memory_texts.proofs.Low.{run-same, run-still, entries-same, entries-still}
+use Rattle.memory_texts.proofs.Low.{entries-same, entries-still}
 use Rattle.model_indent_closed.specs.Indent.{indented-chunks}
 use Rattle.model_indent_closed.specs.Indent.{indented}
 use Rattle.model_indent_closed.proofs.Walk.{indent-by-closed}
 use Rattle.model_indent_closed.proofs.Growth.{past-chunks, past-bytes}
-use Rattle.indent_head_tail.specs.Own.{Runs, OwnReady, OwnDone, Laid}
+use Rattle.indent_head_tail.specs.Own.{Runs, OwnReady, OwnDone}
 use Rattle.indent_head_tail.proofs.Own.{OwnIndented}
 use Rattle.indent_chunks.specs.Walk.{chunksOf, closedOf, bodyOf}
 use Rattle.model_preservation.proofs.Indent.{pieces-length}
@@ -65,14 +64,6 @@ text-low p s e h n = h .replacement n
 texts-low : (p s : List ℕ) {es : List Entry} → All (EntryIn p s) es → All (λ e. TextLow (length s) (e .text)) es
 texts-low p s nil = nil
 texts-low p s (cons {x = e} h k) = cons (text-low p s e h) (texts-low p s k)
-
--- ---- tables that grow twice
-
-rows-then : {a b : ℕ} {p q r : List ℕ} → a ≤ b → RowsKept a p q → RowsKept b q r → RowsKept a p r
-rows-then h x y = record { len = y .len ∙ x .len; rows = λ j k. y .rows j (omega arith) ∙ x .rows j k }
-
-bytes-then : {a b : ℕ} {p q r : List ℕ} → a ≤ b → BytesKept a p q → BytesKept b q r → BytesKept a p r
-bytes-then {a} {b} {p} {q} {r} h x y = record { len = y .len ∙ x .len; bytes = part-kept a 0 b q r (y .bytes) (omega arith) ∙ x .bytes }
 
 -- ---- the limits
 
@@ -116,153 +107,146 @@ module _ (indentor exclude source t p s p1 s1 : List ℕ) (w : StepsReady source
   past-is : within full (indented indentor exclude m) ≡ false → within full (indent-by indentor exclude m .desk) ≡ false
   past-is e = ap (λ (x : Result). within full (x .desk)) closed-is ∙ e
 
-  module _ {p2 s2 : List ℕ} (y : Laid indentor p1 s1 p2 s2) where
-    pub head-ready : OwnReady false p s t p2 s2 INDENT-ROW INDENT-BYTE
-    head-ready =
+  pub head-ready : OwnReady false p s t p1 s1 PIECE-ROWS STORE-LEN
+  head-ready =
+      record {
+        linked = w .readable .linked;
+        run =
+            record {
+              inside = w .readable .desk .intro;
+              valid = intro-valid;
+              rows = omega (arith, counted, w .long-pieces);
+              rows-narrow = omega (arith, w .long-pieces);
+              byte-in = omega (arith, w .long-store);
+              narrow = omega (arith, w .long-store);
+            };
+      }
+
+  module _ {t3 p3 s3 : List ℕ} {fits mark : Bool} {byte : ℕ} (d : OwnIndented false indentor true (runOf p s (entryAt t 0 .intro)) t p1 s1 PIECE-ROWS STORE-LEN t3 p3 s3 fits mark byte) where
+    -- the head alone is too long
+    pub steps-head : fits ≡ false → (t' p' s' : List ℕ) → IndentSteps indentor exclude source t p s t' p' s' 13
+    unfolding indented magicStringOf
+    steps-head e t' p' s' =
         record {
-          linked = w .readable .linked;
-          run =
-              record {
-                inside = w .readable .desk .intro;
-                valid = intro-valid;
-                rows = omega (arith, counted, y .rows .len, w .long-pieces);
-                rows-narrow = omega (arith, y .rows .len, w .long-pieces);
-                byte-in = omega (arith, y .bytes .len, w .long-store);
-                narrow = omega (arith, y .bytes .len, w .long-store);
-              };
+          zero-or = inr refl;
+          did = λ e. absurd (omega arith);
+          past = λ _. past-is (past-bytes full (indented indentor exclude m) (omega (arith, d .short e, w .long-store, concat-sum (head .pieces))));
         }
 
-    module _ {t3 p3 s3 : List ℕ} {fits mark : Bool} {byte : ℕ} (d : OwnIndented false indentor true (runOf p s (entryAt t 0 .intro)) t p2 s2 INDENT-ROW INDENT-BYTE t3 p3 s3 fits mark byte) where
-      -- the head alone is too long
-      pub steps-head : fits ≡ false → (t' p' s' : List ℕ) → IndentSteps indentor exclude source t p s t' p' s' 13
-      unfolding indented magicStringOf
-      steps-head e t' p' s' =
+    module _ (e : fits ≡ true) where
+      o : OwnDone false indentor true (runOf p s (entryAt t 0 .intro)) t p1 s1 PIECE-ROWS STORE-LEN t3 p3 s3 mark byte
+      o = d .done e
+
+      rows-kept : RowsKept PIECE-ROWS p1 p3
+      rows-kept = o .put .rows
+
+      bytes-kept : BytesKept STORE-LEN s1 s3
+      bytes-kept = o .put .bytes
+
+      up : STORE-LEN ≤ byte
+      up = omega (arith, o .put .byte-is)
+
+      low : All (EntryLow p1 PIECE-ROWS STORE-LEN) (entries t)
+      low = subst (λ (x : List ℕ). All (EntryLow x PIECE-ROWS STORE-LEN) (entries t)) (sym (w .pieces-is)) (entries-low p s (w .behind) (w .pieces) (w .store) (w .readable .chunks))
+
+      chunks-are : chunksOf t3 p3 s3 ≡ chunksOf t p s
+      chunks-are =
+          ap (map (chunkOf p3 s3)) (o .desk .chunks)
+          ∙ entries-same PIECE-ROWS STORE-LEN p1 s1 p3 s3 rows-kept bytes-kept low
+          ∙ ap₂ (λ (x z : List ℕ). map (chunkOf x z) (entries t)) (w .pieces-is) (w .store-is)
+          ∙ chunks-front p s (w .behind) (w .after) (w .readable .chunks)
+
+      formed : model.Formed (bodyOf source (chunksOf t p s))
+      unfolding magicStringOf
+      formed = let f = w .desk .formed in record { source = f .source; covered = f .covered; intro = nil; outro = nil; texts = f .texts }
+
+      head-length : length (head .pieces) ≡ entryAt t 0 .intro .1
+      head-length = pieces-length indentor true (runOf p s (entryAt t 0 .intro)) ∙ run-length p s (entryAt t 0 .intro .0) (entryAt t 0 .intro .1)
+
+      head-at : entryAt t3 0 .intro ≡ (PIECE-ROWS, length (head .pieces))
+      head-at = ap (λ (x : Runs). x .0) (o .desk .desk) ∙ ap (λ (n : ℕ). (PIECE-ROWS, n)) (sym head-length)
+
+      tail-at : entryAt t3 0 .outro ≡ entryAt t 0 .outro
+      tail-at = ap (λ (x : Runs). x .1) (o .desk .desk)
+
+      store-front : take (length s) s3 ≡ s
+      store-front =
+          sym (take-take (length s) STORE-LEN s3 (w .store)) ∙ ap (take (length s)) (bytes-kept .bytes)
+          ∙ take-take (length s) STORE-LEN s1 (w .store) ∙ ap (take (length s)) (w .store-is) ∙ take-at s (w .after) (length s) refl
+
+      -- the rows behind the head are free
+      pub rest-ready : (top : ℕ) → top ≡ PIECE-ROWS + entryAt t 0 .intro .1 → RestReady source p s t3 p3 s3 top byte
+      rest-ready top n =
+          let head-low : Below p3 byte top (PIECE-ROWS, length (head .pieces)) = λ k h. let b = o .put .low k h in (omega (arith, b .0, head-length), b .1) in
           record {
-            zero-or = inr refl;
-            did = λ e. absurd (omega arith);
-            past = λ _. past-is (past-bytes full (indented indentor exclude m) (omega (arith, d .short e, y .bytes .len, w .long-store, concat-sum (head .pieces))));
+            walk =
+                record {
+                  linked = o .desk .linked;
+                  formed = subst (λ (x : List Chunk). model.Formed (bodyOf source x)) (sym chunks-are) formed;
+                  low = subst (All (EntryLow p3 top byte)) (sym (o .desk .chunks)) (entries-still PIECE-ROWS STORE-LEN p1 p3 rows-kept top byte (omega arith) (omega (arith, up)) low);
+                  texts-low = subst (All (λ e. TextLow (length s) (e .text))) (sym (o .desk .chunks)) (texts-low p s (w .readable .chunks));
+                  store-front = store-front;
+                  store-low = omega (arith, up, w .store);
+                  above = omega arith;
+                  few = omega (arith, o .desk .count, few-chunks source t p s (w .desk .limits));
+                  chunk-rows = omega (arith, o .len, w .chunks);
+                  narrow-chunks = omega (arith, o .len, w .chunks);
+                  rows =
+                      omega (
+                        arith,
+                        counted,
+                        ap (sum chunk-pieces) chunks-are,
+                        o .desk .count,
+                        few-chunks source t p s (w .desk .limits),
+                        rows-kept .len,
+                        w .long-pieces,
+                      );
+                  narrow-pieces = omega (arith, rows-kept .len, w .long-pieces);
+                  byte-in = o .put .byte-in;
+                  narrow = omega (arith, bytes-kept .len, w .long-store);
+                };
+            head = subst (Below p3 byte top) (sym head-at) head-low;
+            inside = subst (RunIn p s) (sym tail-at) (w .readable .desk .outro);
+            valid = subst (λ (x : Place). All model.Valid (runOf p s x)) (sym tail-at) outro-valid;
+            few = omega (arith, counted, ap (sum chunk-pieces) chunks-are, ap (λ (x : Place). x .1) tail-at);
+            long-pieces = rows-kept .len ∙ w .long-pieces;
+            long-store = bytes-kept .len ∙ w .long-store;
           }
 
-      module _ (e : fits ≡ true) where
-        o : OwnDone false indentor true (runOf p s (entryAt t 0 .intro)) t p2 s2 INDENT-ROW INDENT-BYTE t3 p3 s3 mark byte
-        o = d .done e
+      -- the chunks and the tail, of the desk before
+      closed-same : closedOf indentor exclude source t3 p3 s3 mark ≡ indented-chunks indentor exclude source (head .mark) (chunksOf t p s)
+      closed-same = ap₂ (λ (b : Bool) (cs : List Chunk). indented-chunks indentor exclude source b cs) (o .mark-is) chunks-are
 
-        rows-kept : RowsKept PIECE-ROWS p1 p3
-        rows-kept = rows-then (omega arith) (y .rows) (o .put .rows)
+      tail-same : tailOf indentor exclude source p s t3 p3 s3 mark ≡ indent-pieces indentor (indented-chunks indentor exclude source (head .mark) (chunksOf t p s) .mark)
+          (runOf p s (entryAt t 0 .outro))
+      tail-same = ap₂ (λ (b : Bool) (x : Place). indent-pieces indentor b (runOf p s x)) (ap (λ z. z .mark) closed-same) tail-at
 
-        bytes-kept : BytesKept STORE-LEN s1 s3
-        bytes-kept = bytes-then (omega arith) (y .bytes) (o .put .bytes)
+      left-is : leftOf indentor exclude source p s t3 p3 s3 mark ≡ indented indentor exclude m
+      unfolding indented magicStringOf
+      left-is = desk-same source (ap (runOf p3 s3) head-at ∙ o .put .run) (ap (λ (x : Pieces). x .pieces) tail-same) (ap (λ z. z .chunks) closed-same)
 
-        up : INDENT-BYTE ≤ byte
-        up = omega (arith, o .put .byte-is)
+      module _ {t4 p4 s4 : List ℕ} {r : ℕ} (x : RestDone indentor exclude source p s t3 p3 s3 mark byte t4 p4 s4 r) where
+        past-rest : (CHUNKS < length (closedOf indentor exclude source t3 p3 s3 mark .chunks))
+            ⊎ (length s3 < byte + (sum chunk-bytes (closedOf indentor exclude source t3 p3 s3 mark .chunks) + length (concat (tailOf indentor exclude source p s t3 p3 s3 mark .pieces))))
+            → within full (leftOf indentor exclude source p s t3 p3 s3 mark) ≡ false
+        past-rest (inl a) = past-chunks full (leftOf indentor exclude source p s t3 p3 s3 mark) a
+        past-rest (inr b) =
+            past-bytes full (leftOf indentor exclude source p s t3 p3 s3 mark)
+            (omega (
+              arith,
+              b,
+              bytes-kept .len,
+              w .long-store,
+              o .put .byte-is,
+              concat-sum (head .pieces),
+              ap (sum length) (ap (runOf p3 s3) head-at ∙ o .put .run),
+              concat-sum (tailOf indentor exclude source p s t3 p3 s3 mark .pieces),
+            ))
 
-        low : All (EntryLow p1 PIECE-ROWS STORE-LEN) (entries t)
-        low = subst (λ (x : List ℕ). All (EntryLow x PIECE-ROWS STORE-LEN) (entries t)) (sym (w .pieces-is)) (entries-low p s (w .behind) (w .pieces) (w .store) (w .readable .chunks))
-
-        chunks-are : chunksOf t3 p3 s3 ≡ chunksOf t p s
-        chunks-are =
-            ap (map (chunkOf p3 s3)) (o .desk .chunks)
-            ∙ entries-same PIECE-ROWS STORE-LEN p1 s1 p3 s3 rows-kept bytes-kept low
-            ∙ ap₂ (λ (x z : List ℕ). map (chunkOf x z) (entries t)) (w .pieces-is) (w .store-is)
-            ∙ chunks-front p s (w .behind) (w .after) (w .readable .chunks)
-
-        formed : model.Formed (bodyOf source (chunksOf t p s))
-        unfolding magicStringOf
-        formed = let f = w .desk .formed in record { source = f .source; covered = f .covered; intro = nil; outro = nil; texts = f .texts }
-
-        head-length : length (head .pieces) ≡ entryAt t 0 .intro .1
-        head-length = pieces-length indentor true (runOf p s (entryAt t 0 .intro)) ∙ run-length p s (entryAt t 0 .intro .0) (entryAt t 0 .intro .1)
-
-        head-at : entryAt t3 0 .intro ≡ (INDENT-ROW, length (head .pieces))
-        head-at = ap (λ (x : Runs). x .0) (o .desk .desk) ∙ ap (λ (n : ℕ). (INDENT-ROW, n)) (sym head-length)
-
-        tail-at : entryAt t3 0 .outro ≡ entryAt t 0 .outro
-        tail-at = ap (λ (x : Runs). x .1) (o .desk .desk)
-
-        store-front : take (length s) s3 ≡ s
-        store-front =
-            sym (take-take (length s) STORE-LEN s3 (w .store)) ∙ ap (take (length s)) (bytes-kept .bytes)
-            ∙ take-take (length s) STORE-LEN s1 (w .store) ∙ ap (take (length s)) (w .store-is) ∙ take-at s (w .after) (length s) refl
-
-        -- the rows behind the head are free
-        pub rest-ready : (top : ℕ) → top ≡ INDENT-ROW + entryAt t 0 .intro .1 → RestReady indentor source p s t3 p3 s3 top byte
-        rest-ready top n =
-            let head-low : Below p3 byte top (INDENT-ROW, length (head .pieces)) = λ k h. let b = o .put .low k h in (omega (arith, b .0, head-length), b .1) in
+        pub steps-rest : IndentSteps indentor exclude source t p s t4 p4 s4 r
+        steps-rest =
             record {
-              walk =
-                  record {
-                    linked = o .desk .linked;
-                    formed = subst (λ (x : List Chunk). model.Formed (bodyOf source x)) (sym chunks-are) formed;
-                    low = subst (All (EntryLow p3 top byte)) (sym (o .desk .chunks)) (entries-still PIECE-ROWS STORE-LEN p1 p3 rows-kept top byte (omega arith) (omega (arith, up)) low);
-                    texts-low = subst (All (λ e. TextLow (length s) (e .text))) (sym (o .desk .chunks)) (texts-low p s (w .readable .chunks));
-                    store-front = store-front;
-                    store-low = omega (arith, up, w .store);
-                    indentor-row = λ l.
-                        let x = y .row l in
-                        record {
-                          text = run-same INDENT-ROW INDENT-BYTE p2 s2 p3 s3 (o .put .rows) (o .put .bytes) (PIECE-ROWS, 1) (x .low) ∙ x .text;
-                          low = run-still INDENT-ROW INDENT-BYTE p2 p3 (o .put .rows) top byte (omega arith) up (PIECE-ROWS, 1) (x .low);
-                        };
-                    few = omega (arith, o .desk .count, few-chunks source t p s (w .desk .limits));
-                    chunk-rows = omega (arith, o .len, w .chunks);
-                    narrow-chunks = omega (arith, o .len, w .chunks);
-                    rows =
-                        omega (
-                          arith,
-                          counted,
-                          ap (sum chunk-pieces) chunks-are,
-                          o .desk .count,
-                          few-chunks source t p s (w .desk .limits),
-                          rows-kept .len,
-                          w .long-pieces,
-                        );
-                    narrow-pieces = omega (arith, rows-kept .len, w .long-pieces);
-                    byte-in = o .put .byte-in;
-                    bytes = omega (arith, up, bytes-kept .len, w .long-store);
-                    narrow = omega (arith, bytes-kept .len, w .long-store);
-                  };
-              head = subst (Below p3 byte top) (sym head-at) head-low;
-              inside = subst (RunIn p s) (sym tail-at) (w .readable .desk .outro);
-              valid = subst (λ (x : Place). All model.Valid (runOf p s x)) (sym tail-at) outro-valid;
-              few = omega (arith, counted, ap (sum chunk-pieces) chunks-are, ap (λ (x : Place). x .1) tail-at);
-              long-pieces = rows-kept .len ∙ w .long-pieces;
-              long-store = bytes-kept .len ∙ w .long-store;
+              zero-or = x .zero-or;
+              did = λ z. let g = x .done z in record { readable = g .readable; result = closed-is ∙ ap ok (sym left-is ∙ sym (g .desk)) };
+              past = λ z. past-is (ap (within full) (sym left-is) ∙ past-rest (x .past z));
             }
-
-        -- the chunks and the tail, of the desk before
-        closed-same : closedOf indentor exclude source t3 p3 s3 mark ≡ indented-chunks indentor exclude source (head .mark) (chunksOf t p s)
-        closed-same = ap₂ (λ (b : Bool) (cs : List Chunk). indented-chunks indentor exclude source b cs) (o .mark-is) chunks-are
-
-        tail-same : tailOf indentor exclude source p s t3 p3 s3 mark ≡ indent-pieces indentor (indented-chunks indentor exclude source (head .mark) (chunksOf t p s) .mark)
-            (runOf p s (entryAt t 0 .outro))
-        tail-same = ap₂ (λ (b : Bool) (x : Place). indent-pieces indentor b (runOf p s x)) (ap (λ z. z .mark) closed-same) tail-at
-
-        left-is : leftOf indentor exclude source p s t3 p3 s3 mark ≡ indented indentor exclude m
-        unfolding indented magicStringOf
-        left-is = desk-same source (ap (runOf p3 s3) head-at ∙ o .put .run) (ap (λ (x : Pieces). x .pieces) tail-same) (ap (λ z. z .chunks) closed-same)
-
-        module _ {t4 p4 s4 : List ℕ} {r : ℕ} (x : RestDone indentor exclude source p s t3 p3 s3 mark byte t4 p4 s4 r) where
-          past-rest : (CHUNKS < length (closedOf indentor exclude source t3 p3 s3 mark .chunks))
-              ⊎ (length s3 < byte + (sum chunk-bytes (closedOf indentor exclude source t3 p3 s3 mark .chunks) + length (concat (tailOf indentor exclude source p s t3 p3 s3 mark .pieces))))
-              → within full (leftOf indentor exclude source p s t3 p3 s3 mark) ≡ false
-          past-rest (inl a) = past-chunks full (leftOf indentor exclude source p s t3 p3 s3 mark) a
-          past-rest (inr b) =
-              past-bytes full (leftOf indentor exclude source p s t3 p3 s3 mark)
-              (omega (
-                arith,
-                b,
-                bytes-kept .len,
-                w .long-store,
-                o .put .byte-is,
-                concat-sum (head .pieces),
-                ap (sum length) (ap (runOf p3 s3) head-at ∙ o .put .run),
-                concat-sum (tailOf indentor exclude source p s t3 p3 s3 mark .pieces),
-              ))
-
-          pub steps-rest : IndentSteps indentor exclude source t p s t4 p4 s4 r
-          steps-rest =
-              record {
-                zero-or = x .zero-or;
-                did = λ z. let g = x .done z in record { readable = g .readable; result = closed-is ∙ ap ok (sym left-is ∙ sym (g .desk)) };
-                past = λ z. past-is (ap (within full) (sym left-is) ∙ past-rest (x .past z));
-              }

@@ -16,7 +16,7 @@ use Rattle.memory.proofs.Desks.{tabulate-all}
 use Rattle.memory_texts.proofs.Texts.{run-piece, run-tabulate}
 use Rattle.indent_head_tail.specs.Run.{RunReady, texts}
 use Rattle.indent_head_tail.proofs.Run.{running-none, running-room, running-short, running-more, run-short, run-done}
-use Rattle.indent_head_tail.specs.Own.{OwnReady, Laid}
+use Rattle.indent_head_tail.specs.Own.{OwnReady}
 use Rattle.indent_head_tail.proofs.Own.{OwnIndented, own-run-ready, own-short, own-done}
 use Rattle.indent_chunks.proofs.Walk.{WalkDone}
 use Rattle.indent_chunks.proofs.Chunks.{walk-start, walk-row, walk-ready, walk-past, walk-more, walk-end}
@@ -26,7 +26,7 @@ use Rattle.indent_steps.specs.Steps.{StepsReady, IndentSteps}
 use Rattle.indent_steps.proofs.Steps.{head-ready, steps-head, rest-ready, steps-rest}
 use Rattle.indent_steps.specs.Walk.{stopped-at, onward-at, run-from, chunks-from, left, RunEnded, PieceReady, PieceTurned, ChunkReady, ChunkTurned, PartReady, PartTurned}
 use Rattle.indent_steps.specs.Walk.{RunAt, Ends, HeadAt, ChunksAt, TailAt, Walking, TurnReady, Turned}
-use Rattle.memory_layout.specs.Layout.{ROW, PIECES-LEN, INDENT-ROW, INDENT-BYTE}
+use Rattle.memory_layout.specs.Layout.{ROW, PIECE-ROWS, PIECES-LEN, STORE-LEN}
 
 -- ---- in the head or the tail
 
@@ -66,7 +66,7 @@ module _ {outro : Bool} {indentor pieces store : List ℕ} {Short : Type 0} {Nex
           let b = run-short indentor (h .mark₀) pieces store (at .row) (at .n) (h .p₀) (h .s₀) (h .byte₀) (at .top) ready p' s' mark (at .byte) a in
           h .short (own-short outro indentor (h .mark₀) pieces store t (h .p₀) (h .s₀) (at .top) (h .byte₀) (h .own) (at .row, at .n) (h .run-is) b refl .short refl)
 
-      pub run-goes-on : x .fits ≡ true → RunAt outro indentor pieces store Short Next (onward-at at (at .row) (at .top) (x .end)) (x .mark₁) t p' s'
+      pub run-goes-on : x .fits ≡ true → RunAt outro indentor pieces store Short Next (onward-at at (at .row) (at .top) (x .end) (at .laid)) (x .mark₁) t p' s'
       run-goes-on k =
           record {
             more = h .more;
@@ -111,7 +111,7 @@ module _ {indentor exclude source pieces store t₀ : List ℕ} {at : TextAt} {m
           h .rest .then t2 p2 s2 13
           (rest-chunks indentor exclude source pieces store (h .t₁) (h .p₁) (h .s₁) (h .mark₁) (h .top₁) (h .byte₁) (h .rest .ready) y nz t2 p2 s2)
 
-      pub chunk-goes-on : x .number ≡ 0 → ChunksAt indentor exclude source pieces store t₀ (onward-at at (rowAt t (at .row) .next) (x .top) (x .byte)) (x .mark₁) t' p' s'
+      pub chunk-goes-on : x .number ≡ 0 → ChunksAt indentor exclude source pieces store t₀ (onward-at at (rowAt t (at .row) .next) (x .top) (x .byte) (x .laid)) (x .mark₁) t' p' s'
       chunk-goes-on z =
           record {
             part = h .part;
@@ -168,10 +168,10 @@ module _ {indentor exclude source pieces store t₀ : List ℕ} {at : TextAt} {m
 
 -- ---- the start
 
-pub head-begins : (indentor exclude source t pieces store p₀ s₀ p s : List ℕ) → StepsReady source t pieces store p₀ s₀ → Laid indentor p₀ s₀ p s → (at : TextAt)
-    → at ≡ run-from 0 (side false (entryAt t 0)) INDENT-ROW INDENT-BYTE → Walking indentor exclude source pieces store t at true t p s
-head-begins indentor exclude source t pieces store p₀ s₀ p s w y at ea =
-    let own : OwnReady false pieces store t p s INDENT-ROW INDENT-BYTE = head-ready indentor exclude source t pieces store p₀ s₀ w y in
+pub head-begins : (indentor exclude source t pieces store p s : List ℕ) → StepsReady source t pieces store p s → (at : TextAt)
+    → at ≡ run-from 0 (side false (entryAt t 0)) PIECE-ROWS STORE-LEN → Walking indentor exclude source pieces store t at true t p s
+head-begins indentor exclude source t pieces store p s w at ea =
+    let own : OwnReady false pieces store t p s PIECE-ROWS STORE-LEN = head-ready indentor exclude source t pieces store p s w in
     subst (λ (a : TextAt). Walking indentor exclude source pieces store t a true t p s) (sym ea)
     (inl (record {
       part = refl;
@@ -179,25 +179,25 @@ head-begins indentor exclude source t pieces store p₀ s₀ p s w y at ea =
           record {
             more = refl;
             zero = refl;
-            few = omega (arith, own .run .rows, y .rows .len, w .long-pieces);
+            few = omega (arith, own .run .rows, w .long-pieces);
             p₀ = p;
             s₀ = s;
             mark₀ = true;
-            byte₀ = INDENT-BYTE;
+            byte₀ = STORE-LEN;
             own = own;
             run-is = refl;
             inside = omega arith;
-            run = running-none indentor true (texts pieces store (side false (entryAt t 0) .0)) p s INDENT-BYTE INDENT-ROW (own .run .byte-in);
+            run = running-none indentor true (texts pieces store (side false (entryAt t 0) .0)) p s STORE-LEN PIECE-ROWS (own .run .byte-in);
             short = λ l t2 p2 s2.
-                let d : OwnIndented false indentor true (runOf pieces store (entryAt t 0 .intro)) t p s INDENT-ROW INDENT-BYTE t p s false true INDENT-BYTE =
+                let d : OwnIndented false indentor true (runOf pieces store (entryAt t 0 .intro)) t p s PIECE-ROWS STORE-LEN t p s false true STORE-LEN =
                 record { done = λ k. clash k refl; short = λ _. l } in
-                steps-head indentor exclude source t pieces store p₀ s₀ w y d refl t2 p2 s2;
+                steps-head indentor exclude source t pieces store p s w d refl t2 p2 s2;
             next = λ t2 p2 s2 mark2 byte2 o.
-                let d : OwnIndented false indentor true (runOf pieces store (entryAt t 0 .intro)) t p s INDENT-ROW INDENT-BYTE t2 p2 s2 true mark2 byte2 =
+                let d : OwnIndented false indentor true (runOf pieces store (entryAt t 0 .intro)) t p s PIECE-ROWS STORE-LEN t2 p2 s2 true mark2 byte2 =
                 record { done = λ _. o; short = λ k. clash refl k } in
                 record {
-                  ready = rest-ready indentor exclude source t pieces store p₀ s₀ w y d refl _ refl;
-                  then = λ t4 p4 s4 r x. steps-rest indentor exclude source t pieces store p₀ s₀ w y d refl x;
+                  ready = rest-ready indentor exclude source t pieces store p s w d refl _ refl;
+                  then = λ t4 p4 s4 r x. steps-rest indentor exclude source t pieces store p s w d refl x;
                 };
           };
     }))
@@ -205,7 +205,7 @@ head-begins indentor exclude source t pieces store p₀ s₀ p s w y at ea =
 -- the chunks begin
 pub chunks-begin : {indentor exclude source pieces store t₀ : List ℕ} {at : TextAt} {mark : Bool} {t p s : List ℕ} (h : HeadAt indentor exclude source pieces store t₀ at mark t p s)
     → at .i ≡ at .n → {t' : List ℕ} → RunEnded false (at .top) t t' → ChunksAt indentor exclude source pieces store t₀ (chunks-from (rowAt t' 0) (at .top + at .n) (at .byte)) mark t' p s
-chunks-begin {exclude = exclude} {at = at} {mark = mark} {p = p} {s = s} h e {t'} x =
+chunks-begin {indentor = indentor} {exclude = exclude} {at = at} {mark = mark} {p = p} {s = s} h e {t'} x =
     let g = run-finishes (h .run) e x in
     record {
       part = refl;
@@ -219,7 +219,7 @@ chunks-begin {exclude = exclude} {at = at} {mark = mark} {p = p} {s = s} h e {t'
       byte₁ = at .byte;
       rest = g;
       inside = omega arith;
-      walk = walk-start exclude mark (rowAt t' 0) (g .ready .walk) refl;
+      walk = walk-start indentor exclude mark (rowAt t' 0) (g .ready .walk) refl;
     }
 
 -- ---- a turn
@@ -262,8 +262,8 @@ left-is at m = ap (λ (b : Bool). cond b ((3 - at .part) * PIECES-LEN + (at .n -
 left-stopped : (at at' : TextAt) → at .more ≡ true → at .part ≤ 2 → left at' ≡ 0 → left at' < left at
 left-stopped at at' m l e = omega (arith, left-is at m, l, e)
 
-left-onward : (at : TextAt) (row top byte : ℕ) → at .more ≡ true → at .i < at .n → left (onward-at at row top byte) < left at
-left-onward at row top byte m g = omega (arith, left-is at m, left-is (onward-at at row top byte) m, g)
+left-onward : (at : TextAt) (row top byte laid : ℕ) → at .more ≡ true → at .i < at .n → left (onward-at at row top byte laid) < left at
+left-onward at row top byte laid m g = omega (arith, left-is at m, left-is (onward-at at row top byte laid) m, g)
 
 module _ {indentor exclude source pieces store t₀ : List ℕ} where
   -- the place and the mark by other names
@@ -335,7 +335,7 @@ module _ {indentor exclude source pieces store : List ℕ} {at : TextAt} {mark :
 
     module _ (np : at .part ≡ 1 → ⊥) {p' s' : List ℕ} {at' : TextAt} {mark' : Bool} (x : PieceTurned indentor pieces store at mark p s p' s' at' mark') where
       less-piece : (b : Bool) → x .fits ≡ b → left at' < left at
-      less-piece true k = subst (λ (a : TextAt). left a < left at) (sym (x .go-on k)) (left-onward at (at .row) (at .top) (x .end) (w .more) g)
+      less-piece true k = subst (λ (a : TextAt). left a < left at) (sym (x .go-on k)) (left-onward at (at .row) (at .top) (x .end) (at .laid) (w .more) g)
       less-piece false k = left-stopped at at' (w .more) low (ap left (x .stop k))
 
       pub turned-piece : Turned indentor exclude source pieces store at mark t p s at' mark' t p' s'
@@ -350,7 +350,7 @@ module _ {indentor exclude source pieces store : List ℕ} {at : TextAt} {mark :
           or (inr z) = inr (λ y. absurd (omega (arith, z, y)))
 
       less-chunk : (x .number ≡ 0) ⊎ (x .number ≡ 0 → ⊥) → left at' < left at
-      less-chunk (inl z) = subst (λ (a : TextAt). left a < left at) (sym (x .go-on z)) (left-onward at (rowAt t (at .row) .next) (x .top) (x .byte) (w .more) g)
+      less-chunk (inl z) = subst (λ (a : TextAt). left a < left at) (sym (x .go-on z)) (left-onward at (rowAt t (at .row) .next) (x .top) (x .byte) (x .laid) (w .more) g)
       less-chunk (inr nz) = left-stopped at at' (w .more) low (ap left (x .stop nz))
 
       pub turned-chunk : Turned indentor exclude source pieces store at mark t p s at' mark' t' p' s'

@@ -5,7 +5,7 @@ use mathlib.Core.List.{List}
 use mathlib.Core.Logic.{_⊎_}
 use Prim.Native.Nat.{ℕ, _+_, _≤_, _<_}
 use lib.ListN.{length}
-use Rattle.memory_layout.specs.Layout.{CHUNKS, PIECES, INDENT-PIECES-LEN, INDENT-ROW, INDENT-STORE-LEN}
+use Rattle.memory_layout.specs.Layout.{CHUNKS, PIECES, PIECE-ROWS, INDENT-PIECES-LEN, INDENT-STORE-LEN}
 use Rattle.utf8.specs.Chars.{All, concat}
 use Rattle.memory_table.specs.Order.{entryAt}
 use Rattle.model.specs.Text.{sum}
@@ -19,12 +19,12 @@ use Rattle.memory_used.specs.Below.{Below}
 use Rattle.indent_chunks.specs.Walk.{chunksOf, closedOf, WalkReady}
 
 -- the head lies below a row and a byte; the tail stands in the lent tables; there is room
-pub record RestReady (indentor source pieces store t p s : List ℕ) (top byte : ℕ) : Type 0 where
-  pub walk : WalkReady indentor source store t p s top byte
+pub record RestReady (source pieces store t p s : List ℕ) (top byte : ℕ) : Type 0 where
+  pub walk : WalkReady source store t p s top byte
   pub head : Below p byte top (entryAt t 0 .intro)
   pub inside : RunIn pieces store (entryAt t 0 .outro)
   pub valid : All Valid (runOf pieces store (entryAt t 0 .outro))
-  pub few : (top + sum chunk-pieces (chunksOf t p s)) + entryAt t 0 .outro .1 ≤ INDENT-ROW + PIECES
+  pub few : (top + sum chunk-pieces (chunksOf t p s)) + entryAt t 0 .outro .1 ≤ PIECE-ROWS + PIECES
   pub long-pieces : length p ≡ INDENT-PIECES-LEN
   pub long-store : length s ≡ INDENT-STORE-LEN
 

@@ -24,19 +24,19 @@ use Rattle.memory_layout.specs.Layout.{ROW, PIECES-LEN}
 -- ---- places
 
 abbrev pub stopped-at : TextAt → TextAt
-stopped-at at = record { more = false; number = 13; part = at .part; row = at .row; n = at .n; i = at .i; top = at .top; byte = at .byte }
+stopped-at at = record { more = false; number = 13; part = at .part; row = at .row; n = at .n; i = at .i; top = at .top; byte = at .byte; laid = at .laid }
 
 abbrev pub over-at : TextAt → TextAt
-over-at at = record { more = false; number = at .number; part = at .part; row = at .row; n = at .n; i = at .i; top = at .top; byte = at .byte }
+over-at at = record { more = false; number = at .number; part = at .part; row = at .row; n = at .n; i = at .i; top = at .top; byte = at .byte; laid = at .laid }
 
-abbrev pub onward-at : TextAt → ℕ → ℕ → ℕ → TextAt
-onward-at at row top byte = record { more = at .more; number = at .number; part = at .part; row = row; n = at .n; i = at .i + 1; top = top; byte = byte }
+abbrev pub onward-at : TextAt → ℕ → ℕ → ℕ → ℕ → TextAt
+onward-at at row top byte laid = record { more = at .more; number = at .number; part = at .part; row = row; n = at .n; i = at .i + 1; top = top; byte = byte; laid = laid }
 
 abbrev pub run-from : ℕ → Place → ℕ → ℕ → TextAt
-run-from part q top byte = record { more = true; number = 0; part = part; row = q .0; n = q .1; i = 0; top = top; byte = byte }
+run-from part q top byte = record { more = true; number = 0; part = part; row = q .0; n = q .1; i = 0; top = top; byte = byte; laid = 0 }
 
 abbrev pub chunks-from : Row → ℕ → ℕ → TextAt
-chunks-from z top byte = record { more = true; number = 0; part = 1; row = z .next; n = z .start; i = 0; top = top; byte = byte }
+chunks-from z top byte = record { more = true; number = 0; part = 1; row = z .next; n = z .start; i = 0; top = top; byte = byte; laid = 0 }
 
 -- how much is left, for the end of the walk
 abbrev pub left : TextAt → ℕ
@@ -58,7 +58,7 @@ pub record PieceTurned (indentor pieces store : List ℕ) (at : TextAt) (mark : 
   pub mark₁ : Bool
   pub text : TextIndented indentor mark (bytesAt store (pieceAt pieces (at .row + at .i))) p s (at .byte) (at .top + at .i) p' s' fits mark₁ end
   pub stop : fits ≡ false → at' ≡ stopped-at at
-  pub go-on : fits ≡ true → at' ≡ onward-at at (at .row) (at .top) end
+  pub go-on : fits ≡ true → at' ≡ onward-at at (at .row) (at .top) end (at .laid)
   pub mark-is : fits ≡ true → mark' ≡ mark₁
   pub rows : length p' ≡ length p
   pub bytes : length s' ≡ length s
@@ -66,16 +66,17 @@ pub record PieceTurned (indentor pieces store : List ℕ) (at : TextAt) (mark : 
 pub record ChunkReady (indentor source store t p s : List ℕ) (at : TextAt) : Type 0 where
   pub inside : at .i < at .n
   pub room : at .row * ROW + ROW ≤ length t
-  pub row : RowReady indentor source store t p s (at .row) (at .top) (at .byte)
+  pub row : RowReady indentor source store t p s (at .row) (at .top) (at .byte) (at .laid)
 
 pub record ChunkTurned (indentor exclude source : List ℕ) (at : TextAt) (mark : Bool) (t p s t' p' s' : List ℕ) (at' : TextAt) (mark' : Bool) : Type 0 where
   pub number : ℕ
   pub mark₁ : Bool
   pub top : ℕ
   pub byte : ℕ
-  pub row : RowDone indentor exclude source t p s (at .row) mark (at .top) (at .byte) t' p' s' number mark₁ top byte
+  pub laid : ℕ
+  pub row : RowDone indentor exclude source t p s (at .row) mark (at .top) (at .byte) (at .laid) t' p' s' number mark₁ top byte laid
   pub stop : (number ≡ 0 → ⊥) → at' ≡ stopped-at at
-  pub go-on : number ≡ 0 → at' ≡ onward-at at (rowAt t (at .row) .next) top byte
+  pub go-on : number ≡ 0 → at' ≡ onward-at at (rowAt t (at .row) .next) top byte laid
   pub mark-is : number ≡ 0 → mark' ≡ mark₁
 
 pub record PartReady (t : List ℕ) (at : TextAt) : Type 0 where
@@ -109,7 +110,7 @@ pub record RunAt (outro : Bool) (indentor pieces store : List ℕ) (Short : Type
 
 -- behind the head: the rest is ready, and what it leaves is what the steps leave of the rows t₀
 pub record RestFrom (indentor exclude source pieces store t₀ : List ℕ) (top : ℕ) (t p s : List ℕ) (mark : Bool) (byte : ℕ) : Type 0 where
-  pub ready : RestReady indentor source pieces store t p s top byte
+  pub ready : RestReady source pieces store t p s top byte
   pub then : (t' p' s' : List ℕ) (r : ℕ) → RestDone indentor exclude source pieces store t p s mark byte t' p' s' r → IndentSteps indentor exclude source t₀ pieces store t' p' s' r
 
 -- the steps end with 13, whatever the tables hold
@@ -132,7 +133,7 @@ pub record ChunksAt (indentor exclude source pieces store t₀ : List ℕ) (at :
   pub byte₁ : ℕ
   pub rest : RestFrom indentor exclude source pieces store t₀ top₁ t₁ p₁ s₁ mark₁ byte₁
   pub inside : at .i ≤ at .n
-  pub walk : WalkAt indentor exclude source store t₁ p₁ s₁ mark₁ top₁ byte₁ (at .n) t p s (at .i) (at .row) mark (at .top) (at .byte)
+  pub walk : WalkAt indentor exclude source store t₁ p₁ s₁ mark₁ top₁ byte₁ (at .n) t p s (at .i) (at .row) mark (at .top) (at .byte) (at .laid)
 
 pub record TailAt (indentor exclude source pieces store t₀ : List ℕ) (at : TextAt) (mark : Bool) (t p s : List ℕ) : Type 0 where
   pub part : at .part ≡ 2

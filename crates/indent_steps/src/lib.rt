@@ -23,8 +23,8 @@ const CHUNKS: u32 = 1;
 
 const TAIL: u32 = 2;
 
-// A place on the walk: the part, the text in it (a lent piece row behind `row`, or the chunk row `row`), how many of n are done, and the piece row and the byte behind those in use.
-// Where there is no more, the number is the walk's answer.
+// A place on the walk: the part, the text in it (a lent piece row behind `row`, or the chunk row `row`), how many of n are done, the piece row and the byte behind those in use, and
+// the indentor's piece row, 0 as long as it is no piece. Where there is no more, the number is the walk's answer.
 pub struct TextAt {
     pub more: bool,
     pub number: u32,
@@ -34,6 +34,7 @@ pub struct TextAt {
     pub i: u32,
     pub top: u32,
     pub byte: u32,
+    pub laid: u32,
 }
 
 // The place behind a turn, and the mark behind its text.
@@ -53,15 +54,16 @@ fn stopped(at: TextAt) -> TextAt
 }
 
 // Behind a text.
-fn onward(at: TextAt, row: u32, top: u32, byte: u32) -> TextAt
+fn onward(at: TextAt, row: u32, top: u32, byte: u32, laid: u32) -> TextAt
     requires { ⌜ at .i < at .n ⌝ }
-    ensures { λ r. ⌜ r ≡ onward-at at row top byte ⌝ }
+    ensures { λ r. ⌜ r ≡ onward-at at row top byte laid ⌝ }
 {
     let mut q = at;
     q.row = row;
     q.i = at.i + 1;
     q.top = top;
     q.byte = byte;
+    q.laid = laid;
     q
 }
 
@@ -88,7 +90,7 @@ fn piece_turn(
         };
     }
     Texted {
-        at: onward(at, at.row, at.top, w.byte),
+        at: onward(at, at.row, at.top, w.byte, at.laid),
         mark: w.mark,
     }
 }
@@ -122,6 +124,7 @@ fn chunk_turn(
         mark,
         at.top,
         at.byte,
+        at.laid,
     );
     if w.number != 0 {
         return Texted {
@@ -130,7 +133,7 @@ fn chunk_turn(
         };
     }
     Texted {
-        at: onward(at, r.next, w.top, w.byte),
+        at: onward(at, r.next, w.top, w.byte, w.laid),
         mark: w.mark,
     }
 }
@@ -151,6 +154,7 @@ fn run_begins(t: &[u32], part: u32, outro: bool, top: u32, byte: u32) -> TextAt
         i: 0,
         top,
         byte,
+        laid: 0,
     }
 }
 
@@ -179,6 +183,7 @@ fn chunks_begin(t: &[u32], top: u32, byte: u32) -> TextAt
         i: 0,
         top,
         byte,
+        laid: 0,
     }
 }
 
@@ -297,7 +302,7 @@ fn walk_texts(
     at.number
 }
 
-// The indentor as a piece, then the walk, from `INDENT_ROW` and `INDENT_BYTE` on. The desk lies in the rows t and the lent pieces and store.
+// The walk, from `NEW_ROW` and `NEW_BYTE` on. The desk lies in the rows t and the lent pieces and store.
 pub fn indent_steps(
     source: &[u8],
     pieces: &[u32],
@@ -312,13 +317,12 @@ pub fn indent_steps(
     ensures { λ r. ⌜ IndentSteps (now (indentor .entry)) (now (exclude .entry)) (now (source .entry)) (now (t .entry)) (now (pieces .entry)) (now (store .entry))
         (now (t .exit)) (now (p .exit)) (now (s .exit)) r ⌝ }
 {
-    indent_head_tail::lay_indentor(p, s, indentor);
     let first = run_begins(
         t,
         HEAD,
         false,
-        memory_layout::INDENT_ROW,
-        memory_layout::INDENT_BYTE,
+        memory_layout::NEW_ROW,
+        memory_layout::NEW_BYTE,
     );
     walk_texts(source, pieces, store, indentor, exclude, t, p, s, first)
 }

@@ -138,14 +138,8 @@ UPDATE-STORE-LEN = 2 * STORE-LEN
 abbrev pub INDENT-PIECES-LEN : ℕ
 INDENT-PIECES-LEN = (PIECE-ROWS + 1 + PIECES + CHUNKS) * PIECE
 
-abbrev pub INDENT-ROW : ℕ
-INDENT-ROW = PIECE-ROWS + 1
-
-abbrev pub INDENT-BYTE : ℕ
-INDENT-BYTE = 2 * STORE-LEN
-
 abbrev pub INDENT-STORE-LEN : ℕ
-INDENT-STORE-LEN = 3 * STORE-LEN
+INDENT-STORE-LEN = 2 * STORE-LEN
 
 -- small tables, for a small desk
 abbrev pub SMALL-CHUNKS : ℕ

@@ -110,14 +110,10 @@ pub const TRIM_STORE_LEN: usize = STORE_LEN + SOURCE_BYTES;
 pub const UPDATE_STORE_LEN: usize = 2 * STORE_LEN;
 
 // An indent: behind the lent piece rows one for the indentor, one for each piece of a desk, and one for each chunk that begins a line; behind the store
-// the indentor, as long as the store at most, and from there on the texts of the new desk.
+// the texts of the new desk, and once a chunk has the indentor as a piece, the indentor.
 pub const INDENT_PIECES_LEN: usize = (PIECE_ROWS + 1 + PIECES + CHUNKS) * PIECE;
 
-pub const INDENT_ROW: u32 = NEW_ROW + 1;
-
-pub const INDENT_BYTE: u32 = 2 * NEW_BYTE;
-
-pub const INDENT_STORE_LEN: usize = 3 * STORE_LEN;
+pub const INDENT_STORE_LEN: usize = 2 * STORE_LEN;
 
 // Small tables, for a small desk: clearing them takes a tenth of the time.
 pub const SMALL_CHUNKS: u32 = 63;

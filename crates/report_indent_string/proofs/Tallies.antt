@@ -1,13 +1,13 @@
 -- The lines of a text, and the tally over them.
 use mathlib.Core.Path.{_≡_, refl, ap, sym, _∙_, subst}
-use mathlib.Core.Bool.{Bool, true, false, _&&_, cond, false≢true}
+use mathlib.Core.Bool.{Bool, true, false, _&&_, cond, true≢false, false≢true}
 use mathlib.Core.List.{List, [], _∷_, _++_, append-assoc}
 use Prim.Native.Nat.{ℕ, zero, suc, _+_, _-_, _≤_, _<_, min}
 use native.Mathlib.Omega.{arith}
 use native.Mathlib.Numerals.{add-one}
 use native.Mathlib.Decide.{decLt}
 use lib.Dec.{eqb, leb}
-use lib.ListN.{length, getD, drop, set, replicate, length-replicate, length-drop, replicate-append-replicate, drop-of-length-le}
+use lib.ListN.{length, getD, take, drop, set, replicate, length-replicate, length-drop, replicate-append-replicate, drop-of-length-le}
 use lib.Seq.{drop-cons, drop-drop, set-at}
 use borrow.Author.Tests.{eq-eqb, ne-eqb, le-leb, lt-leb, eqb-true}
 use Rattle.utf8.proofs.Sequences.{both}
@@ -21,7 +21,7 @@ use Rattle.report_measures.specs.Measures.{feedOf}
 use Rattle.memory_fragments.proofs.Telling.{told-short, told-text}
 use Rattle.report_indent_string.specs.declared.Indentor.{Indentor}
 use Rattle.report_indent_string.specs.declared.Tally.{Tally}
-use Rattle.report_indent_string.specs.Lines.{behind-line, NoFeeds, Seeking, NextLine, Counts}
+use Rattle.report_indent_string.specs.Lines.{behind-line, NoFeeds, Seeking, NextLine, Counts, Held, Places}
 use Rattle.report_indent_string.specs.Guess.{indentor-text, Guessed}
 
 -- a test with its two cases
@@ -113,7 +113,7 @@ tab-first (a ∷ l) h =
 -- ---- a line more
 
 module _ (t : Tally) (first n : ℕ) where
-  pub adds-tab : first ≡ TAB → Counts t first n (record { tabbed = t .tabbed + 1; spaced = t .spaced; least = t .least })
+  pub adds-tab : first ≡ TAB → Counts t first n (record { tabbed = t .tabbed + 1; spaced = t .spaced; least = t .least; at = t .at })
   adds-tab h l a b =
       let x : tabbed l ≡ true = a ∙ eq-eqb first TAB h in
       let y : spaced l ≡ false = spaced-by l ∙ ap (leb 2) (tab-first l x) in
@@ -133,13 +133,13 @@ module _ (t : Tally) (first n : ℕ) where
       is-spaced : (l : Text) → leading-spaces l ≡ n → spaced l ≡ true
       is-spaced l b = spaced-by l ∙ ap (leb 2) b ∙ le-leb 2 n k
 
-      pub adds-fewer : n < t .least → Counts t first n (record { tabbed = t .tabbed; spaced = t .spaced + 1; least = n })
-      adds-fewer m l a b =
+      pub adds-fewer : (at : ℕ) → n ≤ t .least → Counts t first n (record { tabbed = t .tabbed; spaced = t .spaced + 1; least = n; at = at })
+      adds-fewer at m l a b =
           let x : tabbed l ≡ false = no-tab l a in
           let y : spaced l ≡ true = is-spaced l b in
           record { tabs = rw x (omega arith); spaces = rw y (omega arith); fewest = rw (y, b) (omega arith) }
 
-      pub adds-spaced : t .least ≤ n → Counts t first n (record { tabbed = t .tabbed; spaced = t .spaced + 1; least = t .least })
+      pub adds-spaced : t .least < n → Counts t first n (record { tabbed = t .tabbed; spaced = t .spaced + 1; least = t .least; at = t .at })
       adds-spaced m l a b =
           let x : tabbed l ≡ false = no-tab l a in
           let y : spaced l ≡ true = is-spaced l b in
@@ -150,6 +150,31 @@ module _ (t : Tally) (first n : ℕ) where
 spaces-le : (s : Text) → leading-spaces s ≤ length s
 spaces-le [] = omega arith
 spaces-le (a ∷ s) = by-test (λ b. cond b (suc (leading-spaces s)) 0 ≤ suc (length s)) (eqb a SPACE) (λ e. omega (arith, spaces-le s)) (λ e. omega arith)
+
+-- some of the leading spaces are spaces
+spaces-taken : (n : ℕ) (s : Text) → n ≤ leading-spaces s → take n s ≡ replicate n SPACE
+spaces-taken zero s h = refl
+spaces-taken (suc n) [] h = absurd (omega arith)
+spaces-taken (suc n) (a ∷ s) h =
+    by-test (λ b. eqb a SPACE ≡ b → suc n ≤ cond b (suc (leading-spaces s)) 0 → a ∷ take n s ≡ SPACE ∷ replicate n SPACE) (eqb a SPACE)
+    (λ _ e k. ap (λ (x : ℕ). x ∷ take n s) (eqb-true a SPACE e) ∙ ap (λ (l : Text). SPACE ∷ l) (spaces-taken n s (omega arith))) (λ _ e k. absurd (omega arith)) refl h
+
+-- the place of a line with the fewest spaces
+pub holds-tab : (t : Tally) (n at : ℕ) → Places t n at (record { tabbed = t .tabbed + 1; spaced = t .spaced; least = t .least; at = t .at })
+holds-tab t n at s l e h = record { none = h .none; inside = h .inside; some = h .some }
+
+pub holds-none : (t : Tally) (n at : ℕ) → Places t n at t
+holds-none t n at s l e h = h
+
+pub holds-fewer : (t : Tally) (n at : ℕ) → Places t n at (record { tabbed = t .tabbed; spaced = t .spaced + 1; least = n; at = at })
+holds-fewer t n at s l e h = record { none = λ z. absurd (omega arith); inside = l; some = λ _. omega arith }
+
+pub holds-spaced : (t : Tally) (n at : ℕ) → t .least < n → Places t n at (record { tabbed = t .tabbed; spaced = t .spaced + 1; least = t .least; at = t .at })
+holds-spaced t n at m s l e h = record {
+  none = λ z. absurd (omega arith);
+  inside = h .inside;
+  some = λ _. elim (decLt 0 (t .spaced)) [ yes q ↦ h .some q | no q ↦ absurd (omega (arith, h .none (omega arith), spaces-le (drop at s), length-drop at s)) ];
+}
 
 -- the rest of the line is the same behind its spaces
 behind-spaces-line : (s : Text) → behind-line (drop (leading-spaces s) s) ≡ behind-line s
@@ -231,16 +256,18 @@ pub record Tallied (s : Text) (t : Tally) (i : ℕ) : Type 0 where
   pub few-tabs : t .tabbed ≤ i
   pub few-spaced : t .spaced ≤ i
   pub short : t .least ≤ length s
+  pub held : Held s t
   pub tabs : t .tabbed + count tabbed (lines (drop i s)) ≡ count tabbed (lines s)
   pub spaces : t .spaced + count spaced (lines (drop i s)) ≡ count spaced (lines s)
   pub fewest : least-spaces (t .least) (lines (drop i s)) ≡ least-spaces (length s) (lines s)
 
-pub tallied-none : (s : Text) → Tallied s (record { tabbed = 0; spaced = 0; least = length s }) 0
+pub tallied-none : (s : Text) → Tallied s (record { tabbed = 0; spaced = 0; least = length s; at = 0 }) 0
 tallied-none s = record {
   inside = omega arith;
   few-tabs = omega arith;
   few-spaced = omega arith;
   short = omega arith;
+  held = record { none = λ _. refl; inside = omega arith; some = λ z. absurd (omega arith) };
   tabs = omega arith;
   spaces = omega arith;
   fewest = refl;
@@ -282,8 +309,8 @@ module _ {s : Text} {t : Tally} {i : ℕ} (c : Tallied s t i) where
       pub tallied-less : length s - r < length s - i
       tallied-less = omega (arith, ahead, n .inside)
 
-      pub tallied-more : (t' : Tally) → Counts t (getD s i 0) (end - i) t' → Tallied s t' r
-      tallied-more t' k =
+      pub tallied-more : (t' : Tally) → Counts t (getD s i 0) (end - i) t' → Places t (end - i) i t' → Tallied s t' r
+      tallied-more t' k places =
           let first : tabbed line ≡ eqb (getD s i 0) TAB = first-tabbed (drop i s) ∙ ap (λ (l : Text). eqb (getD l 0 0) TAB) (drop-cons s i 0 h) in
           let a = k line first (first-spaces (drop i s) ∙ omega arith) in
           let x : count tabbed (lines (drop i s)) ≡ cond (tabbed line) 1 0 + count tabbed (lines (drop r s)) = ap (count tabbed) left in
@@ -293,6 +320,7 @@ module _ {s : Text} {t : Tally} {i : ℕ} (c : Tallied s t i) where
             few-tabs = omega (arith, a .tabs, one-most (tabbed line), c .few-tabs, ahead);
             few-spaced = omega (arith, a .spaces, one-most (spaced line), c .few-spaced, ahead);
             short = rw (a .fewest) (fewest-le (spaced line) (leading-spaces line) (t .least) (length s) (c .short));
+            held = places s (omega arith) (omega arith) (c .held);
             tabs = omega (arith, a .tabs, c .tabs);
             spaces = omega (arith, a .spaces, c .spaces);
             fewest = ap (λ (m : ℕ). least-spaces m (lines (drop r s))) (a .fewest) ∙ fewest-step (spaced line) (leading-spaces line) (t .least) (lines (drop r s))
@@ -312,16 +340,21 @@ module _ {s : Text} {t : Tally} {i : ℕ} (c : Tallied s t i) where
     all-fewest : t .least ≡ least-spaces (length s) (lines s)
     all-fewest = sym (ap (λ (l : Text). least-spaces (t .least) (lines l)) none-left) ∙ c .fewest
 
-    pub guessed-tab : t .spaced ≤ t .tabbed → Guessed s (record { tab = true; spaces = 0 })
+    pub guessed-tab : t .spaced ≤ t .tabbed → Guessed s (record { tab = true; spaces = 0; at = 0 })
     unfolding indentor-text get-indent-string
-    guessed-tab k = record { text = rw (le-leb (count spaced (lines s)) (count tabbed (lines s)) (omega (arith, all-tabs, all-spaced))); short = omega arith }
+    guessed-tab k = record { text = rw (le-leb (count spaced (lines s)) (count tabbed (lines s)) (omega (arith, all-tabs, all-spaced))); inside = omega arith; place = λ z. absurd (true≢false z) }
 
-    pub guessed-spaces : t .tabbed < t .spaced → Guessed s (record { tab = false; spaces = t .least })
+    pub guessed-spaces : t .tabbed < t .spaced → Guessed s (record { tab = false; spaces = t .least; at = t .at })
     unfolding indentor-text get-indent-string
-    guessed-spaces k = record {
-      text = rw (lt-leb (count spaced (lines s)) (count tabbed (lines s)) (omega (arith, all-tabs, all-spaced))) (ap (λ (n : ℕ). replicate n SPACE) all-fewest);
-      short = c .short;
-    }
+    guessed-spaces k =
+        let text : replicate (t .least) SPACE ≡ get-indent-string s =
+        rw (lt-leb (count spaced (lines s)) (count tabbed (lines s)) (omega (arith, all-tabs, all-spaced))) (ap (λ (n : ℕ). replicate n SPACE) all-fewest) in
+        let some = c .held .some (omega arith) in
+        record {
+          text = text;
+          inside = omega (arith, c .held .inside, some, spaces-le (drop (t .at) s), length-drop (t .at) s);
+          place = λ _. spaces-taken (t .least) (drop (t .at) s) some ∙ text;
+        }
 
 -- ---- the bytes of an indent
 

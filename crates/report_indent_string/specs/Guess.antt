@@ -1,9 +1,9 @@
 -- The guessed indent as a value.
-use Prim.Native.Nat.{_≤_}
+use Prim.Native.Nat.{_+_, _≤_}
 use mathlib.Core.Path.{_≡_}
-use mathlib.Core.Bool.{cond}
+use mathlib.Core.Bool.{false, cond}
 use mathlib.Core.List.{[], _∷_}
-use lib.ListN.{length, replicate}
+use lib.ListN.{length, take, drop, replicate}
 use Rattle.model.specs.Text.{Text, TAB, SPACE}
 use Rattle.model.specs.Indent.{get-indent-string}
 use Rattle.report_indent_string.specs.declared.Indentor.{Indentor}
@@ -12,7 +12,8 @@ use Rattle.report_indent_string.specs.declared.Indentor.{Indentor}
 unfoldable pub indentor-text : Indentor → Text
 indentor-text g = cond (g .tab) (TAB ∷ []) (replicate (g .spaces) SPACE)
 
--- it is the source's indent string; there are no more spaces than the source has bytes
+-- it is the source's indent string; spaces stand at its place in the source
 pub record Guessed (source : Text) (g : Indentor) : Type 0 where
   pub text : indentor-text g ≡ get-indent-string source
-  pub short : g .spaces ≤ length source
+  pub inside : g .at + g .spaces ≤ length source
+  pub place : g .tab ≡ false → take (g .spaces) (drop (g .at) source) ≡ get-indent-string source

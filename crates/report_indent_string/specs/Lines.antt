@@ -38,3 +38,13 @@ pub record Adds (t : Tally) (l : Text) (r : Tally) : Type 0 where
 -- so it is for each line that begins with n spaces, and with a tab exactly if `first` is one
 abbrev pub Counts : Tally → ℕ → ℕ → Tally → Type 0
 Counts t first n r = (l : Text) → tabbed l ≡ eqb first TAB → leading-spaces l ≡ n → Adds t l r
+
+-- the line of which t has the place: it begins with the fewest spaces; before the first, these are as many as s has bytes
+pub record Held (s : Text) (t : Tally) : Type 0 where
+  pub none : t .spaced ≡ 0 → t .least ≡ length s
+  pub inside : t .at ≤ length s
+  pub some : 0 < t .spaced → t .least ≤ leading-spaces (drop (t .at) s)
+
+-- so it is behind a line that begins with n spaces at `at`
+abbrev pub Places : Tally → ℕ → ℕ → Tally → Type 0
+Places t n at r = (s : Text) → at ≤ length s → leading-spaces (drop at s) ≡ n → Held s t → Held s r

@@ -8,21 +8,23 @@ ghost use Rattle.model.specs.Call.{get-indent-string as GetIndentString};
 ghost use Rattle.memory.specs.Layout.{magicStringOf};
 ghost use Rattle.memory.specs.WellFormed.{WellFormed};
 ghost use Rattle.memory.specs.Calls.{Told};
-ghost use Rattle.report_indent_string.specs.Lines.{NoFeeds, Seeking, NextLine, Counts};
+ghost use Rattle.report_indent_string.specs.Lines.{NoFeeds, Seeking, NextLine, Counts, Places};
 ghost use Rattle.report_indent_string.specs.Guess.{indentor-text, Guessed};
 use memory::Answer;
 
-// The guessed indent: one tab, or some spaces.
+// The guessed indent: one tab, or some spaces, which stand in the source from `at` on.
 pub struct Indentor {
     pub tab: bool,
     pub spaces: u32,
+    pub at: u32,
 }
 
-// The lines passed: how many begin with a tab, how many with two spaces, and the fewest leading spaces of these.
+// The lines passed: how many begin with a tab, how many with two spaces, the fewest leading spaces of these, and where such a line begins.
 pub struct Tally {
     pub tabbed: usize,
     pub spaced: usize,
     pub least: usize,
+    pub at: usize,
 }
 
 // The place behind the spaces that stand in `s` from `at` on.
@@ -84,32 +86,35 @@ fn next_line(s: &[u8], at: usize) -> usize
     i
 }
 
-// One line more, by the byte and the count of spaces that it begins with.
-fn counted(t: Tally, first: u8, n: usize) -> Tally
+// One line more, by the byte and the count of spaces that it begins with at `at`.
+fn counted(t: Tally, first: u8, n: usize, at: usize) -> Tally
     requires { ⌜ (t .tabbed + 1 < 2 ^ 64) × (t .spaced + 1 < 2 ^ 64) ⌝ }
-    ensures { λ r. ⌜ Counts t first n r ⌝ }
+    ensures { λ r. ⌜ Counts t first n r × Places t n at r ⌝ }
 {
     if first == 9 {
         return Tally {
             tabbed: t.tabbed + 1,
             spaced: t.spaced,
             least: t.least,
+            at: t.at,
         };
     }
     if n < 2 {
         return t;
     }
-    if n < t.least {
+    if n <= t.least {
         return Tally {
             tabbed: t.tabbed,
             spaced: t.spaced + 1,
             least: n,
+            at,
         };
     }
     Tally {
         tabbed: t.tabbed,
         spaced: t.spaced + 1,
         least: t.least,
+        at: t.at,
     }
 }
 
@@ -122,27 +127,30 @@ pub fn guess_indentor(source: &[u8]) -> Indentor
         tabbed: 0,
         spaced: 0,
         least: source.len(),
+        at: 0,
     };
     let mut i = 0;
     while i < source.len() {
         let end = behind_spaces(source, i);
-        t = counted(t, source[i], end - i);
+        t = counted(t, source[i], end - i, i);
         i = next_line(source, end);
     }
     if t.spaced <= t.tabbed {
         return Indentor {
             tab: true,
             spaces: 0,
+            at: 0,
         };
     }
     Indentor {
         tab: false,
         spaces: t.least as u32,
+        at: t.at as u32,
     }
 }
 
 // The bytes of an indent.
-pub fn indentor_len(g: Indentor) -> u32
+fn indentor_len(g: Indentor) -> u32
     ensures { λ r. ⌜ r ≡ length (indentor-text g) ⌝ }
 {
     if g.tab {
@@ -164,7 +172,7 @@ fn fill(out: &mut [u8], n: usize, b: u8)
 }
 
 // Writes an indent to the front of `out`.
-pub fn put_indentor(out: &mut [u8], g: Indentor)
+fn put_indentor(out: &mut [u8], g: Indentor)
     requires { ⌜ length (indentor-text g) ≤ length (now out) ⌝ }
     ensures { λ _. ⌜ now (out .exit) ≡ indentor-text g ++ drop (length (indentor-text g)) (now (out .entry)) ⌝ }
 {

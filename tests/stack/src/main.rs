@@ -56,9 +56,9 @@ fn main() -> ExitCode {
   ExitCode::SUCCESS
 }
 
-/// What the header says of an indent, of other edits, and of the check and reports,
-/// in kB of 1,000 bytes.
-fn limits() -> [usize; 3] {
+/// What the header says of an edit, and of the check and a report, in kB of 1,000
+/// bytes.
+fn limits() -> [usize; 2] {
   let header = include_str!("../../../include/magic_string.h");
   let (_, said) = header.split_once("Its stack, measured:").expect("the header's sentence");
   let (said, _) = said.split_once('.').expect("its end");
@@ -67,7 +67,7 @@ fn limits() -> [usize; 3] {
     .filter(|pair| pair[1].starts_with("kB"))
     .map(|pair| pair[0].parse().expect("a number before kB"))
     .collect();
-  figures.try_into().expect("three figures")
+  figures.try_into().expect("two figures")
 }
 
 /// Random papers of one kind.

@@ -17,7 +17,7 @@ pub const GROUPS: [(&str, usize); 10] = [
   ("update_with", EDIT),
   ("relocate", EDIT),
   ("trim, trim_start, trim_end, trim_lines", EDIT),
-  ("indent_with", INDENT),
+  ("indent_with", EDIT),
   ("slice, to_string, last_line, get_indent_string", REPORT),
   (
     "len, len_utf16, line_count, is_empty, has_changed, last_char, is_range_within_edited_chunk",
@@ -25,11 +25,10 @@ pub const GROUPS: [(&str, usize); 10] = [
   ),
 ];
 
-/// The kinds of which the header gives a figure, in its order: an indent, another
-/// edit, the check and a report.
-const INDENT: usize = 0;
-const EDIT: usize = 1;
-const REPORT: usize = 2;
+/// The kinds of which the header gives a figure, in its order: an edit, the check
+/// and a report.
+const EDIT: usize = 0;
+const REPORT: usize = 1;
 
 /// The most that a call of a group used, which call that was, and how many calls
 /// were measured.

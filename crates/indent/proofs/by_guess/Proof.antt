@@ -1,21 +1,21 @@
-use mathlib.Core.Path.{sym}
-use native.Mathlib.Omega.{arith}
-use Rattle.memory_layout.specs.Layout.{SOURCE-BYTES}
-use Rattle.memory.proofs.Desks.{zeros-length}
+use mathlib.Core.Path.{refl}
+use Rattle.memory.proofs.Desks.{narrow-source}
+use Rattle.indent.proofs.Call.{none-ran}
 use borrow.Author.Needs.{needs}
 use Rattle.indent.proofs.by_guess.Statement.{statement}
 use Rattle.indent.proofs.by_guess.Tie as tie
 
-array-borrow-prefix-out : tie.Need-array-borrow-prefix-out
-array-borrow-prefix-out c = search needs
+guess-indentor-requires : tie.Need-guess-indentor-requires
+guess-indentor-requires c κs = narrow-source (c .before .before .before .before .before .pre .0 .well-formed)
 
-slice-aggregate-guessed-in : tie.Need-slice-aggregate-guessed-in
-slice-aggregate-guessed-in c = sym (zeros-length SOURCE-BYTES SOURCE-BYTES (omega arith))
+slice-aggregate-guessed : tie.Need-slice-aggregate-guessed
+slice-aggregate-guessed c = search needs
 
-guessed-in-requires : tie.Need-guessed-in-requires
-guessed-in-requires c κs =
-    let start = c .before .before .before .before .before .before .before .before .before in
-    (start .pre .0, (rw (zeros-length SOURCE-BYTES SOURCE-BYTES (omega arith)) (omega arith), (start .pre .1 .0, start .pre .1 .1)))
+guessed-requires : tie.Need-guessed-requires
+guessed-requires c κs = (c .before .guess-indentor .ensures, refl)
+
+indent-scratch-requires : tie.Need-indent-scratch-requires
+indent-scratch-requires c κs = search needs
 
 same-length : tie.Need-same-length
 same-length c = search needs
@@ -27,15 +27,21 @@ same-length-3 : tie.Need-same-length-3
 same-length-3 c = search needs
 
 returns : tie.Need-returns
-returns c = search needs
+returns c =
+    let start = c .before .before .before .before .before .before .before .before .before .before .before .before .before .before .before .before .before .before in
+    let guessed = c .before .before .before .before .before .before .before .before .before .before .guessed in
+    let tables = c .before .before .before .before .before .before .indent-scratch in
+    let ran = none-ran (start .pre .0 .well-formed) (start .args .exclude .now) (start .pre .1 .0) (start .pre .1 .1) _ (guessed .ensures) (tables .ensures .0) in
+    record { ran = ran; above = tables .ensures .1 }
 
 pub by-guess-spec : {M : Type 1} → statement M
 by-guess-spec =
     tie.close
     (tie.spec
-    array-borrow-prefix-out
-    slice-aggregate-guessed-in
-    guessed-in-requires
+    guess-indentor-requires
+    slice-aggregate-guessed
+    guessed-requires
+    indent-scratch-requires
     same-length
     same-length-2
     same-length-3

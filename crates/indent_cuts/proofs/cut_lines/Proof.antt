@@ -6,15 +6,15 @@ use Rattle.indent_cuts.proofs.cut_lines.Statement.{statement}
 use Rattle.indent_cuts.proofs.cut_lines.Tie as tie
 
 abbrev Inv-loop : tie.InvT-loop
-Inv-loop source exclude t₀ i from end mark cur₀ at₀ m₀ t cur at m = LinesAt exclude source t₀ i from end mark t cur at m
+Inv-loop source exclude t₀ i from end mark laid cur₀ at₀ m₀ t cur at m = LinesAt exclude source t₀ i from end mark laid t cur at m
 
 abbrev μ-loop : tie.MeasureT-loop
-μ-loop source exclude t₀ i from end mark cur₀ at₀ m₀ t cur at m = end - at
+μ-loop source exclude t₀ i from end mark laid cur₀ at₀ m₀ t cur at m = end - at
 
 loop-holds : tie.Need-loop-holds Inv-loop μ-loop
 loop-holds c =
     let a = c .before .before .before .args in
-    lines-start (a .exclude .now) (a .source .now) (a .t .now) (a .i) (a .from) (a .end) (a .mark) (c .before .before .before .pre)
+    lines-start (a .exclude .now) (a .source .now) (a .t .now) (a .i) (a .from) (a .end) (a .mark) (a .laid) (c .before .before .before .pre)
 
 next-start-requires : tie.Need-next-start-requires Inv-loop μ-loop
 next-start-requires c κs = (omega (arith, c .before .loop .inv .up-to), c .before .before .before .before .before .pre .inside)
@@ -26,7 +26,7 @@ returns : tie.Need-returns Inv-loop μ-loop
 returns c =
     let a = c .before .before .before .before .before .before .before .args in
     let l = c .before .before .before .loop in
-    lines-end (a .exclude .now) (a .source .now) (a .t .now) (a .i) (a .from) (a .end) (a .mark) (l .t) (l .cur) (l .at) (l .m)
+    lines-end (a .exclude .now) (a .source .now) (a .t .now) (a .i) (a .from) (a .end) (a .mark) (a .laid) (l .t) (l .cur) (l .at) (l .m)
     (c .before .before .before .before .before .before .before .pre) (l .inv)
     (c .before .next-start .result .at) (c .before .next-start .result .mark) (c .before .next-start .ensures) (c .if1 .taken)
 
@@ -40,7 +40,7 @@ returns-2 : tie.Need-returns-2 Inv-loop μ-loop
 returns-2 c =
     let a = c .before .before .before .before .before .before .before .before .before .before .args in
     let l = c .before .before .before .before .before .before .loop in
-    lines-full (a .exclude .now) (a .source .now) (a .t .now) (a .i) (a .from) (a .end) (a .mark) (l .t) (l .cur) (l .at) (l .m)
+    lines-full (a .exclude .now) (a .source .now) (a .t .now) (a .i) (a .from) (a .end) (a .mark) (a .laid) (l .t) (l .cur) (l .at) (l .m)
     (c .before .before .before .before .before .before .before .before .before .before .pre) (l .inv)
     (c .before .before .before .before .next-start .result .at) (c .before .before .before .before .next-start .result .mark)
     (c .before .before .before .before .next-start .ensures) (c .before .before .before .if1 .left)
@@ -52,9 +52,9 @@ cut-part-requires c κs =
     let l = c .before .before .before .before .before .before .before .loop in (
       l .inv .cutting .linked,
       (
-        lines-placed (a .exclude .now) (a .source .now) (a .t .now) (a .i) (a .from) (a .end) (a .mark) (l .t) (l .cur) (l .at) (l .m)
+        lines-placed (a .exclude .now) (a .source .now) (a .t .now) (a .i) (a .from) (a .end) (a .mark) (a .laid) (l .t) (l .cur) (l .at) (l .m)
             (c .before .before .before .before .before .before .before .before .before .before .before .pre) (l .inv),
-        lines-room (a .exclude .now) (a .source .now) (a .t .now) (a .i) (a .from) (a .end) (a .mark) (l .t) (l .cur) (l .at) (l .m)
+        lines-room (a .exclude .now) (a .source .now) (a .t .now) (a .i) (a .from) (a .end) (a .mark) (a .laid) (l .t) (l .cur) (l .at) (l .m)
             (c .before .before .before .before .before .before .before .before .before .before .before .pre) (l .inv)
             (sym (c .before .before .is-full .ensures) ∙ c .before .if2 .left),
       ),
@@ -75,7 +75,7 @@ loop-again : tie.Need-loop-again Inv-loop μ-loop
 loop-again c =
     let a = c .before .before .before .before .before .before .before .before .before .before .before .before .before .before .args in
     let l = c .before .before .before .before .before .before .before .before .before .before .loop in
-    lines-more (a .exclude .now) (a .source .now) (a .t .now) (a .i) (a .from) (a .end) (a .mark) (l .t) (l .cur) (l .at) (l .m)
+    lines-more (a .exclude .now) (a .source .now) (a .t .now) (a .i) (a .from) (a .end) (a .mark) (a .laid) (l .t) (l .cur) (l .at) (l .m)
     (c .before .before .before .before .before .before .before .before .before .before .before .before .before .before .pre) (l .inv)
     (c .before .before .before .before .before .before .before .before .next-start .result .at)
     (c .before .before .before .before .before .before .before .before .next-start .result .mark)
@@ -89,7 +89,7 @@ returns-3 : tie.Need-returns-3 Inv-loop μ-loop
 returns-3 c =
     let a = c .before .before .before .before .before .args in
     let l = c .before .loop in
-    lines-out (a .exclude .now) (a .source .now) (a .t .now) (a .i) (a .from) (a .end) (a .mark) (l .t) (l .cur) (l .at) (l .m)
+    lines-out (a .exclude .now) (a .source .now) (a .t .now) (a .i) (a .from) (a .end) (a .mark) (a .laid) (l .t) (l .cur) (l .at) (l .m)
     (c .before .before .before .before .before .pre) (l .inv) (c .loop-test .left)
 
 pub cut-lines-spec : {M : Type 1} → statement M

@@ -1,4 +1,3 @@
-use mathlib.Core.Path.{refl}
 use native.Mathlib.Omega.{arith}
 use borrow.Author.Tests.{not-true, not-false}
 use Rattle.memory_list.proofs.Insert.{room-i}
@@ -23,13 +22,11 @@ same-length-2 : tie.Need-same-length-2
 same-length-2 c = search needs
 
 returns : tie.Need-returns
-returns c = (
-  refl,
-  replacement-short (c .before .before .before .before .before .before .before .before .before .before .before .before .args .indentor .now)
-      (c .before .before .before .before .before .before .before .before .before .before .before .before .args .mark)
-      (c .before .before .before .before .before .before .get-row .ensures) (c .before .before .before .before .write-indented .ensures)
-      (not-true _ (c .if1 .taken)),
-)
+returns c =
+    replacement-short (c .before .before .before .before .before .before .before .before .before .before .before .before .args .indentor .now)
+    (c .before .before .before .before .before .before .before .before .before .before .before .before .args .mark)
+    (c .before .before .before .before .before .before .get-row .ensures) (c .before .before .before .before .write-indented .ensures)
+    (not-true _ (c .if1 .taken))
 
 sub-with-text : tie.Need-sub-with-text
 sub-with-text c = omega (arith, c .before .before .before .before .before .before .write-indented .ensures .end-is (not-false _ (c .before .before .if1 .left)))
@@ -50,17 +47,15 @@ same-length-4 : tie.Need-same-length-4
 same-length-4 c = search needs
 
 returns-2 : tie.Need-returns-2
-returns-2 c = (
-  refl,
-  replacement-written (c .before .before .before .before .before .before .before .before .before .before .before .before .before .before .before .before
-      .before .before .args .indentor .now) (c .before .before .before .before .before .before .before .before .before .before .before .before .before
-      .before .before .before .before .before .args .mark) (c .before .before .before .before .before .before .before .before .before .before .before
-      .before .before .before .before .before .before .before .pre)
-      (c .before .before .before .before .before .before .before .before .before .before .before .before .get-row .ensures)
-      (c .before .before .before .before .before .before .before .before .before .before .write-indented .ensures)
-      (not-false _ (c .before .before .before .before .before .before .if1 .left)) (c .before .before .before .with-text .ensures)
-      (c .before .before .put-row .ensures) (c .before .before .put-row .kept .0),
-)
+returns-2 c =
+    replacement-written (c .before .before .before .before .before .before .before .before .before .before .before .before .before .before .before .before
+    .before .before .args .indentor .now) (c .before .before .before .before .before .before .before .before .before .before .before .before .before
+    .before .before .before .before .before .args .mark) (c .before .before .before .before .before .before .before .before .before .before .before
+    .before .before .before .before .before .before .before .pre)
+    (c .before .before .before .before .before .before .before .before .before .before .before .before .get-row .ensures)
+    (c .before .before .before .before .before .before .before .before .before .before .write-indented .ensures)
+    (not-false _ (c .before .before .before .before .before .before .if1 .left)) (c .before .before .before .with-text .ensures)
+    (c .before .before .put-row .ensures) (c .before .before .put-row .kept .0)
 
 pub indent-replacement-spec : {M : Type 1} → statement M
 indent-replacement-spec =

@@ -33,7 +33,7 @@ returns c =
     let copied =
     rows-copied (put-piece .last .0) (copy-rows .last .0) (a .at) (a .n) (a .top + 1) (omega (arith, start .pre .below))
     (omega (arith, start .pre .room, put-piece .kept .0)) (copy-rows .ensures) in
-    prefixed (a .p .now) (put-piece .last .0) (copy-rows .last .0) (a .at) (a .n) (a .top) (get-piece .result) (start .pre)
+    prefixed (a .p .now) (put-piece .last .0) (copy-rows .last .0) (a .at) (a .n) (a .top) (a .laid) (get-piece .result) (start .pre)
     (get-piece .ensures) (put-piece .ensures) (put-piece .kept .0) copied
 
 pub prefix-run-spec : {M : Type 1} → statement M

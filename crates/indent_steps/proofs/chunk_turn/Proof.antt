@@ -31,6 +31,7 @@ returns c =
       mark₁ = _;
       top = _;
       byte = _;
+      laid = _;
       row = c .before .before .before .before .before .before .before .before .before .indent-row .ensures;
       stop = λ _. c .stopped .ensures;
       go-on = λ z. absurd (no z);
@@ -38,7 +39,9 @@ returns c =
     }
 
 onward-requires : tie.Need-onward-requires
-onward-requires c κs = search needs
+onward-requires c κs =
+    let start = c .before .before .before .before .before .before .before .before .before .before .before .before .before .before .before .before .before .before .before .before .before in
+    start .pre .inside
 
 same-length-4 : tie.Need-same-length-4
 same-length-4 c = search needs
@@ -61,9 +64,12 @@ returns-2 c =
       mark₁ = _;
       top = _;
       byte = _;
+      laid = _;
       row = indent-row .ensures;
       stop = λ n. absurd (n (if1 .left));
-      go-on = λ _. c .onward .ensures ∙ ap (λ (z : Row). onward-at (a .at) (z .next) (indent-row .result .top) (indent-row .result .byte)) (get-row .ensures);
+      go-on = λ _.
+          let w = indent-row .result in
+          c .onward .ensures ∙ ap (λ (z : Row). onward-at (a .at) (z .next) (w .top) (w .byte) (w .laid)) (get-row .ensures);
       mark-is = λ _. refl;
     }
 

@@ -3,20 +3,16 @@ use borrow.Author.Needs.{needs}
 use Rattle.indent_steps.proofs.indent_steps.Statement.{statement}
 use Rattle.indent_steps.proofs.indent_steps.Tie as tie
 
-lay-indentor-requires : tie.Need-lay-indentor-requires
-lay-indentor-requires c κs = search needs
-
 run-begins-requires : tie.Need-run-begins-requires
 run-begins-requires c κs = search needs
 
 walk-texts-requires : tie.Need-walk-texts-requires
 walk-texts-requires c κs =
-    let start = c .before .before .before .before .before .before .before .before .before .before .before .before .before .before .before .before .before .before .before .before in
-    let lay-indentor = c .before .before .before .before .before .before .before .before .before .lay-indentor in
+    let start = c .before .before .before .before .before .before .before .before .before .before .before .before .before in
     let run-begins = c .before .before .before .run-begins in
     let a = start .args in
-    head-begins (a .indentor .now) (a .exclude .now) (a .source .now) (a .t .now) (a .pieces .now) (a .store .now) (a .p .now) (a .s .now) _ _ (start .pre)
-    (lay-indentor .ensures) (run-begins .result) (run-begins .ensures)
+    head-begins (a .indentor .now) (a .exclude .now) (a .source .now) (a .t .now) (a .pieces .now) (a .store .now) (a .p .now) (a .s .now) (start .pre)
+    (run-begins .result) (run-begins .ensures)
 
 same-length : tie.Need-same-length
 same-length c = search needs
@@ -34,7 +30,6 @@ pub indent-steps-spec : {M : Type 1} → statement M
 indent-steps-spec =
     tie.close
     (tie.spec
-    lay-indentor-requires
     run-begins-requires
     walk-texts-requires
     same-length

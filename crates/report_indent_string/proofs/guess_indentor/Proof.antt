@@ -41,7 +41,7 @@ loop-again : tie.Need-loop-again Inv-loop μ-loop
 loop-again c =
     tallied-more (c .before .before .before .before .before .loop .inv) (c .before .before .before .before .loop-test .taken) _
     (c .before .before .before .behind-spaces .ensures) _ (c .next-line .ensures) _
-    (c .before .counted .ensures)
+    (c .before .counted .ensures .0) (c .before .counted .ensures .1)
 
 returns : tie.Need-returns Inv-loop μ-loop
 returns c = guessed-tab (c .before .before .before .loop .inv) (c .before .before .loop-test .left) (c .if1 .taken)
@@ -49,8 +49,11 @@ returns c = guessed-tab (c .before .before .before .loop .inv) (c .before .befor
 cast-t11 : tie.Need-cast-t11 Inv-loop μ-loop
 cast-t11 c = omega (arith, c .before .before .before .before .loop .inv .short, c .before .before .before .before .before .before .pre)
 
+cast-t12 : tie.Need-cast-t12 Inv-loop μ-loop
+cast-t12 c = omega (arith, c .before .before .before .before .before .loop .inv .held .inside, c .before .before .before .before .before .before .before .pre)
+
 returns-2 : tie.Need-returns-2 Inv-loop μ-loop
-returns-2 c = guessed-spaces (c .before .before .before .before .loop .inv) (c .before .before .before .loop-test .left) (c .before .if1 .left)
+returns-2 c = guessed-spaces (c .before .before .before .before .before .loop .inv) (c .before .before .before .before .loop-test .left) (c .before .before .if1 .left)
 
 pub guess-indentor-spec : {M : Type 1} → statement M
 guess-indentor-spec =
@@ -68,4 +71,5 @@ guess-indentor-spec =
     loop-again
     returns
     cast-t11
+    cast-t12
     returns-2)
