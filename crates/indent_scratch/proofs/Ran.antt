@@ -14,7 +14,7 @@ use Rattle.memory.proofs.Desks.{desk-full}
 use Rattle.edit_rebuild.specs.Rebuilt.{Finished}
 use Rattle.edit_scratch.specs.Loaded.{Loaded}
 use Rattle.edit_scratch.proofs.Tables.{loaded-readable, loaded-desk, ran-past-limits, ran-finished, may-write-0}
-use Rattle.indent_steps.specs.Steps.{StepsReady, IndentSteps}
+use Rattle.indent_turns.specs.Steps.{StepsReady, IndentSteps}
 use Rattle.indent_scratch.specs.Ran.{IndentScratch, IndentRan}
 
 -- ---- the steps
