@@ -1,79 +1,30 @@
--- Laws of what `Call` in specs/ defines.
+-- `indent_with` as a call: its tests, and the indentor given or guessed.
 use mathlib.Core.Path.{_≡_, refl, sym, ap, _∙_, subst}
 use mathlib.Core.Bool.{Bool, true, false, _&&_, cond}
 use mathlib.Core.List.{List, [], _∷_}
 use mathlib.Core.Option.{Option, none, some}
-use mathlib.Core.Logic.{⊎-elim}
 use Prim.Native.Nat.{ℕ, _+_, _%_, _≤_, _<_}
-use native.Mathlib.Omega.{arith}
-use lib.ListN.{length, getD, take, drop, length-append, length-drop, drop-of-length-le}
+use lib.ListN.{length, getD, take, drop, drop-of-length-le}
 use lib.Seq.{drop-cons}
 use native.Mathlib.Numerals.{add-one}
 use borrow.Author.Tests.{eq-eqb, ne-eqb}
 use Rattle.utf8.specs.Rfc3629.{utf8, between}
 use Rattle.model.specs.Text.{Text, TAB, all, is-nil}
-use Rattle.model.specs.MagicString.{MagicString, Result, ok}
-use Rattle.model.specs.Limits.{full, within}
+use Rattle.model.specs.MagicString.{MagicString, ok}
 use Rattle.model.specs.Indent.{get-indent-string, indent-by}
 use Rattle.model.specs.Indent as indent-rs
 use Rattle.model.specs.Call.{Edit, indent-with, options-valid, refused-before}
-use Rattle.model.specs.WellFormed as model
 use Rattle.model.proofs.Lists.{nil-true}
 use Rattle.memory.specs.Layout.{magicStringOf}
-use Rattle.memory.specs.WellFormed.{Readable, WellFormed}
+use Rattle.memory.specs.WellFormed.{WellFormed}
 use Rattle.memory.specs.Calls.{Ran, indentor-of}
-use Rattle.memory.proofs.Desks.{source-of, desk-full}
+use Rattle.memory.proofs.Desks.{source-of}
 use Rattle.memory_used.specs.declared.Outcome.{Outcome}
 use Rattle.memory_used.specs.Above.{Leaves}
-use Rattle.edit_rebuild.specs.Rebuilt.{Finished}
-use Rattle.edit_scratch.specs.Loaded.{Loaded}
-use Rattle.edit_scratch.proofs.Tables.{loaded-readable, loaded-desk, ran-before, ran-same, ran-past-limits, ran-finished, refused-1, refused-3, not-refused, may-write-0}
-use Rattle.indent_steps.specs.Steps.{StepsReady, IndentSteps}
+use Rattle.edit_scratch.proofs.Tables.{ran-before, ran-same, refused-1, refused-3, not-refused}
 use Rattle.report_indent_string.specs.declared.Indentor.{Indentor}
 use Rattle.report_indent_string.specs.Guess.{indentor-text, Guessed}
-use Rattle.indent.specs.Call.{IndentScratch, IndentRan}
-
--- ---- the steps
-
-module _ {source t p s t₀ p₀ s₀ t1 p1 s1 : List ℕ} (w : WellFormed source t p s) (f : IndentScratch t₀ p₀ s₀) (d : Loaded t p s t₀ p₀ s₀ t1 p1 s1) where
-  pub steps-ready : StepsReady source t1 p s p1 s1
-  steps-ready =
-      record {
-        readable = loaded-readable w (f .scratch) d;
-        desk = subst (model.WellFormed full) (sym (loaded-desk w (f .scratch) d)) (record { formed = w .desk .formed; limits = desk-full w });
-        chunks = ap length (d .chunks) ∙ simp (length-append, length-drop) (omega (arith, w .sized .chunks, f .scratch .chunks));
-        pieces = w .sized .pieces;
-        store = w .sized .store;
-        behind = drop (length p) p₀;
-        after = drop (length s) s₀;
-        pieces-is = d .pieces;
-        store-is = d .store;
-        long-pieces = ap length (d .pieces) ∙ simp (length-append, length-drop) (omega (arith, w .sized .pieces, f .pieces));
-        long-store = ap length (d .store) ∙ simp (length-append, length-drop) (omega (arith, w .sized .store, f .store));
-      }
-
--- ---- the call past its tests, by any indentor
-
-module _ {indentor exclude source t p s t₀ p₀ s₀ t1 p1 s1 t2 p2 s2 : List ℕ} {r : ℕ} (w : WellFormed source t p s) (f : IndentScratch t₀ p₀ s₀)
-    (d : Loaded t p s t₀ p₀ s₀ t1 p1 s1) (x : IndentSteps indentor exclude source t1 p s t2 p2 s2 r) where
-  not-13 : (r ≡ 13 → ⊥) → r ≡ 0
-  not-13 n = ⊎-elim {C = r ≡ 0} (λ z. z) (λ z. absurd (n z)) (x .zero-or)
-
-  pub indent-readable : (r ≡ 13 → ⊥) → Readable t2 p2 s2
-  indent-readable n = x .did (not-13 n) .readable
-
-  pub indent-past : r ≡ 13 → IndentRan indentor exclude source t p s t p s 13
-  indent-past z e h q i =
-      ran-past-limits e source t p s w h
-      (ap (λ (y : Result). within full (y .desk)) (q ∙ ap (indent-by indentor exclude) (sym (loaded-desk w (f .scratch) d))) ∙ x .past z)
-
-  pub indent-ran : {t' p' s' : List ℕ} {r' : ℕ} → (r ≡ 13 → ⊥) → Finished t2 p2 s2 t p s t' p' s' r r' → IndentRan indentor exclude source t p s t' p' s' r'
-  indent-ran {t'} {p'} {s'} {r'} n y e h q i =
-      let g = x .did (not-13 n) in
-      let z : Finished t2 p2 s2 t p s t' p' s' 0 r' = subst (λ (k : ℕ). Finished t2 p2 s2 t p s t' p' s' k r') (not-13 n) y in
-      ran-finished w h
-      (record { readable = g .readable; result = q ∙ ap (indent-by indentor exclude) (sym (loaded-desk w (f .scratch) d)) ∙ g .result })
-      (may-write-0 e i) z
+use Rattle.indent_scratch.specs.Ran.{IndentRan}
 
 -- ---- every position of a list passes a test
 

@@ -7,10 +7,9 @@ ghost use Rattle.utf8.specs.Rfc3629.{utf8, between};
 ghost use Rattle.model.specs.Text.{TAB, all};
 ghost use Rattle.model.specs.Indent.{get-indent-string};
 ghost use Rattle.model.specs.Call.{indent-with, options-valid};
-ghost use Rattle.memory_used.specs.Above.{Above, Desk, Leaves};
+ghost use Rattle.memory_used.specs.Above.{Desk, Leaves};
 ghost use Rattle.memory.specs.Calls.{indentor-of};
 ghost use Rattle.report_indent_string.specs.Guess.{Guessed};
-ghost use Rattle.indent.specs.Call.{IndentScratch, IndentRan};
 use memory_used::Outcome;
 use memory_used::Used;
 use report_indent_string::Indentor;
@@ -28,68 +27,6 @@ fn positions_between(source: &[u8], exclude: &[u32]) -> bool
         i += 1;
     }
     true
-}
-
-// The steps and their end, with scratch tables lent.
-fn indent_by(
-    source: &[u8],
-    chunks: &mut [u32],
-    pieces: &mut [u32],
-    store: &mut [u8],
-    t: &mut [u32],
-    p: &mut [u32],
-    s: &mut [u8],
-    indentor: &[u8],
-    exclude: &[u32],
-    used: Used,
-) -> Outcome
-    requires { ⌜ Desk (now source) (now chunks) (now pieces) (now store) used ⌝ }
-    requires { ⌜ IndentScratch (now t) (now p) (now s) ⌝ }
-    ensures { λ o. ⌜ IndentRan (now (indentor .entry)) (now (exclude .entry)) (now (source .entry)) (now (chunks .entry)) (now (pieces .entry)) (now (store .entry))
-        (now (chunks .exit)) (now (pieces .exit)) (now (store .exit)) (o .number)
-        × Above (now (chunks .exit)) (now (pieces .exit)) (now (store .exit)) (o .used) ⌝ }
-{
-    edit_scratch::load(chunks, pieces, store, t, p, s);
-    let r = indent_steps::indent_steps(source, pieces, store, t, p, s, indentor, exclude);
-    if r == 13 {
-        return Outcome { number: 13, used };
-    }
-    edit_room_above::finish(t, p, s, chunks, pieces, store, r)
-}
-
-// The call past its tests, by an indentor.
-fn indent_scratch(
-    source: &[u8],
-    chunks: &mut [u32],
-    pieces: &mut [u32],
-    store: &mut [u8],
-    indentor: &[u8],
-    exclude: &[u32],
-    used: Used,
-) -> Outcome
-    requires { ⌜ Desk (now source) (now chunks) (now pieces) (now store) used ⌝ }
-    ensures { λ o. ⌜ IndentRan (now (indentor .entry)) (now (exclude .entry)) (now (source .entry)) (now (chunks .entry)) (now (pieces .entry)) (now (store .entry))
-        (now (chunks .exit)) (now (pieces .exit)) (now (store .exit)) (o .number)
-        × Above (now (chunks .exit)) (now (pieces .exit)) (now (store .exit)) (o .used) ⌝ }
-{
-    let rows = memory_layout::SCRATCH_LEN;
-    let words = memory_layout::INDENT_PIECES_LEN;
-    let size = memory_layout::INDENT_STORE_LEN;
-    let mut t = [0u32; memory_layout::SCRATCH_LEN];
-    let mut p = [0u32; memory_layout::INDENT_PIECES_LEN];
-    let mut s = [0u8; memory_layout::INDENT_STORE_LEN];
-    indent_by(
-        source,
-        chunks,
-        pieces,
-        store,
-        &mut t[..rows],
-        &mut p[..words],
-        &mut s[..size],
-        indentor,
-        exclude,
-        used,
-    )
 }
 
 // The guess as a part of the source, or as the lent tab.
@@ -124,7 +61,7 @@ fn by_guess(
     let tab = [9u8; 1];
     let g = report_indent_string::guess_indentor(source);
     let indentor = guessed(source, &tab[..1], g);
-    indent_scratch(source, chunks, pieces, store, indentor, exclude, used)
+    indent_scratch::indent_scratch(source, chunks, pieces, store, indentor, exclude, used)
 }
 
 // With an indentor: 1, 3; an empty one leaves everything.
@@ -147,7 +84,15 @@ fn by_given(
             if indentor.len() == 0 {
                 return Outcome { number: 0, used };
             }
-            return indent_scratch(source, chunks, pieces, store, indentor, exclude, used);
+            return indent_scratch::indent_scratch(
+                source,
+                chunks,
+                pieces,
+                store,
+                indentor,
+                exclude,
+                used,
+            );
         }
         return Outcome { number: 3, used };
     }

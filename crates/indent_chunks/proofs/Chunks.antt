@@ -134,8 +134,11 @@ module _ {indentor exclude source store t₀ p₀ s₀ : List ℕ} {mark₀ : Bo
     rest-here : All (RestRow source store p s top byte) (entryAt t cur ∷ map (entryAt t) bs)
     rest-here = subst (λ (l : List ℕ). All (RestRow source store p s top byte) (map (entryAt t) l)) (next .rest-is) (w .todo)
 
-    rows-here : top + (1 - laid) + ((chunk-pieces (chunkOf p s (entryAt t cur)) + sum chunk-pieces (chunksAt t p s bs)) + suc (length bs)) ≤ top₀ + 1 + (sum chunk-pieces (chunksOf t₀ p₀ s₀) + countOf t₀)
-    rows-here = subst (λ (l : List ℕ). top + (1 - laid) + (sum chunk-pieces (chunksAt t p s l) + length l) ≤ top₀ + 1 + (sum chunk-pieces (chunksOf t₀ p₀ s₀) + countOf t₀)) (next .rest-is) (w .rows-used)
+    rows-here : top + (1 - laid) + ((chunk-pieces (chunkOf p s (entryAt t cur)) + sum chunk-pieces (chunksAt t p s bs)) + suc (length bs))
+        ≤ top₀ + 1 + (sum chunk-pieces (chunksOf t₀ p₀ s₀) + countOf t₀)
+    rows-here =
+        subst (λ (l : List ℕ). top + (1 - laid) + (sum chunk-pieces (chunksAt t p s l) + length l) ≤ top₀ + 1 + (sum chunk-pieces (chunksOf t₀ p₀ s₀) + countOf t₀)) (next .rest-is)
+        (w .rows-used)
 
     result-here : closedOf indentor exclude source t₀ p₀ s₀ mark₀ ≡ then-chunks (chunksAt t p s us) (indented-chunks indentor exclude source mark (chunkOf p s (entryAt t cur) ∷ chunksAt t p s bs))
     result-here = w .result ∙ ap (λ (l : List ℕ). then-chunks (chunksAt t p s us) (indented-chunks indentor exclude source mark (chunksAt t p s l))) (next .rest-is)

@@ -43,6 +43,33 @@ use Rattle.indent_chunks.specs.Row.{RowAt, RowReady, closedRow, RowInden
 content-or-is : {o : Option Text} (p : Option Text) (x : Text) → o ≡ p → unwrap-or o x ≡ unwrap-or p x
 content-or-is p x e = ap (λ (y : Option Text). unwrap-or y x) e
 
+-- a row that stays
+row-stays : {indentor source t p s : List ℕ} {i top byte laid : ℕ} (exclude : List ℕ) (mark : Bool) → RowAt indentor source t p s i top byte laid → (m : Bool)
+    → closedRow indentor exclude source t p s i mark ≡ record { mark = m; chunks = chunkOf p s (entryAt t i) ∷ [] }
+    → RowDone indentor exclude source t p s i mark top byte laid t p s 0 m top byte laid
+row-stays {indentor} {source} {t} {p} {s} {i} {top} {byte} exclude mark h m q =
+    record {
+      zero-or = inl refl;
+      done = λ _.
+          record {
+            es = entryAt t i ∷ [];
+            spliced = spliced-same t i (h .linked);
+            rows = rows-same top p;
+            bytes = bytes-same byte s;
+            top-up = omega arith;
+            byte-up = omega arith;
+            byte-in = h .byte-in;
+            chunks = sym (ap (λ (y : IndentedChunks). y .chunks) q);
+            mark-is = sym (ap (λ (y : IndentedChunks). y .mark) q);
+            low = cons (h .low) nil;
+            indentor-row = h .indentor-row;
+            rows-used = omega arith;
+            bytes-used = omega arith;
+          };
+      past = λ z. absurd (omega arith);
+    }
+
+-- a chunk without a replacement, with the search for its first line start
 module _ {indentor source t p s : List ℕ} {i top byte laid : ℕ} (exclude : List ℕ) (mark : Bool) (h : RowAt indentor source t p s i top byte laid) (none-is : entryAt t i .text .0 ≡ NONE) where
   abbrev e₁ : Entry
   e₁ = entryAt t i
@@ -76,27 +103,7 @@ module _ {indentor source t p s : List ℕ} {i top byte laid : ℕ} (exclude : L
       -- no line start
       pub lines-none : x ≡ end → RowDone indentor exclude source t p s i mark top byte laid t p s 0 m top byte laid
       lines-none z =
-          let q = closed-lines ∙ ap (λ (y : Starts). record { mark = y .mark; chunks = split-lines indentor c₁ (y .starts) }) (n .none-left z) in
-          record {
-            zero-or = inl refl;
-            done = λ _.
-                record {
-                  es = e₁ ∷ [];
-                  spliced = spliced-same t i (h .linked);
-                  rows = rows-same top p;
-                  bytes = bytes-same byte s;
-                  top-up = omega arith;
-                  byte-up = omega arith;
-                  byte-in = h .byte-in;
-                  chunks = sym (ap (λ (y : IndentedChunks). y .chunks) q);
-                  mark-is = sym (ap (λ (y : IndentedChunks). y .mark) q);
-                  low = cons (h .low) nil;
-                  indentor-row = h .indentor-row;
-                  rows-used = omega arith;
-                  bytes-used = omega arith;
-                };
-            past = λ z. absurd (omega arith);
-          }
+          row-stays exclude mark h m (closed-lines ∙ ap (λ (y : Starts). record { mark = y .mark; chunks = split-lines indentor c₁ (y .starts) }) (n .none-left z))
 
       module _ (ne : x ≡ end → ⊥) where
         lines-below : x < end
@@ -182,6 +189,7 @@ module _ {indentor source t p s : List ℕ} {i top byte laid : ℕ} (exclude : L
                 past = λ z. inl (omega (arith, y .past z, ap length chunks-then, lines-parts indentor c₁ (W₁ .starts)));
               }
 
+-- one with a replacement
 module _ {indentor source store t p s : List ℕ} {i top byte laid : ℕ} (exclude : List ℕ) (mark : Bool) (h : RowReady indentor source store t p s i top byte laid) where
   abbrev e : Entry
   e = entryAt t i
@@ -189,7 +197,6 @@ module _ {indentor source store t p s : List ℕ} {i top byte laid : ℕ} (exclu
   abbrev c : Chunk
   c = chunkOf p s (entryAt t i)
 
-  -- its replacement
   module _ (some-is : e .text .0 ≡ NONE → ⊥) where
     edited-some : c .texts .edited-content ≡ some (bytesAt s (e .text))
     edited-some = some-text s (e .text) some-is
@@ -210,28 +217,7 @@ module _ {indentor source store t p s : List ℕ} {i top byte laid : ℕ} (exclu
         }
 
     pub row-excluded : excluded exclude (e .start) ≡ true → RowDone indentor exclude source t p s i mark top byte laid t p s 0 mark top byte laid
-    row-excluded x =
-        let q = indented-excluded indentor exclude source mark c edited-some x in
-        record {
-          zero-or = inl refl;
-          done = λ _.
-              record {
-                es = e ∷ [];
-                spliced = spliced-same t i (h .row .linked);
-                rows = rows-same top p;
-                bytes = bytes-same byte s;
-                top-up = omega arith;
-                byte-up = omega arith;
-                byte-in = h .row .byte-in;
-                chunks = sym (ap (λ (y : IndentedChunks). y .chunks) q);
-                mark-is = sym (ap (λ (y : IndentedChunks). y .mark) q);
-                low = cons (h .row .low) nil;
-                indentor-row = h .row .indentor-row;
-                rows-used = omega arith;
-                bytes-used = omega arith;
-              };
-          past = λ z. absurd (omega arith);
-        }
+    row-excluded x = row-stays exclude mark (h .row) mark (indented-excluded indentor exclude source mark c edited-some x)
 
     module _ (x : excluded exclude (e .start) ≡ false) where
       abbrev F : Indented

@@ -85,8 +85,8 @@ set-then {t} {t1} {t2} {i} r m d =
 
 -- ---- the row cut at q: row n, behind it, begins with the indentor
 
-pub cut-part : {t t1 t2 : List ℕ} {i n q laid : ℕ} → Linked t → Placed t i → n ≡ countOf t + 1 → SplitRow t t1 i q → length t1 ≡ length t → RowSet t1 t2 n (begun laid (entryAt t1 n)) → length t2 ≡ length t1
-    → CutPart t t2 i n q laid
+pub cut-part : {t t1 t2 : List ℕ} {i n q laid : ℕ} → Linked t → Placed t i → n ≡ countOf t + 1 → SplitRow t t1 i q → length t1 ≡ length t
+    → RowSet t1 t2 n (begun laid (entryAt t1 n)) → length t2 ≡ length t1 → CutPart t t2 i n q laid
 cut-part {t} {t1} {t2} {i} {n} {q} {laid} l w en d m r k =
     let b = inside-at t (w .us) i (w .bs) l (w .place) in
     record {

@@ -5,9 +5,9 @@ use mathlib.Core.List.{List}
 use mathlib.Core.Logic.{inl, inr}
 use Prim.Native.Nat.{ℕ}
 use Rattle.model.proofs.Lists.{clash}
-use Rattle.indent_steps.specs.declared.TextAt.{TextAt}
-use Rattle.indent_steps.specs.Steps.{IndentSteps}
-use Rattle.indent_steps.specs.Walk.{Walking}
+use Rattle.indent_turns.specs.declared.TextAt.{TextAt}
+use Rattle.indent_turns.specs.Steps.{IndentSteps}
+use Rattle.indent_turns.specs.Walk.{Walking}
 
 -- ---- the end of the walk
 

@@ -1,4 +1,4 @@
-use Rattle.indent_steps.proofs.Turns.{head-begins}
+use Rattle.indent_turns.proofs.Turns.{head-begins}
 use borrow.Author.Needs.{needs}
 use Rattle.indent_steps.proofs.indent_steps.Statement.{statement}
 use Rattle.indent_steps.proofs.indent_steps.Tie as tie

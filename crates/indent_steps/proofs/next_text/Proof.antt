@@ -46,20 +46,20 @@ use denote.Triple.Table.{entered, cited}
 use denote.Triple.Walked.{says, needs, Stays, stay-ref, stay-none, stay-none-slice, gave-slice, walkOf, AllGo, goes-none, goes-none-slice, goes-gave-slice, goes-ref, Walks}
 use denote.Triple.Walked.{ends-at, walked, walk-meets}
 use denote.Exit.{yes}
-use Rattle.indent_steps.specs.Walk.{TurnReady, Turned}
+use Rattle.indent_turns.specs.Walk.{TurnReady, Turned}
 use Rattle.indent_steps.specs.declared.IndentState.{IndentState}
-use Rattle.indent_steps.specs.declared.TextAt.{TextAt}
-use Rattle.indent_steps.specs.declared.Texted.{Texted}
+use Rattle.indent_turns.specs.declared.TextAt.{TextAt}
+use Rattle.indent_turns.specs.declared.Texted.{Texted}
 use Rattle.indent_steps.proofs.IndentState as T
 use Rattle.indent_steps.proofs.IndentState.Laws as T′
-use Rattle.indent_steps.proofs.TextAt as P
-use Rattle.indent_steps.proofs.TextAt.Laws as P′
-use Rattle.indent_steps.proofs.Texted as S
-use Rattle.indent_steps.proofs.Texted.Laws as S′
-use Rattle.indent_steps.proofs.turn as g
-use Rattle.indent_steps.proofs.turn.Symbol as g-def
-use Rattle.indent_steps.proofs.turn.Symbol.{name as #indent_steps·turn}
-use Rattle.indent_steps.proofs.turn.Met as g-thm
+use Rattle.indent_turns.proofs.TextAt as P
+use Rattle.indent_turns.proofs.TextAt.Laws as P′
+use Rattle.indent_turns.proofs.Texted as S
+use Rattle.indent_turns.proofs.Texted.Laws as S′
+use Rattle.indent_turns.proofs.turn as g
+use Rattle.indent_turns.proofs.turn.Symbol as g-def
+use Rattle.indent_turns.proofs.turn.Symbol.{name as #indent_turns·turn}
+use Rattle.indent_turns.proofs.turn.Met as g-thm
 use Rattle.indent_steps.proofs.next_text.Key.{name as #indent_steps·next-text}
 use Rattle.indent_steps.proofs.next_text as f
 use Rattle.indent_steps.proofs.next_text.Statement as stated
@@ -358,7 +358,7 @@ module _ {M : Type 1} (𝓤 : URA M) (H : Heap 𝓤) (A : Atoms 𝓤) (W : Given
       fjoin ! $ move ! (7 ∷ 0 ∷ []) $ fjoin ! $ move ! (6 ∷ 0 ∷ []) $ fjoin ! $ move ! (5 ∷ 0 ∷ []) $ fjoin ! $ move ! (4 ∷ 0 ∷ []) $ fjoin ! $
       move ! (3 ∷ 0 ∷ []) $ fjoin ! $ move ! (2 ∷ 0 ∷ []) $ fjoin ! $ move ! (1 ∷ 0 ∷ []) $ fjoin ! $ done !
 
-  module _ (C : Calls 𝓤 H) (Λ : Loops 𝓤 H) (fm : FmC 𝓤 H (W .laws) C) (known : Triple 𝓤 (C #indent_steps·turn) (Called 𝓤 H A at-mem run)) where
+  module _ (C : Calls 𝓤 H) (Λ : Loops 𝓤 H) (fm : FmC 𝓤 H (W .laws) C) (known : Triple 𝓤 (C #indent_turns·turn) (Called 𝓤 H A at-mem run)) where
     walk : Asks → Is (ShrSlice (named 1) κ₀ u8) source (v source ∷ []) → Is (ShrSlice (named 2) κ₁ u32) pieces (v pieces ∷ []) → Is (ShrSlice (named 3) κ₂ u8)
         store (v store ∷ []) → Is (ShrSlice (named 4) κ₃ u8) indentor (v indentor ∷ []) → Is (ShrSlice (named 5) κ₄ u32) exclude (v exclude ∷ []) → Room u32
         (length (t .now)) → Room u32 (length (p .now)) → Room u8 (length (s .now)) → Is P.the-row at (place at ∷ [])
@@ -460,7 +460,7 @@ module _ {M : Type 1} (𝓤 : URA M) (H : Heap 𝓤) (A : Atoms 𝓤) (W : Given
         out {r} is = LL.owed S.the-type S′.the-laws r _ is .0
 
 module _ {M : Type 1} (𝓤 : URA M) (H : Heap 𝓤) (A : Atoms 𝓤) (W : Given 𝓤 H A) (at-mem : Memory → SProp 𝓤) (run : Routine → Fun 𝓤) where
-  walks : (C : Calls 𝓤 H) (Λ : Loops 𝓤 H) → FmC 𝓤 H (W .laws) C → Triple 𝓤 (C #indent_steps·turn) (Called 𝓤 H A at-mem run)
+  walks : (C : Calls 𝓤 H) (Λ : Loops 𝓤 H) → FmC 𝓤 H (W .laws) C → Triple 𝓤 (C #indent_turns·turn) (Called 𝓤 H A at-mem run)
       → Walks 𝓤 H A f.ended stayed (WpFn 𝓤 H C Λ code.function) (f.clauses 𝓤 H A at-mem run)
   walks C Λ fm known = walked 𝓤 H A f.ended stayed (f.clauses 𝓤 H A at-mem run) (WpFn 𝓤 H C Λ code.function)
       (λ κs. (
@@ -564,7 +564,7 @@ module _ {M : Type 1} (𝓤 : URA M) (H : Heap 𝓤) (A : Atoms 𝓤) (W : Given
   )
 
 meets : {M : Type 1} (𝓤 : URA M) (H : Heap 𝓤) (A : Atoms 𝓤) → Given 𝓤 H A → (at-mem : Memory → SProp 𝓤) (run : Routine → Fun 𝓤)
-    (𝓣 : Tables 𝓤 H) → Triple 𝓤 (𝓣 .C #indent_steps·turn) (Called 𝓤 H A at-mem run)
+    (𝓣 : Tables 𝓤 H) → Triple 𝓤 (𝓣 .C #indent_turns·turn) (Called 𝓤 H A at-mem run)
     → Meets 𝓤 H A f.signature (WpFn 𝓤 H (𝓣 .C) (𝓣 .Λ) code.function) (f.spec 𝓤 H A at-mem run)
 meets 𝓤 H A W at-mem run 𝓣 known =
     walk-meets 𝓤 H A f.ended stayed W (goes 𝓤 H A W at-mem run) (f.clauses 𝓤 H A at-mem run) (WpFn 𝓤 H (𝓣 .C) (𝓣 .Λ) code.function)
@@ -577,4 +577,4 @@ next-text-spec 𝓤 H 𝓜 𝓖 𝓡 =
     entered 𝓤 H (tripleOf 𝓤 H (𝓖 .A) f.signature (f.spec 𝓤 H (𝓖 .A) (𝓜 .mem) (𝓡 .run)))
     (tables 𝓤 H 𝓜 𝓡 code.env .C) (tables 𝓤 H 𝓜 𝓡 code.env .Λ) #indent_steps·next-text code.function (code.unfolded 𝓤 H 𝓜 𝓡)
     (meets 𝓤 H (𝓖 .A) (givenOf 𝓤 H 𝓜 𝓖) (𝓜 .mem) (𝓡 .run) (tablesOf 𝓤 H 𝓜 (tables 𝓤 H 𝓜 𝓡 code.env))
-    (cited 𝓤 H (Called 𝓤 H (𝓖 .A) (𝓜 .mem) (𝓡 .run)) 𝓜 𝓡 code.env #indent_steps·turn g-def.routine code.calls-indent-steps·turn (g-thm.met 𝓤 H 𝓜 𝓖 𝓡)))
+    (cited 𝓤 H (Called 𝓤 H (𝓖 .A) (𝓜 .mem) (𝓡 .run)) 𝓜 𝓡 code.env #indent_turns·turn g-def.routine code.calls-indent-turns·turn (g-thm.met 𝓤 H 𝓜 𝓖 𝓡)))

@@ -49,15 +49,15 @@ use denote.Triple.Clauses.{ensured, lasts}
 use denote.Triple.Table.{entered, cited}
 use denote.Triple.Walked.{says, needs, Stays, stay-none, stay-none-slice, stay-slice, walkOf, AllGo, goes-none, goes-none-slice, goes-slice, Walks, ends-at, walked, walk-meets}
 use denote.Exit.{yes}
-use Rattle.indent_steps.specs.Steps.{IndentSteps}
-use Rattle.indent_steps.specs.Walk.{left, Walking, TurnReady, Turned}
+use Rattle.indent_turns.specs.Steps.{IndentSteps}
+use Rattle.indent_turns.specs.Walk.{left, Walking, TurnReady, Turned}
 use Rattle.indent_steps.proofs.Walk.{walking-over}
 use Rattle.indent_steps.specs.declared.IndentState.{IndentState}
-use Rattle.indent_steps.specs.declared.TextAt.{TextAt}
+use Rattle.indent_turns.specs.declared.TextAt.{TextAt}
 use Rattle.indent_steps.proofs.IndentState as T
 use Rattle.indent_steps.proofs.IndentState.Laws as T′
-use Rattle.indent_steps.proofs.TextAt as P
-use Rattle.indent_steps.proofs.TextAt.Laws as P′
+use Rattle.indent_turns.proofs.TextAt as P
+use Rattle.indent_turns.proofs.TextAt.Laws as P′
 use Rattle.indent_steps.proofs.State.{state-value, to-part, from-part, made}
 use Rattle.indent_steps.proofs.Again.{LentAgain, lends-again, comes-back}
 use Rattle.indent_steps.proofs.next_text as g

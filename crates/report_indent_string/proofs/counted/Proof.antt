@@ -27,7 +27,8 @@ add-t8 c = search needs
 returns-4 : tie.Need-returns-4
 returns-4 c =
     let start = c .before .before .before .before .before in
-    (adds-spaced (start .args .t) _ _ (c .before .before .before .before .if1 .left) (c .before .before .before .if2 .left) (c .before .if3 .left), holds-spaced (start .args .t) _ _ (c .before .if3 .left))
+    let if3 = c .before .if3 in
+    (adds-spaced (start .args .t) _ _ (c .before .before .before .before .if1 .left) (c .before .before .before .if2 .left) (if3 .left), holds-spaced (start .args .t) _ _ (if3 .left))
 
 pub counted-spec : {M : Type 1} → statement M
 counted-spec = tie.close (tie.spec add-t6 returns returns-2 add-t7 returns-3 add-t8 returns-4)

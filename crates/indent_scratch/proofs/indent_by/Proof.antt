@@ -1,10 +1,10 @@
 use mathlib.Core.Path.{_∙_}
 use native.Mathlib.Omega.{arith}
-use Rattle.indent.proofs.Call.{steps-ready, indent-readable, indent-past, indent-ran}
+use Rattle.indent_scratch.proofs.Ran.{steps-ready, indent-readable, indent-past, indent-ran}
 use Rattle.edit_room_above.proofs.Finishing.{formed-usable}
 use borrow.Author.Needs.{needs}
-use Rattle.indent.proofs.indent_by.Statement.{statement}
-use Rattle.indent.proofs.indent_by.Tie as tie
+use Rattle.indent_scratch.proofs.indent_by.Statement.{statement}
+use Rattle.indent_scratch.proofs.indent_by.Tie as tie
 
 load-requires : tie.Need-load-requires
 load-requires c κs =

@@ -1,9 +1,9 @@
 use mathlib.Core.Path.{refl, ap, _∙_}
 use Rattle.memory_table.specs.declared.Row.{Row}
-use Rattle.indent_steps.specs.Walk.{onward-at}
+use Rattle.indent_turns.specs.Walk.{onward-at}
 use borrow.Author.Needs.{needs}
-use Rattle.indent_steps.proofs.chunk_turn.Statement.{statement}
-use Rattle.indent_steps.proofs.chunk_turn.Tie as tie
+use Rattle.indent_turns.proofs.chunk_turn.Statement.{statement}
+use Rattle.indent_turns.proofs.chunk_turn.Tie as tie
 
 get-row-requires : tie.Need-get-row-requires
 get-row-requires c κs = search needs

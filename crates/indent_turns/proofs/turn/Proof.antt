@@ -1,7 +1,7 @@
-use Rattle.indent_steps.proofs.Turns.{piece-ready, chunk-turn-ready, part-ready, turned-part, turned-chunk, turned-piece}
+use Rattle.indent_turns.proofs.Turns.{piece-ready, chunk-turn-ready, part-ready, turned-part, turned-chunk, turned-piece}
 use borrow.Author.Needs.{needs}
-use Rattle.indent_steps.proofs.turn.Statement.{statement}
-use Rattle.indent_steps.proofs.turn.Tie as tie
+use Rattle.indent_turns.proofs.turn.Statement.{statement}
+use Rattle.indent_turns.proofs.turn.Tie as tie
 
 part-turn-requires : tie.Need-part-turn-requires
 part-turn-requires c κs =

@@ -1,8 +1,8 @@
 use mathlib.Core.Path.{refl}
 use native.Mathlib.Omega.{arith}
 use borrow.Author.Needs.{needs}
-use Rattle.indent_steps.proofs.part_turn.Statement.{statement}
-use Rattle.indent_steps.proofs.part_turn.Tie as tie
+use Rattle.indent_turns.proofs.part_turn.Statement.{statement}
+use Rattle.indent_turns.proofs.part_turn.Tie as tie
 
 run-begins-requires : tie.Need-run-begins-requires
 run-begins-requires c κs = search needs

@@ -3,8 +3,8 @@ use native.Mathlib.Omega.{arith}
 use Rattle.memory_layout.specs.Layout.{SCRATCH-LEN, INDENT-PIECES-LEN, INDENT-STORE-LEN}
 use Rattle.memory.proofs.Desks.{zeros-length, zeros-at}
 use borrow.Author.Needs.{needs}
-use Rattle.indent.proofs.indent_scratch.Statement.{statement}
-use Rattle.indent.proofs.indent_scratch.Tie as tie
+use Rattle.indent_scratch.proofs.indent_scratch.Statement.{statement}
+use Rattle.indent_scratch.proofs.indent_scratch.Tie as tie
 
 array-borrow-prefix-t : tie.Need-array-borrow-prefix-t
 array-borrow-prefix-t c = search needs

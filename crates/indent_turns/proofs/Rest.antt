@@ -26,7 +26,7 @@ use Rattle.indent_head_tail.proofs.Own.{OwnIndented}
 use Rattle.indent_chunks.specs.Walk.{closedOf}
 use Rattle.indent_chunks.proofs.Walk.{ChunksIndented, WalkDone}
 use Rattle.model_preservation.proofs.Indent.{pieces-length}
-use Rattle.indent_steps.specs.Rest.{RestReady, tailOf, RestDone}
+use Rattle.indent_turns.specs.Rest.{RestReady, tailOf, RestDone}
 
 module _ (indentor exclude source pieces store t p s : List ℕ) (mark : Bool) (top byte : ℕ) (w : RestReady source pieces store t p s top byte) where
   abbrev closed : IndentedChunks

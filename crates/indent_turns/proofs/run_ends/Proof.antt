@@ -4,8 +4,8 @@ use Rattle.memory_table.specs.Sides.{with-side}
 use Rattle.memory.specs.Layout.{Place}
 use Rattle.indent_head_tail.specs.Own.{moved}
 use borrow.Author.Needs.{needs}
-use Rattle.indent_steps.proofs.run_ends.Statement.{statement}
-use Rattle.indent_steps.proofs.run_ends.Tie as tie
+use Rattle.indent_turns.proofs.run_ends.Statement.{statement}
+use Rattle.indent_turns.proofs.run_ends.Tie as tie
 
 get-row-requires : tie.Need-get-row-requires
 get-row-requires c κs = search needs

@@ -20,12 +20,12 @@ use Rattle.indent_head_tail.specs.Own.{OwnReady}
 use Rattle.indent_head_tail.proofs.Own.{OwnIndented, own-run-ready, own-short, own-done}
 use Rattle.indent_chunks.proofs.Walk.{WalkDone}
 use Rattle.indent_chunks.proofs.Chunks.{walk-start, walk-row, walk-ready, walk-past, walk-more, walk-end}
-use Rattle.indent_steps.specs.declared.TextAt.{TextAt}
-use Rattle.indent_steps.proofs.Rest.{rest-chunks, tail-ready, rest-tail, rest-done}
-use Rattle.indent_steps.specs.Steps.{StepsReady, IndentSteps}
-use Rattle.indent_steps.proofs.Steps.{head-ready, steps-head, rest-ready, steps-rest}
-use Rattle.indent_steps.specs.Walk.{stopped-at, onward-at, run-from, chunks-from, left, RunEnded, PieceReady, PieceTurned, ChunkReady, ChunkTurned, PartReady, PartTurned}
-use Rattle.indent_steps.specs.Walk.{RunAt, Ends, HeadAt, ChunksAt, TailAt, Walking, TurnReady, Turned}
+use Rattle.indent_turns.specs.declared.TextAt.{TextAt}
+use Rattle.indent_turns.proofs.Rest.{rest-chunks, tail-ready, rest-tail, rest-done}
+use Rattle.indent_turns.specs.Steps.{StepsReady, IndentSteps}
+use Rattle.indent_turns.proofs.Steps.{head-ready, steps-head, rest-ready, steps-rest}
+use Rattle.indent_turns.specs.Walk.{stopped-at, onward-at, run-from, chunks-from, left, RunEnded, PieceReady, PieceTurned, ChunkReady, ChunkTurned, PartReady, PartTurned}
+use Rattle.indent_turns.specs.Walk.{RunAt, Ends, HeadAt, ChunksAt, TailAt, Walking, TurnReady, Turned}
 use Rattle.memory_layout.specs.Layout.{ROW, PIECE-ROWS, PIECES-LEN, STORE-LEN}
 
 -- ---- in the head or the tail

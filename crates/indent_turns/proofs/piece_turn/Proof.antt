@@ -2,8 +2,8 @@ use mathlib.Core.Path.{refl}
 use borrow.Author.Tests.{not-true, not-false}
 use Rattle.model.proofs.Lists.{clash}
 use borrow.Author.Needs.{needs}
-use Rattle.indent_steps.proofs.piece_turn.Statement.{statement}
-use Rattle.indent_steps.proofs.piece_turn.Tie as tie
+use Rattle.indent_turns.proofs.piece_turn.Statement.{statement}
+use Rattle.indent_turns.proofs.piece_turn.Tie as tie
 
 cast-from : tie.Need-cast-from
 cast-from c = search needs

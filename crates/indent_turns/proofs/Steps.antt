@@ -36,8 +36,8 @@ use Rattle.indent_head_tail.specs.Own.{Runs, OwnReady, OwnDone}
 use Rattle.indent_head_tail.proofs.Own.{OwnIndented}
 use Rattle.indent_chunks.specs.Walk.{chunksOf, closedOf, bodyOf}
 use Rattle.model_preservation.proofs.Indent.{pieces-length}
-use Rattle.indent_steps.specs.Rest.{RestReady, leftOf, tailOf, RestDone}
-use Rattle.indent_steps.specs.Steps.{StepsReady, IndentSteps}
+use Rattle.indent_turns.specs.Rest.{RestReady, leftOf, tailOf, RestDone}
+use Rattle.indent_turns.specs.Steps.{StepsReady, IndentSteps}
 
 -- ---- the loaded desk lies below the rows and bytes behind the lent ones
 

@@ -1,9 +1,9 @@
 use mathlib.Core.Path.{ap}
 use Rattle.memory_table.specs.declared.Row.{Row}
-use Rattle.indent_steps.specs.Walk.{chunks-from}
+use Rattle.indent_turns.specs.Walk.{chunks-from}
 use borrow.Author.Needs.{needs}
-use Rattle.indent_steps.proofs.chunks_begin.Statement.{statement}
-use Rattle.indent_steps.proofs.chunks_begin.Tie as tie
+use Rattle.indent_turns.proofs.chunks_begin.Statement.{statement}
+use Rattle.indent_turns.proofs.chunks_begin.Tie as tie
 
 get-row-requires : tie.Need-get-row-requires
 get-row-requires c κs = search needs

@@ -16,9 +16,9 @@ use Rattle.indent_head_tail.specs.Run.{TextReady, TextIndented, Running, texts}
 use Rattle.indent_head_tail.specs.Own.{moved, OwnReady, OwnDone}
 use Rattle.indent_chunks.specs.Row.{RowReady, RowDone}
 use Rattle.indent_chunks.specs.Chunks.{WalkAt}
-use Rattle.indent_steps.specs.declared.TextAt.{TextAt}
-use Rattle.indent_steps.specs.Rest.{RestReady, RestDone}
-use Rattle.indent_steps.specs.Steps.{IndentSteps}
+use Rattle.indent_turns.specs.declared.TextAt.{TextAt}
+use Rattle.indent_turns.specs.Rest.{RestReady, RestDone}
+use Rattle.indent_turns.specs.Steps.{IndentSteps}
 use Rattle.memory_layout.specs.Layout.{ROW, PIECES-LEN}
 
 -- ---- places

@@ -3,10 +3,10 @@ use Rattle.memory_table.specs.declared.Row.{Row}
 use Rattle.memory_table.specs.Order.{entryOf}
 use Rattle.memory_table.specs.Sides.{side}
 use Rattle.memory.specs.Layout.{Place}
-use Rattle.indent_steps.specs.Walk.{run-from}
+use Rattle.indent_turns.specs.Walk.{run-from}
 use borrow.Author.Needs.{needs}
-use Rattle.indent_steps.proofs.run_begins.Statement.{statement}
-use Rattle.indent_steps.proofs.run_begins.Tie as tie
+use Rattle.indent_turns.proofs.run_begins.Statement.{statement}
+use Rattle.indent_turns.proofs.run_begins.Tie as tie
 
 get-row-requires : tie.Need-get-row-requires
 get-row-requires c κs = search needs

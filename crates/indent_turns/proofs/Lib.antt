@@ -1,0 +1,3 @@
+mod Rest
+mod Steps
+pub mod Turns
