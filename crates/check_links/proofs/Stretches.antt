@@ -13,7 +13,7 @@ use Rattle.check_marks.specs.Marks.{Marked}
 use Rattle.check_marks.proofs.Marking.{marked-by}
 use Rattle.check_bit_marks.specs.BitMarks.{bitAt, Stretch}
 use Rattle.check_links.specs.declared.Side.{Side}
-use Rattle.check_row.specs.Row.{Joint, Found, Proper}
+use Rattle.check_row.specs.Row.{Joint, LinkedRow, Proper}
 use Rattle.check_links.specs.Walk.{pendingSize, Turned, Stepped, Ended}
 
 -- as many as lie between a and e, from a on
@@ -72,7 +72,7 @@ module _ {i a e : ℕ} {m : ℕ → ℕ} {s : Side} (h : s .from ≤ s .to) (l :
     turn-off y = record { row = λ w. absurd (w refl); on = λ w. absurd (w refl); off = λ z f. d .decides .no y (record { fits = f .within; free = f .once }) }
 
 -- ── one step: to row i, if it is found and its span is proper ──
-module _ {source t : List ℕ} {n k i : ℕ} {m : ℕ → ℕ} {s : Side} (f : Found t n k (s .row) i) where
+module _ {source t : List ℕ} {n k i : ℕ} {m : ℕ → ℕ} {s : Side} (f : LinkedRow t n k (s .row) i) where
   pub step-end : {m′ : ℕ → ℕ} → i ≡ 0 → Stepped source t n k m s m′ stopped
   step-end z = record { some = λ w. absurd (w refl); none = λ w y b p x. f .none z y b }
 

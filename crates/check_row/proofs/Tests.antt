@@ -9,24 +9,24 @@ use Rattle.utf8.specs.Rfc3629.{between}
 use Rattle.memory_counting.specs.Counts.{Decides}
 use Rattle.memory_counting.proofs.Sums.{not-both}
 use Rattle.check_spans.specs.Spans.{startOf, endOf}
-use Rattle.check_row.specs.Row.{leads, Behind, Found, Proper}
+use Rattle.check_row.specs.Row.{leads, Behind, LinkedRow, Proper}
 
 -- ── the row after a: x is where word k of a leads ──
-found-none : {t : List ℕ} {n k a : ℕ} → ((y : ℕ) → Behind t n k a y → ⊥) → Found t n k a 0
+found-none : {t : List ℕ} {n k a : ℕ} → ((y : ℕ) → Behind t n k a y → ⊥) → LinkedRow t n k a 0
 found-none h = record { some = λ ne. absurd (ne refl); none = λ z. h }
 
 module _ {t : List ℕ} {n k a x : ℕ} (ex : x ≡ leads t k a) where
-  pub found-end : x ≡ 0 → Found t n k a 0
+  pub found-end : x ≡ 0 → LinkedRow t n k a 0
   found-end z = found-none (λ y q. omega (arith, q .near .0, q .edge .fwd))
 
-  pub found-far : n < x → Found t n k a 0
+  pub found-far : n < x → LinkedRow t n k a 0
   found-far h = found-none (λ y q. omega (arith, q .near .1, q .edge .fwd))
 
   module _ {z : ℕ} (ez : z ≡ leads t (5 - k) x) where
-    pub found-other : (z ≡ a → ⊥) → Found t n k a 0
+    pub found-other : (z ≡ a → ⊥) → LinkedRow t n k a 0
     found-other ne = found-none (λ y q. ne (ez ∙ ap (leads t (5 - k)) (ex ∙ q .edge .fwd) ∙ q .edge .bwd))
 
-    pub found-some : (x ≡ 0 → ⊥) → x ≤ n → z ≡ a → Found t n k a x
+    pub found-some : (x ≡ 0 → ⊥) → x ≤ n → z ≡ a → LinkedRow t n k a x
     found-some ne h back = record {
       some = λ w. record { near = (omega arith, h); edge = record { fwd = sym ex; bwd = sym ez ∙ back } };
       none = λ y. absurd (ne y);

@@ -22,7 +22,7 @@ pub record Behind (t : List ℕ) (n k a x : ℕ) : Type 0 where
   pub edge : Joint t k a x
 
 -- x comes after a, or is 0 and none may
-pub record Found (t : List ℕ) (n k a x : ℕ) : Type 0 where
+pub record LinkedRow (t : List ℕ) (n k a x : ℕ) : Type 0 where
   pub some : (x ≡ 0 → ⊥) → Behind t n k a x
   pub none : x ≡ 0 → (y : ℕ) → Behind t n k a y → ⊥
 

@@ -7,7 +7,7 @@ ghost use Rattle.memory_layout.specs.Layout.{ROW};
 ghost use Rattle.utf8.specs.Rfc3629.{utf8 as isText};
 ghost use Rattle.memory_counting.specs.Counts.{Decides};
 ghost use Rattle.check_spans.specs.Spans.{Edged, Empty};
-ghost use Rattle.check_row.specs.Row.{Joint, Found, Proper};
+ghost use Rattle.check_row.specs.Row.{Joint, LinkedRow, Proper};
 
 // Whether word k of row a leads to row b, and the other word of b back to a. Words 2 (next) and 3 (prev) lead to the next row and to the one before: the other one of word k is word 5 - k.
 pub fn edge(t: &[u32], k: usize, a: u32, b: u32) -> bool
@@ -26,7 +26,7 @@ pub fn edge(t: &[u32], k: usize, a: u32, b: u32) -> bool
 // The row to which word k of row a leads, if it is one of the rows 1 to n and its other word leads back to a; else the end mark.
 pub fn linked_row(t: &[u32], n: u32, k: usize, a: u32) -> u32
     requires { ⌜ (n * ROW + ROW ≤ length (now t)) × (a ≤ n) × (k ≤ 5) ⌝ }
-    ensures { λ r. ⌜ Found (now (t .entry)) n k a r ⌝ }
+    ensures { λ r. ⌜ LinkedRow (now (t .entry)) n k a r ⌝ }
 {
     let x = check_spans::word(t, a, k);
     if x == memory_layout::LIST_END {

@@ -27,7 +27,7 @@ use Rattle.memory.specs.Layout.{Place, replacementOf, chunkOf, magicStringOf}
 use Rattle.memory.specs.WellFormed.{limitsOf, Sized, Lengths, RunIn, ReplacementIn, EntryIn, Readable, times, pieceUses, listUses, byteUses, replacementUses}
 use Rattle.memory.proofs.Desks.{desk-same, no-uses, within-keeps}
 use Rattle.memory_used.specs.Below.{Below, EntryBelow}
-use Rattle.edit_rebuild.specs.Lay.{Grown, LaidEntry, RoomEntry, Laying, own, upTo, nextFor, LayAt, SeqRow, TopRow}
+use Rattle.edit_rebuild.specs.Lay.{Grown, LaidEntry, RoomEntry, Laying, own, upTo, nextFor, LayAt, SeqRow, OwnRow}
 use Rattle.memory_texts.specs.Own.{ownOf}
 use Rattle.edit_rebuild.specs.Rebuilt.{Rebuilt}
 use Rattle.edit_rebuild.proofs.LayOne.{grown-run, grown-below, grown-uses, grown-text}
@@ -263,7 +263,7 @@ own-laid z l {p} {s} {P} {S} {P'} {S'} {byte} {row} {byte'} d =
       byte-is = d .byte-is;
     }
 
-pub lay-start : {t p s : List ℕ} {l x : Row} {C C' P S P' S' : List ℕ} {byte row : ℕ} → LaidEntry p s (own t) (entryOf l) P S 0 0 P' S' byte row → TopRow l x (countOf t) → Put C C' 0 x
+pub lay-start : {t p s : List ℕ} {l x : Row} {C C' P S P' S' : List ℕ} {byte row : ℕ} → LaidEntry p s (own t) (entryOf l) P S 0 0 P' S' byte row → OwnRow l x (countOf t) → Put C C' 0 x
     → within (limitsOf C P S) (magicStringOf [] t p s) ≡ true → length P' ≡ length P → length S' ≡ length S
     → LayAt t p s 0 (countOf t) (nextOf t 0) byte row C' P' S'
 unfolding order

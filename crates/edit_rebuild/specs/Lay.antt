@@ -93,7 +93,7 @@ pub record SeqRow (r x : Row) (k n : ℕ) : Type 0 where
   pub next : x .next ≡ nextFor (n - (k + 1)) (k + 1)
 
 -- the desk's own row, with n chunks
-pub record TopRow (r x : Row) (n : ℕ) : Type 0 where
+pub record OwnRow (r x : Row) (n : ℕ) : Type 0 where
   pub runs : ownOf x ≡ ownOf r
   pub count : x .start ≡ n
   pub prev : x .prev ≡ n

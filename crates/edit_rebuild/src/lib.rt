@@ -9,7 +9,7 @@ ghost use Rattle.memory_table.specs.Order.{entryOf};
 ghost use Rattle.model.specs.Limits.{within, replacement-bytes};
 ghost use Rattle.memory.specs.Layout.{replacementOf, magicStringOf};
 ghost use Rattle.memory.specs.WellFormed.{ReplacementIn, EntryIn, Readable, limitsOf, Sized};
-ghost use Rattle.edit_rebuild.specs.Lay.{LaidText, LaidEntry, RoomEntry, TopRow, SeqRow, LayAt};
+ghost use Rattle.edit_rebuild.specs.Lay.{LaidText, LaidEntry, RoomEntry, OwnRow, SeqRow, LayAt};
 ghost use Rattle.edit_rebuild.specs.Rebuilt.{Rebuilt};
 
 // Where a replacement was laid, and the byte behind it.
@@ -73,7 +73,7 @@ fn lay_row(
 
 // The desk's own row, linked to n chunks.
 fn top_row(r: memory_table::Row, n: u32) -> memory_table::Row
-    ensures { λ x. ⌜ TopRow r x n ⌝ }
+    ensures { λ x. ⌜ OwnRow r x n ⌝ }
 {
     let mut x = r;
     x.start = n;

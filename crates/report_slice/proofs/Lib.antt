@@ -1,4 +1,2 @@
 mod Seek
-mod Slicing
 mod Giving
-pub mod Walk

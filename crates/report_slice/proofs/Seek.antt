@@ -13,12 +13,20 @@ use Rattle.memory_table.specs.Order.{Entry, entryOf, entryAt, entries, countOf,
 use Rattle.model.specs.Chunk.{Chunk, start-of, end-of}
 use Rattle.model.specs.Slice.{contains-end, find-start, from, nothing, Start}
 use Rattle.memory.specs.Layout.{chunkOf}
-use Rattle.memory_fragments.specs.Sections.{section}
+use Rattle.memory_fragments.specs.Sections.{section, rowNo}
 use Rattle.memory_fragments.proofs.Sections.{row-edge, row-first, row-in, section-chunk, entries-drop, entries-end}
 use Rattle.report_slice.specs.declared.SliceStart.the-variants.{At, Nothing}
 use Rattle.report_slice_chunk.specs.Given.{holdsEnd}
-use Rattle.report_slice.specs.Walk.{misses, chunksOf, FoundStart}
-use Rattle.report_slice.proofs.Walk.{Seeking}
+use Rattle.report_slice_walk.specs.Walk.{chunksOf}
+use Rattle.report_slice_walk.proofs.Walk.{contains-is}
+use Rattle.report_slice.specs.Seek.{misses, FoundStart}
+
+-- k chunks passed, row the next
+pub record Seeking (t : List ℕ) (start end n k row : ℕ) : Type 0 where
+  pub count-is : n ≡ countOf t
+  pub below : k ≤ n
+  pub row-is : k < n → row ≡ rowNo t (suc k)
+  pub find : (p s : List ℕ) → find-start start end (chunksOf p s (entries t)) ≡ find-start start end (chunksOf p s (drop k (entries t)))
 
 -- one chunk of `find-start`
 abbrev step : Bool → Bool → Chunk → List Chunk → Start → Start
@@ -35,10 +43,6 @@ module _ (start end : ℕ) (c : Chunk) (cs : List Chunk) where
   find-on : misses start (start-of c) (end-of c) ≡ true → contains-end c end ≡ false → find-start start end (c ∷ cs) ≡ find-start start end cs
   find-on e f =
       ap (λ (m : Bool). step m (contains-end c end) c cs (find-start start end cs)) e ∙ ap (λ (m : Bool). step true m c cs (find-start start end cs)) f
-
-pub contains-is : (p s : List ℕ) (e : Entry) (end : ℕ) → contains-end (chunkOf p s e) end ≡ holdsEnd (e .start) (e .end) end
-unfolding contains-end
-contains-is p s e end = refl
 
 pub seek-none : (t : List ℕ) (start end n row : ℕ) → Linked t → n ≡ countOf t → row ≡ nextOf t 0 → Seeking t start end n 0 row
 seek-none t start end n row l e r = record {

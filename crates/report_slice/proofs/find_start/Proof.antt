@@ -4,8 +4,7 @@ use Prim.Native.Nat.{_-_}
 use native.Mathlib.Omega.{arith}
 use borrow.Author.Tests.{not-true, not-false}
 use Rattle.memory_table.specs.declared.Row.{Row}
-use Rattle.report_slice.proofs.Walk.{Seeking}
-use Rattle.report_slice.proofs.Seek.{seek-none, seek-done, seek-row, seek-found, seek-stop, seek-more}
+use Rattle.report_slice.proofs.Seek.{Seeking, seek-none, seek-done, seek-row, seek-found, seek-stop, seek-more}
 use borrow.Author.Needs.{needs}
 use Rattle.report_slice.proofs.find_start.Statement.{statement}
 use Rattle.report_slice.proofs.find_start.Tie as tie

@@ -1,7 +1,7 @@
 -- the chunk that was found
 use mathlib.Core.Path.{sym, _∙_, subst}
 use native.Mathlib.Omega.{arith}
-use Rattle.report_slice.specs.Walk.{FoundStart}
+use Rattle.report_slice.specs.Seek.{FoundStart}
 use Rattle.report_slice.specs.declared.SliceStart.the-variants.{At}
 use Rattle.report_slice.proofs.Giving.{given-nothing, found-in, found-row, found-fits, found-start, given-11, given-walk}
 use borrow.Author.Needs.{needs}

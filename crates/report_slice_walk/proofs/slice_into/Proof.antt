@@ -4,12 +4,12 @@ use native.Mathlib.Omega.{arith}
 use Prim.Native.Nat.{ℕ}
 use lib.ListN.{drop}
 use Rattle.memory_table.specs.Order.{entries}
-use Rattle.report_slice.specs.Walk.{sliceWalk, chunksOf}
-use Rattle.report_slice.proofs.Giving.{walk-proper, into-refused, into-short, into-fits, into-wrote, Proper}
+use Rattle.report_slice_walk.specs.Walk.{sliceWalk, chunksOf}
+use Rattle.report_slice_walk.proofs.Into.{walk-proper, into-refused, into-short, into-fits, into-wrote, Proper}
 use Rattle.model.specs.Slice.{Sliced}
 use borrow.Author.Needs.{needs}
-use Rattle.report_slice.proofs.slice_into.Statement.{statement}
-use Rattle.report_slice.proofs.slice_into.Tie as tie
+use Rattle.report_slice_walk.proofs.slice_into.Statement.{statement}
+use Rattle.report_slice_walk.proofs.slice_into.Tie as tie
 
 abbrev whole : tie.Start → Sliced
 whole s = sliceWalk (s .args .source .now) (s .args .with-intro) (s .args .from) (s .args .end)

@@ -26,12 +26,11 @@ use Rattle.memory_fragments.specs.Sections.{section, rowNo, fragmentsAll, fragm
 use Rattle.memory_fragments.proofs.Sections.{row-edge, row-in, section-chunk, entries-drop, entries-end}
 use Rattle.memory_fragments.proofs.Output.{ready, sum-length, all-append, output-short}
 use Rattle.memory_fragments.specs.Output.{most-output}
-use Rattle.report_slice.proofs.Seek.{contains-is}
 use Rattle.report_slice_chunk.specs.Emit.{overIf, Emitted, Room}
 use Rattle.report_slice_chunk.proofs.Emitting.{emitted-none, emitted-then}
 use Rattle.report_slice_chunk.specs.Given.{holdsEnd, chunkSlice}
-use Rattle.report_slice.specs.Walk.{endsInside, chunksOf, sliceWalk, Fits, Out}
-use Rattle.report_slice.proofs.Walk.{walk-rest}
+use Rattle.report_slice_walk.specs.Walk.{endsInside, chunksOf, sliceWalk, Fits, Out}
+use Rattle.report_slice_walk.proofs.Walk.{contains-is, walk-rest}
 
 -- ---- a chunk's slice is at most what the chunk shows
 

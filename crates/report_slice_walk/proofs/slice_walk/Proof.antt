@@ -5,12 +5,12 @@ use native.Mathlib.Omega.{arith}
 use lib.ListN.{drop}
 use Rattle.memory_table.specs.declared.Row.{Row}
 use Rattle.memory_table.specs.Order.{entries}
-use Rattle.report_slice.specs.Walk.{sliceWalk, chunksOf}
-use Rattle.report_slice.proofs.Slicing.{Slicing, slicing-none, slicing-small, slicing-done, slicing-row, slicing-refused, slicing-requires, slicing-next-small, slicing-last}
-use Rattle.report_slice.proofs.Slicing.{slicing-more}
+use Rattle.report_slice_walk.specs.Walk.{sliceWalk, chunksOf}
+use Rattle.report_slice_walk.proofs.Slicing.{Slicing, slicing-none, slicing-small, slicing-done, slicing-row, slicing-refused, slicing-requires, slicing-next-small, slicing-last}
+use Rattle.report_slice_walk.proofs.Slicing.{slicing-more}
 use borrow.Author.Needs.{needs}
-use Rattle.report_slice.proofs.slice_walk.Statement.{statement}
-use Rattle.report_slice.proofs.slice_walk.Tie as tie
+use Rattle.report_slice_walk.proofs.slice_walk.Statement.{statement}
+use Rattle.report_slice_walk.proofs.slice_walk.Tie as tie
 
 abbrev Inv-loop : tie.InvT-loop
 Inv-loop source chunks pieces store out₀ chunk first with-intro from end write n k₀ row₀ intro₀ begin₀ o₀ out k row intro begin o =

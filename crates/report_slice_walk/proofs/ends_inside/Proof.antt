@@ -2,8 +2,8 @@
 use mathlib.Core.Path.{refl, sym, _∙_}
 use borrow.Author.Tests.{eq-eqb, ne-eqb}
 use borrow.Author.Needs.{needs}
-use Rattle.report_slice.proofs.ends_inside.Statement.{statement}
-use Rattle.report_slice.proofs.ends_inside.Tie as tie
+use Rattle.report_slice_walk.proofs.ends_inside.Statement.{statement}
+use Rattle.report_slice_walk.proofs.ends_inside.Tie as tie
 
 contains-end-requires : tie.Need-contains-end-requires
 contains-end-requires c κs = search needs

@@ -1,0 +1,3 @@
+pub mod Walk
+mod Slicing
+mod Into
