@@ -11,10 +11,10 @@ use Rattle.model.specs.Movement.{change-range}
 use Rattle.model.specs.Movement as movement-rs
 use Rattle.model.specs.Reset as reset-rs
 use Rattle.model.specs.Limits.{Limits, full, within}
-use Rattle.model.specs.Call.{Edit, refused-before, run, judged}
+use Rattle.model.specs.Call.{Edit, refused-before, run, judged, after}
 use Rattle.model.specs.WellFormed.{WellFormed}
 use Rattle.model_preservation.proofs.Calls.{new-formed, run-keeps}
-use Rattle.any_order.specs.Claim.{Order, Premises, after, Conclusion}
+use Rattle.any_order.specs.Claim.{Order, Premises, Conclusion}
 use Rattle.any_order.specs.Tests.{edits-apart, each-alone, has-space, any-order-holds}
 use Rattle.any_order.proofs.Decide.{decide-premises}
 use Rattle.any_order.proofs.Theorem.{any-order}

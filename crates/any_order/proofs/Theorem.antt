@@ -8,12 +8,12 @@ use Rattle.utf8.specs.Chars.{All, cons}
 use Rattle.model.specs.Text.{sum}
 use Rattle.model.specs.MagicString.{MagicString, ok, to-string}
 use Rattle.model.specs.Limits.{Limits}
-use Rattle.model.specs.Call.{Edit, run}
+use Rattle.model.specs.Call.{Edit, run, after}
 use Rattle.model.specs.WellFormed.{WellFormed}
 use Rattle.model.proofs.Lists.{first-of, rest-of}
 use Rattle.model_closed_forms.specs.Plan.{apply}
 use Rattle.model_closed_forms.specs.Accepted.{plan-of}
-use Rattle.any_order.specs.Claim.{Pairs, Order, same, next, swap, then, new-pieces, new-bytes, EditsApart, Premises, after, AllAccepted, shown, AnyOrder}
+use Rattle.any_order.specs.Claim.{Pairs, Order, same, next, swap, then, new-pieces, new-bytes, EditsApart, Premises, AllAccepted, shown, AnyOrder}
 use Rattle.any_order.proofs.Pair.{PlansApart, apply-apply}
 use Rattle.any_order.proofs.Bridge.{EditPremises, implements, plans-apart}
 use Rattle.any_order.proofs.Kept.{formed-proper}

@@ -10,7 +10,7 @@ use Rattle.model.specs.Text.{sum}
 use Rattle.model.specs.MagicString.{MagicString, to-string}
 use Rattle.model.specs.Limits.{Limits, piece-count, byte-count}
 use Rattle.model.specs.Call.{Edit, remove, update-with, reset, append-left, append-right, prepend-left, prepend-right, append, prepend, relocate, trim, trim-start, trim-end}
-use Rattle.model.specs.Call.{trim-lines, indent-with, texts, positions, run, Call, Shown, perform, listed}
+use Rattle.model.specs.Call.{trim-lines, indent-with, texts, positions, run, after, Call, Shown, perform, listed}
 use Rattle.model.specs.WellFormed.{WellFormed}
 
 -- ── lists ──
@@ -183,11 +183,6 @@ pub record Premises (k : Limits) (m : MagicString) (L : List Edit) : Type 0 wher
   pub space : Space k m L
 
 -- ── runs ──
--- "each edit gets the desk that the one before it left"
-abbrev pub after : Limits → List Edit → MagicString → MagicString
-after k [] m = m
-after k (e ∷ L) m = after k L (run k e m .desk)
-
 -- "Accepted means that a call gets no refusal number"
 abbrev pub AllAccepted : Limits → List Edit → MagicString → Type 0
 AllAccepted k [] m = Unit {0}

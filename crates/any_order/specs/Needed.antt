@@ -7,8 +7,7 @@ use lib.ListN.{length, replicate}
 use Rattle.model.specs.Text.{Text, all}
 use Rattle.model.specs.MagicString.{MagicString, new, to-string}
 use Rattle.model.specs.Limits.{full}
-use Rattle.model.specs.Call.{Edit, remove, update-with, append-left, append-right, append, prepend, relocate, trim, run, listed}
-use Rattle.any_order.specs.Claim.{after}
+use Rattle.model.specs.Call.{Edit, remove, update-with, append-left, append-right, append, prepend, relocate, trim, listed, after, answers}
 use Rattle.any_order.specs.Tests.{is-wide, all-within, all-apart, one-move, moves-free, each-alone, has-space}
 
 -- the tests of the premises, in the checklist's order
@@ -30,12 +29,8 @@ pub record Left : Type 0 where
 abbrev pub left : List ℕ → Text → Left
 left numbers text = record { numbers = numbers; text = text }
 
-abbrev pub numbers : List Edit → MagicString → List ℕ
-numbers [] m = []
-numbers (e ∷ L) m = run full e m .number ∷ numbers L (run full e m .desk)
-
 abbrev pub left-by : List Edit → MagicString → Left
-left-by L m = left (numbers L m) (to-string (after full L m))
+left-by L m = left (answers full L m) (to-string (after full L m))
 
 -- a source, the edits that were made on it, the list, the premises that it breaks, and what it leaves in this order and in the other
 pub record Row : Type 0 where

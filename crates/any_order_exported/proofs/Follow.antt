@@ -8,11 +8,11 @@ use Rattle.utf8.specs.Chars.{All, nil, cons}
 use Rattle.model.specs.Text.{Text}
 use Rattle.model.specs.MagicString.{MagicString, Result, to-string}
 use Rattle.model.specs.Limits.{Limits}
-use Rattle.model.specs.Call.{Edit, Report, DeskCall, on-desk, Shown, run, show, perform}
+use Rattle.model.specs.Call.{Edit, Report, DeskCall, on-desk, Shown, run, show, perform, after}
 use Rattle.model.specs.Call as call
 use Rattle.memory.proofs.Desks.{full-as, limits-as}
 use Rattle.memory.specs.Calls.{Ran, Told}
-use Rattle.any_order.specs.Claim.{AllAccepted, after, shown}
+use Rattle.any_order.specs.Claim.{AllAccepted, shown}
 use Rattle.any_order_exported.specs.Runs.{Tables, Holds, deskOf, limits, Answer, EditRun, Seen, LaterRun}
 use Rattle.any_order_exported.specs.Runs as runs
 use Rattle.any_order_exported.specs.Claim.{Gave, AllGave, FinalText}

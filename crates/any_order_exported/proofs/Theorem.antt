@@ -4,9 +4,9 @@ use mathlib.Core.List.{List, _++_, map}
 use lib.ListN.{length, drop}
 use Rattle.model.specs.MagicString.{MagicString, to-string}
 use Rattle.model.specs.Limits.{Limits}
-use Rattle.model.specs.Call.{on-desk, Shown}
+use Rattle.model.specs.Call.{on-desk, Shown, after}
 use Rattle.memory.proofs.Desks.{limits-full}
-use Rattle.any_order.specs.Claim.{AllAccepted, after}
+use Rattle.any_order.specs.Claim.{AllAccepted}
 use Rattle.any_order.proofs.Theorem.{any-order}
 use Rattle.any_order_exported.specs.Runs.{deskOf, limits, Seen}
 use Rattle.any_order_exported.specs.Claim.{Gave, AllGave, nil, cons, FinalText, AnyOrderExported}

@@ -3,9 +3,9 @@ use mathlib.Core.Path.{_≡_, refl, sym, ap, _∙_, subst}
 use mathlib.Core.List.{List, reverse}
 use Rattle.model.specs.MagicString.{MagicString, to-string}
 use Rattle.model.specs.Limits.{Limits, full}
-use Rattle.model.specs.Call.{Edit}
+use Rattle.model.specs.Call.{Edit, after}
 use Rattle.memory.proofs.Desks.{limits-full}
-use Rattle.any_order.specs.Claim.{Order, same, Premises, after}
+use Rattle.any_order.specs.Claim.{Order, same, Premises}
 use Rattle.any_order.proofs.Theorem.{order-reverse}
 use Rattle.any_order.specs.Example.{source, prepared, desk, edits, text}
 use Rattle.any_order.proofs.Example.{prepared-desk, worked, every-text}

@@ -44,7 +44,7 @@ pub fn sized(chunks: &[u32], pieces: &[u32], store: &[u8]) -> bool
 }
 
 // Whether the tables have the full sizes.
-fn full_size(chunks: &[u32], pieces: &[u32], store: &[u8]) -> bool
+pub fn full_size(chunks: &[u32], pieces: &[u32], store: &[u8]) -> bool
     ensures { λ r. ⌜ Decides r (Full (now (chunks .entry)) (now (pieces .entry)) (now (store .entry))) ⌝ }
 {
     if chunks.len() != memory_layout::CHUNKS_LEN {

@@ -1,6 +1,7 @@
 // What append.rs and prepend.rs share as calls: the tests of the text and the position, then the insertion.
 ghost use Rattle.memory_used.specs.Above.{Desk, Leaves};
 ghost use Rattle.edit_insert.specs.Insertions.{insertion, addition};
+use memory_layout::numbers;
 use memory_used::Outcome;
 use memory_used::Used;
 
@@ -34,9 +35,15 @@ pub fn insert(
                 used,
             );
         }
-        return Outcome { number: 3, used };
+        return Outcome {
+            number: numbers::INSIDE_CHARACTER,
+            used,
+        };
     }
-    Outcome { number: 1, used }
+    Outcome {
+        number: numbers::NOT_UTF8,
+        used,
+    }
 }
 
 // `append` and `prepend`: 1, then the piece at the back of the tail or at the front of the head.
@@ -65,5 +72,8 @@ pub fn insert_whole(
             used,
         );
     }
-    Outcome { number: 1, used }
+    Outcome {
+        number: numbers::NOT_UTF8,
+        used,
+    }
 }

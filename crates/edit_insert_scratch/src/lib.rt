@@ -10,6 +10,7 @@ ghost use Rattle.edit_scratch.specs.Tables.{Roomy};
 ghost use Rattle.memory_table.specs.Sides.{side};
 ghost use Rattle.edit_insert_side.specs.Piece.{Spare, PieceAdded, LongScratch};
 ghost use Rattle.edit_insert_side.specs.Calls.{Inserted, InsertSteps, InsertRan, WholeRan};
+use memory_layout::numbers;
 use memory_list::Found;
 use memory_used::Outcome;
 
@@ -101,7 +102,7 @@ fn insert_steps(
         return r;
     }
     if text.len() > memory_layout::STORE_LEN {
-        return 13;
+        return numbers::LIMIT;
     }
     insert_rows(pieces, store, text, t, p, s, q, left, front);
     0

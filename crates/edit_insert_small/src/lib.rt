@@ -9,6 +9,7 @@ ghost use Rattle.memory.specs.WellFormed.{limitsBy, WellFormed};
 ghost use Rattle.memory_used.specs.Above.{Desk};
 ghost use Rattle.edit_small_tables.specs.Small.{Fits, Attempted, Tried};
 ghost use Rattle.edit_insert_small.specs.Adding.{adding};
+use memory_layout::numbers;
 use memory_used::Outcome;
 use memory_used::Used;
 
@@ -33,7 +34,7 @@ fn attempt_insert(
         let o = edit_insert_in_place::insert_in_place(source, t, p, s, text, q, left, front, l);
         return o.number;
     }
-    13
+    numbers::LIMIT
 }
 
 // The same for the tail or the head, without a cut.
@@ -55,7 +56,7 @@ fn attempt_whole(
         let o = edit_insert_in_place::whole_in_place(source, t, p, s, text, outro, front, l);
         return o.number;
     }
-    13
+    numbers::LIMIT
 }
 
 // The one or the other.
@@ -172,5 +173,8 @@ pub fn insert_small(
     ) {
         return insert_with(source, chunks, pieces, store, text, whole, q, left, front);
     }
-    Outcome { number: 13, used }
+    Outcome {
+        number: numbers::LIMIT,
+        used,
+    }
 }

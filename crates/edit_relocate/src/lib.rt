@@ -8,6 +8,7 @@ ghost use Rattle.model.specs.Text.{all};
 ghost use Rattle.model.specs.Call.{relocate};
 ghost use Rattle.memory_used.specs.Above.{Desk, Leaves};
 ghost use Rattle.edit_relocate_scratch.specs.Tested.{Tested};
+use memory_layout::numbers;
 use memory_used::Outcome;
 use memory_used::Used;
 
@@ -74,18 +75,30 @@ pub fn relocate(
         let inside = inside_range(start, end, to);
         let nothing = start == end;
         if inside {
-            return Outcome { number: 8, used };
+            return Outcome {
+                number: numbers::INTO_ITSELF,
+                used,
+            };
         }
         if nothing {
             return Outcome { number: 0, used };
         }
         if end < start {
-            return Outcome { number: 4, used };
+            return Outcome {
+                number: numbers::END_BEFORE_START,
+                used,
+            };
         }
         if source.len() < end as usize {
-            return Outcome { number: 10, used };
+            return Outcome {
+                number: numbers::PAST_SOURCE,
+                used,
+            };
         }
         return relocate_either(source, chunks, pieces, store, start, end, to, used);
     }
-    Outcome { number: 3, used }
+    Outcome {
+        number: numbers::INSIDE_CHARACTER,
+        used,
+    }
 }

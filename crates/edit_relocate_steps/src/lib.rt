@@ -5,6 +5,7 @@ ghost use Rattle.edit_scratch.specs.Tables.{Roomy};
 ghost use Rattle.edit_split_at.specs.Cuts.{CutsDone};
 ghost use Rattle.edit_relocate_steps.specs.Relocated.{PlaceIn, Spanned, Movable, RangeMoved, RelocateDone};
 use edit_relocate_range::Range;
+use memory_layout::numbers;
 use memory_list::Found;
 use memory_list::Key;
 
@@ -38,7 +39,7 @@ fn move_range(t: &mut [u32], a: u32, b: u32, to: u32) -> u32
     ensures { λ r. ⌜ RangeMoved a b to (now (t .entry)) (now (t .exit)) r ⌝ }
 {
     let Range::Whole(first, last) = edit_relocate_range::find_range(t, a, b) else {
-        return 9;
+        return numbers::NOT_TOGETHER;
     };
     let n = place_of(t, to);
     let l = memory_table::get_row(t, last);

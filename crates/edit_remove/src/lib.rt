@@ -3,6 +3,7 @@ ghost use Prim.Native.Nat.{_<_};
 ghost use Rattle.model.specs.Call.{remove};
 ghost use Rattle.memory_used.specs.Above.{Above, Desk, Leaves};
 ghost use Rattle.edit_clear_range_steps.specs.Range.{Marked, RangeRan};
+use memory_layout::numbers;
 use memory_used::Outcome;
 use memory_used::Used;
 
@@ -51,9 +52,15 @@ pub fn remove(
             return Outcome { number: 0, used };
         }
         if end < start {
-            return Outcome { number: 4, used };
+            return Outcome {
+                number: numbers::END_BEFORE_START,
+                used,
+            };
         }
         return clear_range_either(source, chunks, pieces, store, start, end, 0, used);
     }
-    Outcome { number: 3, used }
+    Outcome {
+        number: numbers::INSIDE_CHARACTER,
+        used,
+    }
 }

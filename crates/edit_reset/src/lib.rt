@@ -2,6 +2,7 @@
 ghost use Rattle.model.specs.Call.{reset};
 ghost use Rattle.memory_used.specs.Above.{Desk, Leaves};
 use memory_layout::NONE;
+use memory_layout::numbers;
 use memory_used::Outcome;
 use memory_used::Used;
 
@@ -24,10 +25,16 @@ pub fn reset(
             return Outcome { number: 0, used };
         }
         if end < start {
-            return Outcome { number: 4, used };
+            return Outcome {
+                number: numbers::END_BEFORE_START,
+                used,
+            };
         }
         if source.len() < end as usize {
-            return Outcome { number: 10, used };
+            return Outcome {
+                number: numbers::PAST_SOURCE,
+                used,
+            };
         }
         return edit_remove::clear_range_either(
             source,
@@ -40,5 +47,8 @@ pub fn reset(
             used,
         );
     }
-    Outcome { number: 3, used }
+    Outcome {
+        number: numbers::INSIDE_CHARACTER,
+        used,
+    }
 }

@@ -11,6 +11,7 @@ ghost use Rattle.memory.specs.Layout.{runOf, chunkOf, magicStringOf};
 ghost use Rattle.memory.specs.WellFormed.{limitsBy, RunIn, EntryIn, Readable, Sized};
 ghost use Rattle.edit_rebuild.specs.Rebuilt.{Finished};
 ghost use Rattle.edit_scratch.specs.Loaded.{Loaded};
+use memory_layout::numbers;
 
 // The lent tables, at the front of the scratch tables.
 pub fn load(
@@ -155,5 +156,5 @@ pub fn finish(
         edit_rebuild::rebuild(t, p, s, chunks, pieces, store);
         return r;
     }
-    13
+    numbers::LIMIT
 }

@@ -4,6 +4,7 @@ ghost use mathlib.Core.List.{[], _∷_};
 ghost use Rattle.memory_table.specs.Order.{entryOf};
 ghost use Rattle.edit_scratch.specs.Tables.{Roomy};
 ghost use Rattle.edit_split_at.specs.Cuts.{filled, CutsDone};
+use memory_layout::numbers;
 use memory_list::Found;
 use memory_list::Key;
 
@@ -27,7 +28,7 @@ pub fn split_at(t: &mut [u32], q: u32) -> u32
     };
     let c = memory_table::get_row(t, i);
     if is_filled(c) {
-        return 6;
+        return numbers::CUT_IN_REPLACEMENT;
     }
     memory_list::split_row(t, i, q);
     0

@@ -5,6 +5,7 @@ ghost use Rattle.model.specs.Call.{update-with, refused-before};
 ghost use Rattle.memory.specs.Layout.{magicStringOf};
 ghost use Rattle.memory_used.specs.Above.{Desk, Leaves};
 ghost use Rattle.edit_update.specs.Calls.{Settled};
+use memory_layout::numbers;
 use memory_used::Outcome;
 use memory_used::Used;
 
@@ -86,10 +87,16 @@ pub fn update_with(
     if utf8::valid(text) {
         if memory_texts::between_both(source, start, end) {
             if start == end {
-                return Outcome { number: 5, used };
+                return Outcome {
+                    number: numbers::ZERO_WIDTH,
+                    used,
+                };
             }
             if end < start {
-                return Outcome { number: 4, used };
+                return Outcome {
+                    number: numbers::END_BEFORE_START,
+                    used,
+                };
             }
             return update_either(
                 source,
@@ -103,7 +110,13 @@ pub fn update_with(
                 used,
             );
         }
-        return Outcome { number: 3, used };
+        return Outcome {
+            number: numbers::INSIDE_CHARACTER,
+            used,
+        };
     }
-    Outcome { number: 1, used }
+    Outcome {
+        number: numbers::NOT_UTF8,
+        used,
+    }
 }

@@ -8,6 +8,7 @@ ghost use Rattle.edit_update_steps.specs.Walk.{Emptied, RunCleared, Walk
 ghost use Rattle.edit_scratch.specs.Tables.{Roomy};
 ghost use Rattle.edit_update_steps.specs.Steps.{EditedRow, FirstEdited};
 ghost use Rattle.edit_update_steps.specs.Stored.{UpdateSteps};
+use memory_layout::numbers;
 use memory_list::Found;
 use memory_list::Key;
 
@@ -121,13 +122,13 @@ pub fn update_steps(
         return r;
     }
     if len < end as usize {
-        return 10;
+        return numbers::PAST_SOURCE;
     }
     let Found::At(i) = update_walk(t, start, end) else {
-        return 7;
+        return numbers::ACROSS_MOVED_EDGE;
     };
     if text.len() > memory_layout::STORE_LEN {
-        return 13;
+        return numbers::LIMIT;
     }
     edit_first(text, t, s, i, overwrite, byte);
     0

@@ -10,6 +10,7 @@ ghost use Rattle.model.specs.Call.{indent-with, options-valid};
 ghost use Rattle.memory_used.specs.Above.{Desk, Leaves};
 ghost use Rattle.memory.specs.Calls.{indentor-of};
 ghost use Rattle.report_indent_string.specs.Guess.{Guessed};
+use memory_layout::numbers;
 use memory_used::Outcome;
 use memory_used::Used;
 use report_indent_string::Indentor;
@@ -94,9 +95,15 @@ fn by_given(
                 used,
             );
         }
-        return Outcome { number: 3, used };
+        return Outcome {
+            number: numbers::INSIDE_CHARACTER,
+            used,
+        };
     }
-    Outcome { number: 1, used }
+    Outcome {
+        number: numbers::NOT_UTF8,
+        used,
+    }
 }
 
 // `indent_with`: 15 for an exclude list of odd count, then 1 and 3, then the steps by the indentor given or by the guess.
@@ -116,7 +123,10 @@ pub fn indent_with(
         (now (chunks .exit)) (now (pieces .exit)) (now (store .exit)) o ⌝ }
 {
     if exclude.len() % 2 != 0 {
-        return Outcome { number: 15, used };
+        return Outcome {
+            number: numbers::BAD_OPTION,
+            used,
+        };
     }
     if has_indentor {
         return by_given(source, chunks, pieces, store, indentor, exclude, used);
@@ -124,5 +134,8 @@ pub fn indent_with(
     if positions_between(source, exclude) {
         return by_guess(source, chunks, pieces, store, exclude, used);
     }
-    Outcome { number: 3, used }
+    Outcome {
+        number: numbers::INSIDE_CHARACTER,
+        used,
+    }
 }

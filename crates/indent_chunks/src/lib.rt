@@ -4,6 +4,7 @@ ghost use mathlib.Core.Path.{_≡_};
 ghost use Rattle.memory_layout.specs.Layout.{NONE};
 ghost use Rattle.memory_table.specs.Order.{entryAt};
 ghost use Rattle.indent_chunks.specs.Row.{RowAt, RowReady, RowDone};
+use memory_layout::numbers;
 
 // What a chunk leaves: 0, or 13 where the chunks pass a limit; the mark behind it; the piece row and the byte behind those in use; the indentor's piece row.
 pub struct Walked {
@@ -49,7 +50,7 @@ fn indent_lines(
     let o = indent_head_tail::lay_indentor(p, s, indentor, top, byte, laid);
     if !o.fits {
         return Walked {
-            number: 13,
+            number: numbers::LIMIT,
             mark,
             top,
             byte,

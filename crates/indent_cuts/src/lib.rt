@@ -9,6 +9,7 @@ ghost use Rattle.memory_table.specs.Order.{Linked, countOf};
 ghost use Rattle.memory_list.specs.Insert.{Placed};
 ghost use Rattle.indent_cuts.specs.Splice.{CutPart};
 ghost use Rattle.indent_cuts.specs.Lines.{LinesReady, LinesDone};
+use memory_layout::numbers;
 
 // Row i cut at q: the new row begins with the indentor, whose piece row is `laid`. Returns its number.
 pub fn cut_part(t: &mut [u32], i: u32, q: u32, laid: u32) -> u32
@@ -68,7 +69,7 @@ pub fn cut_lines(
         }
         if is_full(t) {
             return Cut {
-                number: 13,
+                number: numbers::LIMIT,
                 mark: m,
             };
         }

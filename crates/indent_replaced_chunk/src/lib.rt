@@ -8,6 +8,7 @@ ghost use Rattle.memory_table.specs.Order.{entryOf};
 ghost use Rattle.memory.specs.Layout.{bytesAt};
 ghost use Rattle.indent_cuts.specs.Splice.{withText, Rewritten};
 ghost use Rattle.indent_replaced_chunk.specs.Replacement.{ReplacementReady, ReplacementDone, WrittenAt};
+use memory_layout::numbers;
 use memory_table::Row;
 
 // The row with another replacement.
@@ -85,7 +86,7 @@ pub fn indent_replacement(
     let w = write_indented(store, indentor, s, r.text_at, r.text_n, byte, mark);
     if !w.fits {
         return NewText {
-            number: 13,
+            number: numbers::LIMIT,
             mark,
             byte,
         };

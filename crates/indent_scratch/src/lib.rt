@@ -1,6 +1,7 @@
 // indent.rs: `indent_with` past its tests, by an indentor, on scratch tables.
 ghost use Rattle.memory_used.specs.Above.{Above, Desk};
 ghost use Rattle.indent_scratch.specs.Ran.{IndentScratch, IndentRan};
+use memory_layout::numbers;
 use memory_used::Outcome;
 use memory_used::Used;
 
@@ -26,7 +27,10 @@ fn indent_by(
     edit_scratch::load(chunks, pieces, store, t, p, s);
     let r = indent_steps::indent_steps(source, pieces, store, t, p, s, indentor, exclude);
     if r == 13 {
-        return Outcome { number: 13, used };
+        return Outcome {
+            number: numbers::LIMIT,
+            used,
+        };
     }
     edit_room_above::finish(t, p, s, chunks, pieces, store, r)
 }

@@ -7,6 +7,7 @@ ghost use Rattle.indent_source_chunk.specs.Begin.{PrefixRoom, Prefixed, 
 ghost use Rattle.indent_source_chunk.specs.Parts.{PartsDone};
 ghost use Rattle.indent_source_chunk.specs.Source.{SourceReady, OwnReady, InnerReady, InnerDone};
 use indent_cuts::Cut;
+use memory_layout::numbers;
 
 // The indentor's row `laid`, and behind it the rows at .. at + n - 1, copied to row top.
 fn prefix_run(p: &mut [u32], at: u32, n: u32, top: u32, laid: u32)
@@ -81,7 +82,7 @@ fn inner_lines(
 {
     if indent_cuts::is_full(t) {
         return Cut {
-            number: 13,
+            number: numbers::LIMIT,
             mark: false,
         };
     }

@@ -8,6 +8,7 @@ ghost use Rattle.memory_used.specs.Above.{Desk};
 ghost use Rattle.inner_calls.specs.Paper.{PaperMade};
 use check_well_formed::Seen;
 use memory::Answer;
+use memory_layout::numbers;
 use memory_used::Outcome;
 use memory_used::Used;
 
@@ -256,7 +257,7 @@ pub extern "C" fn inner_open(
         };
     }
     Answer {
-        number: 2,
+        number: numbers::NOT_WELL_FORMED,
         value: 0,
     }
 }
@@ -278,7 +279,7 @@ pub extern "C" fn inner_paper(
 {
     let Seen::Desk(used) = check_well_formed::holds_desk(source, chunks, pieces, store) else {
         return Answer {
-            number: 2,
+            number: numbers::NOT_WELL_FORMED,
             value: 0,
         };
     };

@@ -3,6 +3,7 @@ ghost use mathlib.Core.Path.{_≡_};
 ghost use Rattle.memory.specs.Calls.{Opened};
 ghost use Rattle.memory.specs.Calls.{Checked};
 use memory::Answer;
+use memory_layout::numbers;
 
 #[no_mangle]
 pub extern "C" fn magic_string_open(
@@ -34,7 +35,7 @@ pub extern "C" fn magic_string_well_formed(
         };
     }
     Answer {
-        number: 2,
+        number: numbers::NOT_WELL_FORMED,
         value: 0,
     }
 }

@@ -7,9 +7,7 @@ ghost use Rattle.memory.specs.Calls.{indentor-of};
 ghost use Rattle.memory.specs.Calls.{flag};
 use check_well_formed::Seen;
 use memory::Answer;
-
-// The answer for memory that holds no well-formed desk.
-const NO_DESK: u32 = 2;
+use memory_layout::numbers;
 
 #[no_mangle]
 pub extern "C" fn magic_string_remove(
@@ -25,7 +23,7 @@ pub extern "C" fn magic_string_remove(
 {
     let Seen::Desk(used) = check_well_formed::taken(source, chunks, pieces, store) else {
         return Answer {
-            number: NO_DESK,
+            number: numbers::NOT_WELL_FORMED,
             value: 0,
         };
     };
@@ -53,7 +51,7 @@ pub extern "C" fn magic_string_update_with(
     let overwrites = memory::flag(overwrite);
     let Seen::Desk(used) = check_well_formed::taken(source, chunks, pieces, store) else {
         return Answer {
-            number: NO_DESK,
+            number: numbers::NOT_WELL_FORMED,
             value: 0,
         };
     };
@@ -88,7 +86,7 @@ pub extern "C" fn magic_string_reset(
 {
     let Seen::Desk(used) = check_well_formed::taken(source, chunks, pieces, store) else {
         return Answer {
-            number: NO_DESK,
+            number: numbers::NOT_WELL_FORMED,
             value: 0,
         };
     };
@@ -113,7 +111,7 @@ pub extern "C" fn magic_string_append_left(
 {
     let Seen::Desk(used) = check_well_formed::taken(source, chunks, pieces, store) else {
         return Answer {
-            number: NO_DESK,
+            number: numbers::NOT_WELL_FORMED,
             value: 0,
         };
     };
@@ -138,7 +136,7 @@ pub extern "C" fn magic_string_append_right(
 {
     let Seen::Desk(used) = check_well_formed::taken(source, chunks, pieces, store) else {
         return Answer {
-            number: NO_DESK,
+            number: numbers::NOT_WELL_FORMED,
             value: 0,
         };
     };
@@ -163,7 +161,7 @@ pub extern "C" fn magic_string_prepend_left(
 {
     let Seen::Desk(used) = check_well_formed::taken(source, chunks, pieces, store) else {
         return Answer {
-            number: NO_DESK,
+            number: numbers::NOT_WELL_FORMED,
             value: 0,
         };
     };
@@ -188,7 +186,7 @@ pub extern "C" fn magic_string_prepend_right(
 {
     let Seen::Desk(used) = check_well_formed::taken(source, chunks, pieces, store) else {
         return Answer {
-            number: NO_DESK,
+            number: numbers::NOT_WELL_FORMED,
             value: 0,
         };
     };
@@ -212,7 +210,7 @@ pub extern "C" fn magic_string_append(
 {
     let Seen::Desk(used) = check_well_formed::taken(source, chunks, pieces, store) else {
         return Answer {
-            number: NO_DESK,
+            number: numbers::NOT_WELL_FORMED,
             value: 0,
         };
     };
@@ -236,7 +234,7 @@ pub extern "C" fn magic_string_prepend(
 {
     let Seen::Desk(used) = check_well_formed::taken(source, chunks, pieces, store) else {
         return Answer {
-            number: NO_DESK,
+            number: numbers::NOT_WELL_FORMED,
             value: 0,
         };
     };
@@ -262,7 +260,7 @@ pub extern "C" fn magic_string_relocate(
 {
     let Seen::Desk(used) = check_well_formed::taken(source, chunks, pieces, store) else {
         return Answer {
-            number: NO_DESK,
+            number: numbers::NOT_WELL_FORMED,
             value: 0,
         };
     };
@@ -286,7 +284,7 @@ pub extern "C" fn magic_string_trim(
 {
     let Seen::Desk(used) = check_well_formed::taken(source, chunks, pieces, store) else {
         return Answer {
-            number: NO_DESK,
+            number: numbers::NOT_WELL_FORMED,
             value: 0,
         };
     };
@@ -310,7 +308,7 @@ pub extern "C" fn magic_string_trim_start(
 {
     let Seen::Desk(used) = check_well_formed::taken(source, chunks, pieces, store) else {
         return Answer {
-            number: NO_DESK,
+            number: numbers::NOT_WELL_FORMED,
             value: 0,
         };
     };
@@ -334,7 +332,7 @@ pub extern "C" fn magic_string_trim_end(
 {
     let Seen::Desk(used) = check_well_formed::taken(source, chunks, pieces, store) else {
         return Answer {
-            number: NO_DESK,
+            number: numbers::NOT_WELL_FORMED,
             value: 0,
         };
     };
@@ -357,7 +355,7 @@ pub extern "C" fn magic_string_trim_lines(
 {
     let Seen::Desk(used) = check_well_formed::taken(source, chunks, pieces, store) else {
         return Answer {
-            number: NO_DESK,
+            number: numbers::NOT_WELL_FORMED,
             value: 0,
         };
     };
@@ -385,7 +383,7 @@ pub extern "C" fn magic_string_indent_with(
     let given = memory::flag(has_indentor);
     let Seen::Desk(used) = check_well_formed::taken(source, chunks, pieces, store) else {
         return Answer {
-            number: NO_DESK,
+            number: numbers::NOT_WELL_FORMED,
             value: 0,
         };
     };

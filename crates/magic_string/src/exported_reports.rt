@@ -8,6 +8,7 @@ ghost use Rattle.memory.specs.Calls.{Reported};
 ghost use Rattle.memory.specs.Calls.{endOf};
 ghost use Rattle.memory.specs.Calls.{flag};
 use memory::Answer;
+use memory_layout::numbers;
 
 #[no_mangle]
 pub extern "C" fn magic_string_to_string<'a>(
@@ -24,7 +25,7 @@ pub extern "C" fn magic_string_to_string<'a>(
         return report_output::to_string(source, chunks, pieces, store, out);
     }
     Answer {
-        number: 2,
+        number: numbers::NOT_WELL_FORMED,
         value: 0,
     }
 }
@@ -48,7 +49,7 @@ pub extern "C" fn magic_string_slice<'a>(
         return report_slice::slice(source, chunks, pieces, store, start, given, end, out);
     }
     Answer {
-        number: 2,
+        number: numbers::NOT_WELL_FORMED,
         value: 0,
     }
 }
@@ -68,7 +69,7 @@ pub extern "C" fn magic_string_last_line<'a>(
         return report_last_line::last_line(source, chunks, pieces, store, out);
     }
     Answer {
-        number: 2,
+        number: numbers::NOT_WELL_FORMED,
         value: 0,
     }
 }
@@ -88,7 +89,7 @@ pub extern "C" fn magic_string_get_indent_string<'a>(
         return report_indent_string::get_indent_string(source, chunks, pieces, store, out);
     }
     Answer {
-        number: 2,
+        number: numbers::NOT_WELL_FORMED,
         value: 0,
     }
 }
@@ -106,7 +107,7 @@ pub extern "C" fn magic_string_len<'a>(
         return report_output::len(source, chunks, pieces, store);
     }
     Answer {
-        number: 2,
+        number: numbers::NOT_WELL_FORMED,
         value: 0,
     }
 }
@@ -124,7 +125,7 @@ pub extern "C" fn magic_string_len_utf16<'a>(
         return report_output::len_utf16(source, chunks, pieces, store);
     }
     Answer {
-        number: 2,
+        number: numbers::NOT_WELL_FORMED,
         value: 0,
     }
 }
@@ -142,7 +143,7 @@ pub extern "C" fn magic_string_line_count<'a>(
         return report_output::line_count(source, chunks, pieces, store);
     }
     Answer {
-        number: 2,
+        number: numbers::NOT_WELL_FORMED,
         value: 0,
     }
 }
@@ -160,7 +161,7 @@ pub extern "C" fn magic_string_is_empty<'a>(
         return report_is_empty::is_empty(source, chunks, pieces, store);
     }
     Answer {
-        number: 2,
+        number: numbers::NOT_WELL_FORMED,
         value: 0,
     }
 }
@@ -178,7 +179,7 @@ pub extern "C" fn magic_string_has_changed<'a>(
         return report_has_changed::has_changed(source, chunks, pieces, store);
     }
     Answer {
-        number: 2,
+        number: numbers::NOT_WELL_FORMED,
         value: 0,
     }
 }
@@ -205,7 +206,7 @@ pub extern "C" fn magic_string_is_range_within_edited_chunk<'a>(
         );
     }
     Answer {
-        number: 2,
+        number: numbers::NOT_WELL_FORMED,
         value: 0,
     }
 }
@@ -223,7 +224,7 @@ pub extern "C" fn magic_string_last_char<'a>(
         return report_last_char::last_char(source, chunks, pieces, store);
     }
     Answer {
-        number: 2,
+        number: numbers::NOT_WELL_FORMED,
         value: 0,
     }
 }

@@ -3,6 +3,8 @@
 ghost use mathlib.Core.Path.{_≡_};
 ghost use Prim.Native.Nat.{_<_};
 
+pub mod numbers;
+
 // ---- a row of chunks: how many words it has, and the place of each ----
 pub const ROW: usize = 12;
 

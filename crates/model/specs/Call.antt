@@ -186,6 +186,15 @@ judged k before r = cond (not (within k (r .desk))) (err 13 before) r
 unfoldable pub run : Limits → Edit → MagicString → Result
 run k e m = elim (refused-before m e) [ suc n ↦ err (suc n) m | zero ↦ judged k m (steps e m) ]
 
+-- edits one after the other, behind refusals too: "each edit gets the desk that the one before it left". The desk after the last one, and the number of each
+abbrev pub after : Limits → List Edit → MagicString → MagicString
+after k [] m = m
+after k (e ∷ L) m = after k L (run k e m .desk)
+
+abbrev pub answers : Limits → List Edit → MagicString → List ℕ
+answers k [] m = []
+answers k (e ∷ L) m = run k e m .number ∷ answers k L (run k e m .desk)
+
 -- the numbers that an edit may give beside 0 and 2, in document 01's order
 abbrev pub edit-numbers : Edit → List ℕ
 edit-numbers e = asked e .before ++ (13 ∷ asked e .own)

@@ -35,7 +35,7 @@ use Rattle.check_texts_apart.specs.Places.{Placed}
 use Rattle.check_texts_valid.specs.Valid.{ListsValid, TextsValid}
 use Rattle.check_well_formed.proofs.Bridge.{rows-formed}
 use Rattle.open.specs.Fresh.{deskRow, chunkRow, Fresh}
-use Rattle.open.specs.OpenedWith.{OpenedWith}
+use Rattle.open.specs.OpenedWith.{Opens, NewDesk, OpenedWith}
 
 -- two rows written one after the other
 pub fresh-of : {t t₁ t₂ : List ℕ} {len : ℕ} → Put t t₁ 0 deskRow → Put t₁ t₂ 1 (chunkRow len) → length t₁ ≡ length t → length t₂ ≡ length t₁ → Fresh t t₂ len
@@ -207,29 +207,38 @@ module _ (t₀ t source p s : List ℕ) (f : Fresh t₀ t (length source)) where
       })
 
 -- ── the answers ──
-module _ (source t p s : List ℕ) {o : Outcome} where
-  refused-with : (o .number ≡ 0 → ⊥) → o .number ≡ opened (limitsOf t p s) source (new []) .number → OpenedWith source t p s t o
-  refused-with h e = record { number-is = e; desk-is = λ z. absurd (h z); desk = λ z. absurd (h z); refused = λ _. refl }
-
-  pub refused-13 : o .number ≡ 13 → full .most-source < length source → OpenedWith source t p s t o
+module _ (source : List ℕ) where
+  pub opens-13 : full .most-source < length source → Opens source 13
   unfolding opened
-  refused-13 e h = refused-with (λ z. omega arith) (rw (lt-leb (length source) (full .most-source) h) e)
+  opens-13 h = record { number-is = rw (lt-leb (length source) (full .most-source) h) refl; fits = λ z. absurd (omega arith); text = λ z. absurd (omega arith) }
 
-  pub refused-1 : o .number ≡ 1 → length source ≤ full .most-source → utf8 source ≡ false → OpenedWith source t p s t o
+  pub opens-1 : length source ≤ full .most-source → utf8 source ≡ false → Opens source 1
   unfolding opened
-  refused-1 e h u = refused-with (λ z. omega arith) (rw (le-leb (length source) (full .most-source) h, u) e)
+  opens-1 h u = record { number-is = rw (le-leb (length source) (full .most-source) h, u) refl; fits = λ z. absurd (omega arith); text = λ z. absurd (omega arith) }
 
-  pub opened-0 : (t′ : List ℕ) → o .number ≡ 0 → Sized t p s → length source ≤ full .most-source → utf8 source ≡ true → Fresh t t′ (length source)
-      → o .used .pieces ≤ length p / PIECE-ROOM → o .used .row * 2 ≤ length p → o .used .byte ≤ length s → OpenedWith source t p s t′ o
+  pub opens-0 : length source ≤ full .most-source → utf8 source ≡ true → Opens source 0
   unfolding opened
-  opened-0 t′ e z h u f few row byte =
-      let z′ : Sized t′ p s = sized-as (record { chunks = f .same; pieces = refl; store = refl }) z in
-      record {
-        number-is = rw (le-leb (length source) (full .most-source) h, u) e;
-        desk-is = λ _. fresh-desk t t′ source p s f;
-        desk = λ _. record { well-formed = fresh-formed t t′ source p s f z′ h u; above = fresh-above t t′ source p s f (z′ .some) (o .used) few row byte };
-        refused = λ n. absurd (n e);
-      }
+  opens-0 h u = record { number-is = rw (le-leb (length source) (full .most-source) h, u) refl; fits = λ _. h; text = λ _. u }
+
+pub new-desk : (source t p s t′ : List ℕ) (u : Used) → Sized t p s → Opens source 0 → Fresh t t′ (length source)
+    → u .pieces ≤ length p / PIECE-ROOM → u .row * 2 ≤ length p → u .byte ≤ length s → NewDesk source t′ p s u
+new-desk source t p s t′ u z o f few row byte =
+    let z′ : Sized t′ p s = sized-as (record { chunks = f .same; pieces = refl; store = refl }) z in
+    record {
+      desk-is = fresh-desk t t′ source p s f;
+      desk = record { well-formed = fresh-formed t t′ source p s f z′ (o .fits refl) (o .text refl); above = fresh-above t t′ source p s f (z′ .some) u few row byte };
+    }
+
+module _ (source t p s : List ℕ) where
+  number-with : {n : ℕ} → Opens source n → n ≡ opened (limitsOf t p s) source (new []) .number
+  unfolding opened
+  number-with h = h .number-is
+
+  pub opened-refused : (o : Outcome) → Opens source (o .number) → (o .number ≡ 0 → ⊥) → OpenedWith source t p s t o
+  opened-refused o n h = record { number-is = number-with n; desk = λ z. absurd (h z); refused = λ _. refl }
+
+  pub opened-0 : (t′ : List ℕ) (o : Outcome) → Opens source (o .number) → o .number ≡ 0 → NewDesk source t′ p s (o .used) → OpenedWith source t p s t′ o
+  opened-0 t′ o n e d = record { number-is = number-with n; desk = λ _. d; refused = λ h. absurd (h e) }
 
 -- ── in tables of the full sizes, or of others ──
 pub others-2 : (source t p s : List ℕ) → (Full t p s → ⊥) → Opened source t p s t p s 2
@@ -247,7 +256,7 @@ opened-full z w =
     record {
       not-sized = λ x. absurd (x z);
       number-is = λ _. w .number-is;
-      desk-is = w .desk-is;
-      well-formed = λ e. w .desk e .well-formed;
+      desk-is = λ e. w .desk e .desk-is;
+      well-formed = λ e. w .desk e .desk .well-formed;
       refused = λ e. record { chunks = w .refused e; pieces = refl; store = refl };
     }

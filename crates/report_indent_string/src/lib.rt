@@ -11,6 +11,7 @@ ghost use Rattle.memory.specs.Calls.{Told};
 ghost use Rattle.report_indent_string.specs.Lines.{NoFeeds, Seeking, NextLine, Counts, Places};
 ghost use Rattle.report_indent_string.specs.Guess.{indentor-text, Guessed};
 use memory::Answer;
+use memory_layout::numbers;
 
 // The guessed indent: one tab, or some spaces, which stand in the source from `at` on.
 pub struct Indentor {
@@ -199,7 +200,7 @@ pub fn get_indent_string<'a>(
     let n = indentor_len(g);
     if out.len() < n as usize {
         return Answer {
-            number: 14,
+            number: numbers::SHORT_BUFFER,
             value: 0,
         };
     }

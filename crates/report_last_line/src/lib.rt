@@ -12,6 +12,7 @@ ghost use Rattle.memory_texts.specs.Over.{Wrote};
 ghost use Rattle.report_last_line_start.specs.Line.{LineFrom};
 use memory::Answer;
 use memory_fragments::Cursor;
+use memory_layout::numbers;
 use report_last_line_start::LineStart;
 
 // Writes a text from its byte `at` on into `out`, into what is left of it from o on. Returns the place behind.
@@ -73,7 +74,7 @@ pub fn last_line<'a>(
     let n = line.n;
     if out.len() < n as usize {
         return Answer {
-            number: 14,
+            number: numbers::SHORT_BUFFER,
             value: 0,
         };
     }

@@ -9,6 +9,7 @@ ghost use Rattle.memory.specs.Layout.{magicStringOf};
 ghost use Rattle.memory.specs.WellFormed.{WellFormed};
 ghost use Rattle.memory.specs.Calls.{Told};
 use memory::Answer;
+use memory_layout::numbers;
 use report_measures::Measure;
 
 // Writes the output to the front of `out`, section by section.
@@ -52,7 +53,7 @@ pub fn to_string<'a>(
     let n = report_totals::output_total(Measure::Bytes, source, chunks, pieces, store);
     if out.len() < n as usize {
         return Answer {
-            number: 14,
+            number: numbers::SHORT_BUFFER,
             value: 0,
         };
     }

@@ -14,6 +14,7 @@ ghost use Rattle.memory.specs.Layout.{magicStringOf};
 ghost use Rattle.memory.specs.WellFormed.{WellFormed};
 ghost use Rattle.memory.specs.Calls.{Told};
 use memory::Answer;
+use memory_layout::numbers;
 
 // Where the slice begins: the chunk's number in the list, and its row.
 pub enum SliceStart {
@@ -84,7 +85,7 @@ fn slice_to<'a>(
     let r = memory_table::get_row(chunks, row);
     if starts_inside(r.start, r.text_at, start) {
         return Answer {
-            number: 11,
+            number: numbers::SLICE_START,
             value: 0,
         };
     }
@@ -119,14 +120,14 @@ pub fn slice<'a>(
 {
     if !utf8::boundary(source, start as usize) {
         return Answer {
-            number: 3,
+            number: numbers::INSIDE_CHARACTER,
             value: 0,
         };
     }
     if has_end {
         if !utf8::boundary(source, end as usize) {
             return Answer {
-                number: 3,
+                number: numbers::INSIDE_CHARACTER,
                 value: 0,
             };
         }

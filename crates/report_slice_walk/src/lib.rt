@@ -13,6 +13,7 @@ ghost use Rattle.memory.specs.WellFormed.{WellFormed};
 ghost use Rattle.memory_fragments.specs.Sections.{rowNo};
 ghost use Prim.Native.Nat.{suc};
 use memory::Answer;
+use memory_layout::numbers;
 
 // Whether the end lies inside a replaced chunk.
 fn ends_inside(start: u32, stop: u32, text_at: u32, end: u32) -> bool
@@ -59,7 +60,7 @@ fn slice_walk<'a>(
         let r = memory_table::get_row(chunks, row);
         if ends_inside(r.start, r.end, r.text_at, end) {
             return Answer {
-                number: 12,
+                number: numbers::SLICE_END,
                 value: 0,
             };
         }
@@ -134,7 +135,7 @@ pub fn slice_into<'a>(
     }
     if out.len() < n as usize {
         return Answer {
-            number: 14,
+            number: numbers::SHORT_BUFFER,
             value: 0,
         };
     }

@@ -1,6 +1,7 @@
 // trim.rs: `trim`, `trim_start`, `trim_end` and `trim_lines`. Each is told what the desk uses, and hands back what the desk that it leaves uses.
 ghost use Rattle.model.specs.Call.{trim, trim-start, trim-end, trim-lines};
 ghost use Rattle.memory_used.specs.Above.{Desk, Leaves};
+use memory_layout::numbers;
 use memory_used::Outcome;
 use memory_used::Used;
 
@@ -21,7 +22,10 @@ pub fn trim_start(
         (now (chunks .exit)) (now (pieces .exit)) (now (store .exit)) o ⌝ }
 {
     if pattern > LAST_PATTERN {
-        return Outcome { number: 15, used };
+        return Outcome {
+            number: numbers::BAD_OPTION,
+            used,
+        };
     }
     trim_either::trim_either(source, chunks, pieces, store, false, true, pattern, used)
 }
@@ -40,7 +44,10 @@ pub fn trim_end(
         (now (chunks .exit)) (now (pieces .exit)) (now (store .exit)) o ⌝ }
 {
     if pattern > LAST_PATTERN {
-        return Outcome { number: 15, used };
+        return Outcome {
+            number: numbers::BAD_OPTION,
+            used,
+        };
     }
     trim_either::trim_either(source, chunks, pieces, store, false, false, pattern, used)
 }
@@ -59,7 +66,10 @@ pub fn trim(
         (now (chunks .exit)) (now (pieces .exit)) (now (store .exit)) o ⌝ }
 {
     if pattern > LAST_PATTERN {
-        return Outcome { number: 15, used };
+        return Outcome {
+            number: numbers::BAD_OPTION,
+            used,
+        };
     }
     trim_either::trim_either(source, chunks, pieces, store, true, true, pattern, used)
 }

@@ -1,42 +1,40 @@
-use mathlib.Core.Path.{sym, _∙_}
+use mathlib.Core.Path.{_≡_, subst}
 use native.Mathlib.Omega.{arith}
-use Rattle.open.proofs.Opening.{refused-13, refused-1, opened-0}
+use Rattle.open.specs.OpenedWith.{Opens}
+use Rattle.open.proofs.Opening.{opened-refused, opened-0}
 use borrow.Author.Needs.{needs}
 use Rattle.open.proofs.open_with.Statement.{statement}
 use Rattle.open.proofs.open_with.Tie as tie
 
-returns : tie.Need-returns
-returns c = refused-13 _ _ _ _ (omega arith) (c .if1 .taken)
+source-number-requires : tie.Need-source-number-requires
+source-number-requires c κs = search needs
 
-valid-requires : tie.Need-valid-requires
-valid-requires c κs = search needs
-
-cast-fresh : tie.Need-cast-fresh
-cast-fresh c = search needs
-
-fresh-requires : tie.Need-fresh-requires
-fresh-requires c κs = c .before .before .before .before .before .before .before .before .pre .some
+open-rows-requires : tie.Need-open-rows-requires
+open-rows-requires c κs =
+    let start = c .before .before .before .before .before .before .before in
+    (start .pre, subst (Opens (start .args .source .now)) (c .before .if1 .taken) (c .before .before .source-number .ensures))
 
 same-length : tie.Need-same-length
 same-length c = search needs
 
-returns-2 : tie.Need-returns-2
-returns-2 c =
-    let start = c .before .before .before .before .before .before .before .before .before .before .before in
-    let if1 = c .before .before .before .before .before .before .if1 in
-    let valid = c .before .before .before .before .before .valid in
-    let if2 = c .before .before .before .before .if2 in
-    let fresh = c .before .before .fresh in
-    opened-0 _ _ _ _ _ (omega arith) (start .pre) (if1 .left) (sym (valid .ensures) ∙ if2 .taken) (fresh .ensures) (omega arith) (omega arith) (omega arith)
+returns : tie.Need-returns
+returns c =
+    let number = c .before .before .before .before .before .source-number in
+    opened-0 _ _ _ _ _ _ (number .ensures) (c .before .before .before .before .if1 .taken) (c .before .before .open-rows .ensures)
 
-returns-3 : tie.Need-returns-3
-returns-3 c =
-    let if1 = c .before .before .if1 in
-    let valid = c .before .valid in
-    let if2 = c .if2 in
-    refused-1 _ _ _ _ (omega arith) (if1 .left) (sym (valid .ensures) ∙ if2 .left)
+unused-requires : tie.Need-unused-requires
+unused-requires c κs = search needs
+
+returns-2 : tie.Need-returns-2
+returns-2 c = opened-refused _ _ _ _ _ (c .before .before .source-number .ensures) (c .before .if1 .left)
 
 pub open-with-spec : {M : Type 1} → statement M
 open-with-spec =
     tie.close
-    (tie.spec returns valid-requires cast-fresh fresh-requires same-length returns-2 returns-3)
+    (tie.spec
+    source-number-requires
+    open-rows-requires
+    same-length
+    returns
+    unused-requires
+    returns-2)

@@ -1,0 +1,88 @@
+-- The numbers of a run: which it may give, and that each answer is at most 15.
+use Prim.Native.Nat.{ℕ, zero, suc, _≤_}
+use mathlib.Core.Path.{_≡_, refl, sym, ap, _∙_}
+use mathlib.Core.Bool.{Bool, true, false, _&&_, _||_, cond}
+use mathlib.Core.List.{List, [], _∷_}
+use mathlib.Core.Option.{Option, none, some}
+use mathlib.Core.Logic.{inl, inr}
+use lib.Dec.{leb, eqb}
+use lib.ListN.{length}
+use borrow.Author.Tests.{eqb-true, leb-true}
+use native.Mathlib.Omega.{arith}
+use Rattle.model.specs.Text.{any, all}
+use Rattle.model.specs.MagicString.{MagicString}
+use Rattle.model.specs.Limits.{Limits}
+use Rattle.model.specs.WellFormed.{Formed}
+use Rattle.model.specs.Call.{Edit, run, opened, edit-numbers, Outcome, remove, update-with, reset, append-left, append-right, prepend-left, prepend-right}
+use Rattle.model.specs.Call.{append, prepend, relocate, trim, trim-start, trim-end, trim-lines, indent-with}
+use Rattle.model.proofs.Lists.{and-left, and-right, or-cases, no-tf}
+use Rattle.model_preservation.specs.Refusals.{among}
+use Rattle.model_preservation.proofs.Refusals.{answer-listed}
+use Rattle.model_preservation.proofs.Numbers.{opened-listed}
+use Rattle.model_sheet.specs.Sheet.{Sheet, sheet, all-made, refused-by, run-read, run-sheet, sheet-numbers}
+
+-- ── an answer is at most 15 ──
+-- the largest number of document 01's table
+abbrev small : ℕ → Bool
+small n = leb n 15
+
+any-small : (n : ℕ) (l : List ℕ) → all small l ≡ true → any (eqb n) l ≡ true → n ≤ 15
+any-small n [] h e = absurd (no-tf (sym e))
+any-small n (x ∷ l) h e =
+    elim (or-cases (eqb n x) (any (eqb n) l) e) [
+      | inl q ↦ let same : n ≡ x = eqb-true n x q in let low : x ≤ 15 = leb-true x 15 (and-left (small x) (all small l) h) in omega arith
+      | inr q ↦ any-small n l (and-right (small x) (all small l) h) q
+    ]
+
+numbers-small : (e : Edit) → all small (edit-numbers e) ≡ true
+numbers-small (remove a b) = refl
+numbers-small (update-with a b t o) = refl
+numbers-small (reset a b) = refl
+numbers-small (append-left p t) = refl
+numbers-small (append-right p t) = refl
+numbers-small (prepend-left p t) = refl
+numbers-small (prepend-right p t) = refl
+numbers-small (append t) = refl
+numbers-small (prepend t) = refl
+numbers-small (relocate a b to) = refl
+numbers-small (trim p) = refl
+numbers-small (trim-start p) = refl
+numbers-small (trim-end p) = refl
+numbers-small trim-lines = refl
+numbers-small (indent-with i l) = refl
+
+pub answer-small : (k : Limits) (e : Edit) (m : MagicString) → Formed m → run k e m .number ≤ 15
+answer-small k e m f = any-small (run k e m .number) (0 ∷ edit-numbers e) (numbers-small e) (answer-listed k e m f)
+
+-- ── a run gives one of its numbers ──
+pub sheet-listed : (k : Limits) (room : ℕ) (before : MagicString) (s : List ℕ) → among (run-sheet k room before s .shown .number) sheet-numbers ≡ true
+unfolding run-sheet run-read
+sheet-listed k room before s = read (sheet s)
+  where
+    -- a number that an opening gives is one of the run's
+    wider : (n : ℕ) → among n (13 ∷ 1 ∷ []) ≡ true → among n sheet-numbers ≡ true
+    wider n h = go (eqb n 0) (eqb n 2) (eqb n 16) (eqb n 13) (eqb n 1) (eqb n 14) h
+      where
+        go : (a b c d e f : Bool) → (a || (d || (e || false))) ≡ true → (a || (b || (c || (d || (e || (f || false)))))) ≡ true
+        go true b c d e f h = refl
+        go false true c d e f h = refl
+        go false false true d e f h = refl
+        go false false false true e f h = refl
+        go false false false false true f h = refl
+        go false false false false false f h = absurd (no-tf (sym h))
+
+    made : (b : Bool) (w : Sheet) (m : MagicString) → among (cond b (all-made k (w .list) m) (refused-by 14 before) .shown .number) sheet-numbers ≡ true
+    made true w m = refl
+    made false w m = refl
+
+    numbered : (w : Sheet) (n : ℕ) → opened k (w .source) before .number ≡ n
+        → among (elim n as (λ _. Outcome) [
+          | suc i ↦ refused-by (suc i) before
+          | zero ↦ cond (leb (length (w .list)) room) (all-made k (w .list) (opened k (w .source) before .desk)) (refused-by 14 before)
+        ] .shown .number) sheet-numbers ≡ true
+    numbered w zero e = made (leb (length (w .list)) room) w (opened k (w .source) before .desk)
+    numbered w (suc n) e = wider (suc n) (ap (λ (x : ℕ). among x (13 ∷ 1 ∷ [])) (sym e) ∙ opened-listed k (w .source) before)
+
+    read : (o : Option Sheet) → among (elim o as (λ _. Outcome) [ none ↦ refused-by 16 before | some w ↦ run-read k room before w ] .shown .number) sheet-numbers ≡ true
+    read none = refl
+    read (some w) = numbered w (opened k (w .source) before .number) refl

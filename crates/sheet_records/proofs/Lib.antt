@@ -1,0 +1,3 @@
+mod Fields
+pub mod Finding
+pub mod Walk
