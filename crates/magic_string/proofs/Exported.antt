@@ -4,13 +4,15 @@ use mathlib.Core.List.{List}
 use Prim.Native.Nat.{ℕ}
 use Rattle.model.specs.Call.{Edit, Report}
 use Rattle.memory.specs.Layout.{magicStringOf}
-use Rattle.memory.specs.WellFormed.{Taken}
+use Rattle.memory.specs.WellFormed.{Full, Taken}
 use Rattle.memory.specs.Calls.{Ran, Edited, Told, Reported, Checked}
+use Rattle.memory.specs.declared.Answer.{Answer}
 use Rattle.memory_used.specs.declared.Used.{Used}
 use Rattle.memory_used.specs.Above.{Above, Desk}
 use Rattle.check_well_formed.specs.declared.Seen.{Seen}
 use Rattle.check_well_formed.specs.declared.Seen.the-variants.{NoDesk, Desk as SeenDesk}
 use Rattle.check_well_formed.specs.Seen.{Sees}
+use Rattle.sheet_run.specs.SheetRan.{SheetDone, SheetRan}
 
 -- what the check has seen: no desk, or one and what it uses
 module _ (source t p s : List ℕ) {r : Seen} where
@@ -53,3 +55,11 @@ module _ {source t p s : List ℕ} where
 
   pub reported-as : {q q′ : Report} {out out′ : List ℕ} {number value : ℕ} → q ≡ q′ → Reported q source t p s out out′ number value → Reported q′ source t p s out out′ number value
   reported-as {out = out} {out′ = out′} {number = number} {value = value} e x = subst (λ (q : Report). Reported q source t p s out out′ number value) e x
+
+-- a sheet in tables of the full sizes, and in others
+module _ {sheet t p s a : List ℕ} where
+  pub sheet-yes : {t′ p′ s′ a′ : List ℕ} {r : Answer} → Full t p s → SheetDone sheet t p s a t′ p′ s′ a′ r → SheetRan sheet t p s a t′ p′ s′ a′ r
+  sheet-yes z d = record { not-sized = λ n. absurd (n z); sized = λ _. d }
+
+  pub sheet-no : (Full t p s → ⊥) → SheetRan sheet t p s a t p s a (record { number = 2; value = 0 })
+  sheet-no n = record { not-sized = λ _. (refl, refl, record { chunks = refl; pieces = refl; store = refl }, refl); sized = λ z. absurd (n z) }

@@ -1,5 +1,5 @@
--- The numbers of a run: which it may give, and that each answer is at most 15.
-use Prim.Native.Nat.{ℕ, zero, suc, _≤_}
+-- A run case by case, and its numbers: which it may give, and that each answer is at most 15.
+use Prim.Native.Nat.{ℕ, zero, suc, _≤_, _<_}
 use mathlib.Core.Path.{_≡_, refl, sym, ap, _∙_}
 use mathlib.Core.Bool.{Bool, true, false, _&&_, _||_, cond}
 use mathlib.Core.List.{List, [], _∷_}
@@ -7,19 +7,20 @@ use mathlib.Core.Option.{Option, none, some}
 use mathlib.Core.Logic.{inl, inr}
 use lib.Dec.{leb, eqb}
 use lib.ListN.{length}
-use borrow.Author.Tests.{eqb-true, leb-true}
+use borrow.Author.Tests.{eqb-true, leb-true, le-leb, lt-leb}
 use native.Mathlib.Omega.{arith}
 use Rattle.model.specs.Text.{any, all}
 use Rattle.model.specs.MagicString.{MagicString}
 use Rattle.model.specs.Limits.{Limits}
 use Rattle.model.specs.WellFormed.{Formed}
-use Rattle.model.specs.Call.{Edit, run, opened, edit-numbers, Outcome, remove, update-with, reset, append-left, append-right, prepend-left, prepend-right}
+use Rattle.model.specs.Call.{Edit, run, answers, opened, edit-numbers, Outcome, remove, update-with, reset, append-left, append-right, prepend-left, prepend-right}
 use Rattle.model.specs.Call.{append, prepend, relocate, trim, trim-start, trim-end, trim-lines, indent-with}
 use Rattle.model.proofs.Lists.{and-left, and-right, or-cases, no-tf}
 use Rattle.model_preservation.specs.Refusals.{among}
 use Rattle.model_preservation.proofs.Refusals.{answer-listed}
 use Rattle.model_preservation.proofs.Numbers.{opened-listed}
-use Rattle.model_sheet.specs.Sheet.{Sheet, sheet, all-made, refused-by, run-read, run-sheet, sheet-numbers}
+use Rattle.model_sheet.specs.Record.{Recorded}
+use Rattle.model_sheet.specs.Sheet.{Sheet, sheet, calls-of, all-made, refused-by, run-read, run-sheet, sheet-numbers}
 
 -- ── an answer is at most 15 ──
 -- the largest number of document 01's table
@@ -86,3 +87,31 @@ sheet-listed k room before s = read (sheet s)
     read : (o : Option Sheet) → among (elim o as (λ _. Outcome) [ none ↦ refused-by 16 before | some w ↦ run-read k room before w ] .shown .number) sheet-numbers ≡ true
     read none = refl
     read (some w) = numbered w (opened k (w .source) before .number) refl
+
+-- ── a run, case by case ──
+module _ (k : Limits) (room : ℕ) (before : MagicString) where
+  pub run-none : (s : List ℕ) → sheet s ≡ none → run-sheet k room before s ≡ refused-by 16 before
+  unfolding run-sheet
+  run-none s e = rw (e, run-sheet) refl
+
+  pub run-some : (s : List ℕ) {w : Sheet} → sheet s ≡ some w → run-sheet k room before s ≡ run-read k room before w
+  unfolding run-sheet
+  run-some s e = rw (e, run-sheet) refl
+
+  module _ (w : Sheet) where
+    pub run-refused : (n : ℕ) → opened k (w .source) before .number ≡ suc n → run-read k room before w ≡ refused-by (suc n) before
+    unfolding run-read
+    run-refused n e = rw (e, run-read) refl
+
+    pub run-short : opened k (w .source) before .number ≡ 0 → room < length (w .list) → run-read k room before w ≡ refused-by 14 before
+    unfolding run-read
+    run-short e h = rw (e, run-read) (rw (lt-leb (length (w .list)) room h) refl)
+
+    pub run-made : opened k (w .source) before .number ≡ 0 → length (w .list) ≤ room → run-read k room before w ≡ all-made k (w .list) (opened k (w .source) before .desk)
+    unfolding run-read
+    run-made e h = rw (e, run-read) (rw (le-leb (length (w .list)) room h) refl)
+
+-- as many answers as calls
+pub answers-length : (k : Limits) (l : List Recorded) (m : MagicString) → length (answers k (calls-of l) m) ≡ length l
+answers-length k [] m = refl
+answers-length k (r ∷ l) m = ap suc (answers-length k l _)

@@ -1,1 +1,1 @@
-mod Opening
+pub mod Opening

@@ -230,7 +230,7 @@ new-desk source t p s t′ u z o f few row byte =
     }
 
 module _ (source t p s : List ℕ) where
-  number-with : {n : ℕ} → Opens source n → n ≡ opened (limitsOf t p s) source (new []) .number
+  pub number-with : {n : ℕ} → Opens source n → n ≡ opened (limitsOf t p s) source (new []) .number
   unfolding opened
   number-with h = h .number-is
 

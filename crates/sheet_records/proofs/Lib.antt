@@ -1,3 +1,4 @@
 mod Fields
 pub mod Finding
 pub mod Walk
+mod Judging

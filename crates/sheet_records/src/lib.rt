@@ -6,6 +6,8 @@ ghost use Rattle.model_sheet.specs.BigEndian.{number};
 ghost use Rattle.model_sheet.specs.Record.{positions, carries, fits, numbers};
 ghost use Rattle.sheet_records.specs.Found.{Stands, Found, Counts};
 
+pub mod sheet;
+
 // What stands at a place.
 pub enum Read {
     // A whole record, its text as a part of the bytes, and the place behind it.

@@ -1,0 +1,3 @@
+mod CallOf
+pub mod Running
+mod Ran

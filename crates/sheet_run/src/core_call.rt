@@ -1,0 +1,34 @@
+// The core call of a record, by its kind: one dispatcher for every list of records.
+ghost use Rattle.model_sheet.specs.Sheet.{call-of};
+ghost use Rattle.memory_used.specs.Above.{Desk, Leaves};
+use memory_used::Outcome;
+use memory_used::Used;
+
+// Makes the call of a record with these fields on a desk.
+pub fn core_call(
+    source: &[u8],
+    chunks: &mut [u32],
+    pieces: &mut [u32],
+    store: &mut [u8],
+    kind: u8,
+    a: u32,
+    b: u32,
+    c: u32,
+    text: &[u8],
+    used: Used,
+) -> Outcome
+    requires { ⌜ Desk (now source) (now chunks) (now pieces) (now store) used ⌝ }
+    ensures { λ o. ⌜ Leaves (call-of (record { kind = kind; a = a; b = b; c = c; text = now (text .entry) }))
+        (now (source .entry)) (now (chunks .entry)) (now (pieces .entry)) (now (store .entry)) (now (chunks .exit)) (now (pieces .exit)) (now (store .exit)) o ⌝ }
+{
+    match kind {
+        1 => edit_remove::remove(source, chunks, pieces, store, a, b, used),
+        2 => edit_update::update_with(source, chunks, pieces, store, a, b, text, true, used),
+        3 => edit_reset::reset(source, chunks, pieces, store, a, b, used),
+        4 => edit_append::append_left(source, chunks, pieces, store, a, text, used),
+        5 => edit_append::append_right(source, chunks, pieces, store, a, text, used),
+        6 => edit_prepend::prepend_left(source, chunks, pieces, store, a, text, used),
+        7 => edit_prepend::prepend_right(source, chunks, pieces, store, a, text, used),
+        _ => edit_relocate::relocate(source, chunks, pieces, store, a, b, c, used),
+    }
+}
