@@ -2,11 +2,12 @@
  *
  * A desk is four slices that the caller lends: the source, and three tables
  * whose words docs/LAYOUT.md describes. Every function takes them first, each
- * as a pointer and a length in elements. It works on any content and any
- * length, always returns, and keeps nothing. Pointers are not null and are
- * valid for their lengths, a slice of length 0 too: pass the address of any
- * object of the element's type. A slice that is written lies apart from the
- * others, and nothing else writes any of them during the call.
+ * as a pointer and a length in elements, but that run_sheet takes a sheet in
+ * the place of the source. It works on any content and any length, always
+ * returns, and keeps nothing. Pointers are not null and are valid for their
+ * lengths, a slice of length 0 too: pass the address of any object of the
+ * element's type. A slice that is written lies apart from the others, and
+ * nothing else writes any of them during the call.
  *
  * A call uses no heap. Its stack, measured: an edit up to 128 kB, the check and
  * a report up to 20 kB.
@@ -20,7 +21,7 @@
  * byte offsets into the source, "from start up to end" is without end.
  *
  * Every call gives a number and a value. The number is 0 if the call was
- * accepted, or a refusal:
+ * accepted, or a refusal, whose name is in the enum below:
  *
  *    1 text not UTF-8                    9 moved range not together
  *    2 desk not well formed             10 end past source
@@ -29,7 +30,7 @@
  *    5 replace zero width               13 the desk would break a limit
  *    6 cut inside a replacement         14 output buffer too short
  *    7 replace across a moved edge      15 pattern above 1, odd exclude list
- *    8 move into itself
+ *    8 move into itself                 16 sheet breaks the rules of its form
  *
  * "Numbers" below are those that the call may give, in the order in which they
  * are tested. 13 is given if the desk that the call would leave breaks a limit,
@@ -37,7 +38,7 @@
  *
  * What lent memory holds afterwards:
  *
- *  - The source and texts are never written.
+ *  - The source, texts and sheets are never written.
  *  - After 0 the tables hold the desk that the call leaves. Which rows and
  *    which bytes of the store it lies in is the library's choice. Where a call
  *    is said to do nothing, and after every report, each byte of the tables is
@@ -46,7 +47,8 @@
  *    says that something stays (after 6, 7, 9 and update_with's 10): the tables
  *    then hold that desk, well formed, in rows and bytes of the library's choice.
  *  - A report that fills a buffer writes its text to the front of it and leaves
- *    the bytes behind. No refusal writes a buffer.
+ *    the bytes behind; so does run_sheet with its answers. No refusal writes a
+ *    buffer.
  */
 #ifndef MAGIC_STRING_H
 #define MAGIC_STRING_H
@@ -63,6 +65,13 @@ extern "C" {
 #define MAGIC_STRING_CHUNKS 512
 #define MAGIC_STRING_PIECES 1024
 #define MAGIC_STRING_STORE_BYTES 32768
+
+/* A sheet: its version, how many bytes stand before its source, and its limits,
+ * the records and the bytes in all. */
+#define MAGIC_STRING_SHEET_VERSION 1
+#define MAGIC_STRING_SHEET_FRONT 3
+#define MAGIC_STRING_SHEET_RECORDS 200
+#define MAGIC_STRING_SHEET_BYTES 57344
 
 /* Words in a row of chunks, and in a row of pieces. */
 #define MAGIC_STRING_ROW 12
@@ -102,6 +111,26 @@ enum { MAGIC_STRING_PIECE_AT, MAGIC_STRING_PIECE_N };
 /* last_char's value where the output has no last character. */
 #define MAGIC_STRING_NO_CHAR UINT32_C(0xFFFFFFFF)
 
+/* The refusals. */
+enum {
+  MAGIC_STRING_NOT_UTF8 = 1,
+  MAGIC_STRING_NOT_WELL_FORMED = 2,
+  MAGIC_STRING_INSIDE_CHARACTER = 3,
+  MAGIC_STRING_END_BEFORE_START = 4,
+  MAGIC_STRING_ZERO_WIDTH = 5,
+  MAGIC_STRING_CUT_IN_REPLACEMENT = 6,
+  MAGIC_STRING_ACROSS_MOVED_EDGE = 7,
+  MAGIC_STRING_INTO_ITSELF = 8,
+  MAGIC_STRING_NOT_TOGETHER = 9,
+  MAGIC_STRING_PAST_SOURCE = 10,
+  MAGIC_STRING_SLICE_START = 11,
+  MAGIC_STRING_SLICE_END = 12,
+  MAGIC_STRING_LIMIT = 13,
+  MAGIC_STRING_SHORT_BUFFER = 14,
+  MAGIC_STRING_BAD_OPTION = 15,
+  MAGIC_STRING_BAD_SHEET = 16
+};
+
 /* The value is 0 after a refusal and where nothing is reported. */
 typedef struct magic_string_answer {
   uint32_t number;
@@ -126,8 +155,8 @@ typedef struct magic_string_answer {
  * for one that is not UTF-8. Value: 0. */
 magic_string_answer magic_string_open(MAGIC_STRING_DESK);
 
-/* Tells whether the memory holds a well-formed desk. Every call but open makes
- * this check first.
+/* Tells whether the memory holds a well-formed desk. Every call but open and
+ * run_sheet makes this check first.
  * Numbers: 2. Value: 0. */
 magic_string_answer magic_string_well_formed(MAGIC_STRING_READ);
 
@@ -237,6 +266,54 @@ magic_string_answer
 magic_string_indent_with(MAGIC_STRING_DESK, uint32_t has_indentor,
                          const uint8_t *indentor, size_t indentor_len,
                          const uint32_t *exclude, size_t exclude_len);
+
+/* ---- a sheet: a source and the edits to be made on it ---- */
+
+/* The form of a sheet; its numbers are big-endian:
+ *
+ *    1 byte    the version, MAGIC_STRING_SHEET_VERSION
+ *    2 bytes   the length of the source
+ *              the source
+ *              records, one behind the other up to the end of the sheet
+ *
+ * The form of a record:
+ *
+ *    2 bytes   the length of the rest of the record
+ *    1 byte    the kind
+ *    4 bytes   for each position of the kind
+ *              the text, if the kind has one: what is left, it may be empty
+ *
+ *    kind 1   remove          start, end
+ *    kind 2   update_with     start, end, text; overwrite is yes
+ *    kind 3   reset           start, end
+ *    kind 4   append_left     at, text
+ *    kind 5   append_right    at, text
+ *    kind 6   prepend_left    at, text
+ *    kind 7   prepend_right   at, text
+ *    kind 8   relocate        start, end, to
+ *
+ * A sheet has at most MAGIC_STRING_SHEET_RECORDS records, and at most
+ * MAGIC_STRING_SHEET_BYTES bytes in all. A version, a length, a kind, a count
+ * of records or a size that breaks these rules is 16. */
+
+/* Opens the source of the sheet, whatever the tables held, and makes the call
+ * of each record, one for each, in order; after a refused one it goes on. The
+ * answers are the numbers of these calls, 0 or a refusal, one byte each. A text
+ * that is not UTF-8 breaks no rule above: the call of its record gives 1.
+ * Numbers: 2 for tables of other lengths, 16 for a sheet that breaks a rule, 13
+ * for a source that is too long, 1 for one that is not UTF-8, 14 for fewer
+ * bytes of answers than the sheet has records. Value: how many answers were
+ * written.
+ * After 0: the tables hold the desk that the calls leave, over the source that
+ * stands in the sheet from byte MAGIC_STRING_SHEET_FRONT on. Lend this part of
+ * the sheet, without what follows it, as the source to later calls on the desk.
+ * After a refusal: each byte of the tables and of the answers is as it was. */
+magic_string_answer magic_string_run_sheet(const uint8_t *sheet,
+                                           size_t sheet_len, uint32_t *chunks,
+                                           size_t chunks_len, uint32_t *pieces,
+                                           size_t pieces_len, uint8_t *store,
+                                           size_t store_len, uint8_t *answers,
+                                           size_t answers_len);
 
 /* ---- reports: the value is the number of bytes written ---- */
 

@@ -1,5 +1,6 @@
 /* A paper in C: a script is opened and edits are filed on it, with the running
  * text after each, refusals in words, and the desk chunk by chunk at the end.
+ * Then a whole paper in a sheet.
  *
  *   rt staticlib magic_string
  *   gcc -Iinclude examples/c/paper.c target/staticlib/libmagic_string.a -o
@@ -22,27 +23,30 @@ static uint8_t store[MAGIC_STRING_STORE_LEN];
 static uint8_t out[MAGIC_STRING_SOURCE_BYTES + MAGIC_STRING_STORE_BYTES];
 
 #define TEXT(t) (const uint8_t *)(t), strlen(t)
-#define DESK                                                                   \
-  TEXT(script), chunks, MAGIC_STRING_CHUNKS_LEN, pieces,                       \
-      MAGIC_STRING_PIECES_LEN, store, MAGIC_STRING_STORE_LEN
+#define TABLES                                                                 \
+  chunks, MAGIC_STRING_CHUNKS_LEN, pieces, MAGIC_STRING_PIECES_LEN, store,     \
+      MAGIC_STRING_STORE_LEN
+#define DESK TEXT(script), TABLES
 
-static const char *const words[16] = {
-    "done",
-    "text not UTF-8",
-    "desk not well formed",
-    "position inside a character",
-    "end before start",
-    "replace zero width",
-    "cut inside a non-empty replacement",
-    "replace across a moved edge",
-    "move into itself",
-    "moved range not together",
-    "end past source",
-    "slice starts inside a replaced chunk",
-    "slice ends inside a replaced chunk",
-    "the desk would break a limit",
-    "output buffer too short",
-    "pattern above 1, or an exclude list of odd count"};
+static const char *const words[] = {
+    [0] = "done",
+    [MAGIC_STRING_NOT_UTF8] = "text not UTF-8",
+    [MAGIC_STRING_NOT_WELL_FORMED] = "desk not well formed",
+    [MAGIC_STRING_INSIDE_CHARACTER] = "position inside a character",
+    [MAGIC_STRING_END_BEFORE_START] = "end before start",
+    [MAGIC_STRING_ZERO_WIDTH] = "replace zero width",
+    [MAGIC_STRING_CUT_IN_REPLACEMENT] = "cut inside a non-empty replacement",
+    [MAGIC_STRING_ACROSS_MOVED_EDGE] = "replace across a moved edge",
+    [MAGIC_STRING_INTO_ITSELF] = "move into itself",
+    [MAGIC_STRING_NOT_TOGETHER] = "moved range not together",
+    [MAGIC_STRING_PAST_SOURCE] = "end past source",
+    [MAGIC_STRING_SLICE_START] = "slice starts inside a replaced chunk",
+    [MAGIC_STRING_SLICE_END] = "slice ends inside a replaced chunk",
+    [MAGIC_STRING_LIMIT] = "the desk would break a limit",
+    [MAGIC_STRING_SHORT_BUFFER] = "output buffer too short",
+    [MAGIC_STRING_BAD_OPTION] =
+        "pattern above 1, or an exclude list of odd count",
+    [MAGIC_STRING_BAD_SHEET] = "sheet or record breaks the rules of its form"};
 
 /* The place of a text in the script: its first byte, and the first behind. */
 static uint32_t start(const char *text) {
@@ -109,6 +113,42 @@ static void draw(void) {
   list("tail", chunks[MAGIC_STRING_OUTRO_AT], chunks[MAGIC_STRING_OUTRO_N]);
 }
 
+/* Document 02's sheet: the version, the source "abc" behind its length, and a
+ * record behind its length: kind 8, a move of the bytes from 0 up to 2 to 3. */
+static const char example[] = "\x01"
+                              "\x00\x03"
+                              "abc"
+                              "\x00\x0D"
+                              "\x08"
+                              "\x00\x00\x00\x00"
+                              "\x00\x00\x00\x02"
+                              "\x00\x00\x00\x03";
+#define EXAMPLE_LEN (sizeof example - 1)
+
+/* Says what a run of a sheet with one record answered. Then the record's answer
+ * and the text of the desk, which are those of before if it was refused. */
+static void run(const char *call, const uint8_t *sheet, uint8_t *answers) {
+  const uint8_t *source = sheet + MAGIC_STRING_SHEET_FRONT;
+  size_t source_len = (size_t)sheet[1] << 8 | sheet[2];
+  magic_string_answer answer = magic_string_run_sheet(
+      sheet, EXAMPLE_LEN, TABLES, answers, MAGIC_STRING_SHEET_RECORDS);
+  printf("\n%s: %u, %s\n", call, (unsigned)answer.number, words[answer.number]);
+  printf("  its record: %u, %s\n  the text: ", (unsigned)answers[0],
+         words[answers[0]]);
+  answer = magic_string_to_string(source, source_len, TABLES, out, sizeof out);
+  quote(out, answer.value);
+  putchar('\n');
+}
+
+static void sheets(void) {
+  uint8_t sheet[EXAMPLE_LEN];
+  uint8_t answers[MAGIC_STRING_SHEET_RECORDS];
+  memcpy(sheet, example, EXAMPLE_LEN);
+  run("run a sheet", sheet, answers);
+  sheet[0] = MAGIC_STRING_SHEET_VERSION + 1;
+  run("run a sheet of another version", sheet, answers);
+}
+
 int main(void) {
   file("open", magic_string_open(DESK));
   file("replace north",
@@ -134,5 +174,6 @@ int main(void) {
   file("append", magic_string_append(DESK, TEXT("73 \n\n")));
   file("trim the end", magic_string_trim_end(DESK, 0));
   draw();
+  sheets();
   return 0;
 }

@@ -13,9 +13,10 @@ static uint32_t *chunks, *pieces;
 static uint8_t *store, *out;
 static size_t source_len, out_len;
 
-#define DESK                                                                   \
-  source, source_len, chunks, MAGIC_STRING_CHUNKS_LEN, pieces,                 \
-      MAGIC_STRING_PIECES_LEN, store, MAGIC_STRING_STORE_LEN
+#define TABLES                                                                 \
+  chunks, MAGIC_STRING_CHUNKS_LEN, pieces, MAGIC_STRING_PIECES_LEN, store,     \
+      MAGIC_STRING_STORE_LEN
+#define DESK source, source_len, TABLES
 #define OUT out, out_len
 #define TEXT(t) (const uint8_t *)(t), strlen(t)
 
@@ -98,6 +99,53 @@ static void refusals(void) {
   edit("remove on zeros", magic_string_remove(DESK, 0, 1));
 }
 
+/* Document 02's sheet: "abc", and a record that moves a and b behind c. */
+static const char example[] = "\x01\x00\x03"
+                              "abc"
+                              "\x00\x0D\x08"
+                              "\x00\x00\x00\x00"
+                              "\x00\x00\x00\x02"
+                              "\x00\x00\x00\x03";
+#define EXAMPLE_LEN (sizeof example - 1)
+
+/* Runs a sheet with room for one answer, which is 99 before. Prints the answer
+ * of the run and of the record, whether each byte of the tables is as it was,
+ * and the output. */
+static void run(const char *call, const uint8_t *sheet, uint8_t *answers) {
+  static uint32_t chunks_before[MAGIC_STRING_CHUNKS_LEN];
+  static uint32_t pieces_before[MAGIC_STRING_PIECES_LEN];
+  static uint8_t store_before[MAGIC_STRING_STORE_LEN];
+  memcpy(chunks_before, chunks, sizeof chunks_before);
+  memcpy(pieces_before, pieces, sizeof pieces_before);
+  memcpy(store_before, store, sizeof store_before);
+  answers[0] = 99;
+  reported(call,
+           magic_string_run_sheet(sheet, EXAMPLE_LEN, TABLES, answers, 1));
+  int same = !memcmp(chunks_before, chunks, sizeof chunks_before) &&
+             !memcmp(pieces_before, pieces, sizeof pieces_before) &&
+             !memcmp(store_before, store, sizeof store_before);
+  printf("  answer %u, tables %s, ", (unsigned)answers[0],
+         same ? "as before" : "written");
+  magic_string_answer shown = magic_string_to_string(
+      sheet + MAGIC_STRING_SHEET_FRONT, 3, TABLES, out, 3);
+  text(out, shown.value);
+}
+
+static void sheets(void) {
+  uint8_t *sheet = malloc(EXAMPLE_LEN), *answers = malloc(1);
+  if (!sheet || !answers)
+    exit(1);
+  memcpy(sheet, example, EXAMPLE_LEN);
+  memset(chunks, 0xA5, MAGIC_STRING_CHUNKS_LEN * sizeof *chunks);
+  memset(pieces, 0xA5, MAGIC_STRING_PIECES_LEN * sizeof *pieces);
+  memset(store, 0xA5, MAGIC_STRING_STORE_LEN);
+  run("run_sheet on any bytes", sheet, answers);
+  sheet[0] = 2;
+  run("run_sheet of version 2", sheet, answers);
+  free(sheet);
+  free(answers);
+}
+
 int main(void) {
   source_len = strlen(script);
   out_len = source_len + 16;
@@ -113,6 +161,7 @@ int main(void) {
   edits();
   reports();
   refusals();
+  sheets();
   free(source);
   free(chunks);
   free(pieces);

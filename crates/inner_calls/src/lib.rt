@@ -28,45 +28,16 @@ const WORDS: usize = 6;
 // The most calls that an answer can count.
 const MOST: usize = 0xFFFF_FFFF;
 
-// Kinds 1 to 3: a range.
-fn edit_range(
-    k: Call,
-    source: &[u8],
-    chunks: &mut [u32],
-    pieces: &mut [u32],
-    store: &mut [u8],
-    used: Used,
-) -> Outcome
-    requires { ⌜ Desk (now source) (now chunks) (now pieces) (now store) used ⌝ }
-    ensures { λ o. ⌜ Desk (now (source .entry)) (now (chunks .exit)) (now (pieces .exit)) (now (store .exit)) (o .used) ⌝ }
-{
-    let kind = k.kind;
+// The kind that a sheet's record has for the same call (kinds 1 to 7: remove, reset, relocate, and the four insertions).
+fn record_kind(kind: u32) -> u8 {
     match kind {
-        1 => edit_remove::remove(source, chunks, pieces, store, k.a, k.b, used),
-        2 => edit_reset::reset(source, chunks, pieces, store, k.a, k.b, used),
-        _ => edit_relocate::relocate(source, chunks, pieces, store, k.a, k.b, k.c, used),
-    }
-}
-
-// Kinds 4 to 7: a text at a position.
-fn edit_at(
-    k: Call,
-    source: &[u8],
-    chunks: &mut [u32],
-    pieces: &mut [u32],
-    store: &mut [u8],
-    text: &[u8],
-    used: Used,
-) -> Outcome
-    requires { ⌜ Desk (now source) (now chunks) (now pieces) (now store) used ⌝ }
-    ensures { λ o. ⌜ Desk (now (source .entry)) (now (chunks .exit)) (now (pieces .exit)) (now (store .exit)) (o .used) ⌝ }
-{
-    let kind = k.kind;
-    match kind {
-        4 => edit_append::append_left(source, chunks, pieces, store, k.a, text, used),
-        5 => edit_append::append_right(source, chunks, pieces, store, k.a, text, used),
-        6 => edit_prepend::prepend_left(source, chunks, pieces, store, k.a, text, used),
-        _ => edit_prepend::prepend_right(source, chunks, pieces, store, k.a, text, used),
+        1 => 1,
+        2 => 3,
+        4 => 4,
+        5 => 5,
+        6 => 6,
+        7 => 7,
+        _ => 8,
     }
 }
 
@@ -138,8 +109,18 @@ fn make(
 {
     let kind = k.kind;
     match kind {
-        1..=3 => edit_range(k, source, chunks, pieces, store, used),
-        4..=7 => edit_at(k, source, chunks, pieces, store, text, used),
+        1..=7 => sheet_run::core_call::core_call(
+            source,
+            chunks,
+            pieces,
+            store,
+            record_kind(kind),
+            k.a,
+            k.b,
+            k.c,
+            text,
+            used,
+        ),
         8..=10 => edit_text(k, source, chunks, pieces, store, text, used),
         11..=14 => edit_ends(k, source, chunks, pieces, store, used),
         15 => indent::indent_with(source, chunks, pieces, store, k.a != 0, text, exclude, used),

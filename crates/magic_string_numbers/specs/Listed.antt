@@ -4,8 +4,11 @@ use mathlib.Core.Path.{_≡_}
 use mathlib.Core.Bool.{true}
 use mathlib.Core.List.{List}
 use Rattle.model.specs.Call.{Edit, Report, change, report, on-desk, «open», numbers-of}
+use Rattle.model_sheet.specs.Sheet.{sheet-numbers}
+use Rattle.memory.specs.declared.Answer.{Answer}
 use Rattle.memory.specs.Calls.{Edited, Reported, Opened}
 use Rattle.model_preservation.specs.Refusals.{among}
+use Rattle.sheet_run.specs.SheetRan.{SheetRan}
 
 abbrev pub EditedListed : Type 0
 EditedListed = (e : Edit) (source t p s t′ p′ s′ : List ℕ) (number : ℕ) → Edited e source t p s t′ p′ s′ number → among number (numbers-of (on-desk (change e))) ≡ true
@@ -16,3 +19,6 @@ ReportedListed = (q : Report) (source t p s out out′ : List ℕ) (number value
 
 abbrev pub OpenedNumberListed : Type 0
 OpenedNumberListed = (source t p s t′ p′ s′ : List ℕ) (number : ℕ) → Opened source t p s t′ p′ s′ number → among number (numbers-of («open» source)) ≡ true
+
+abbrev pub SheetNumberListed : Type 0
+SheetNumberListed = (sheet t p s a t′ p′ s′ a′ : List ℕ) (r : Answer) → SheetRan sheet t p s a t′ p′ s′ a′ r → among (r .number) sheet-numbers ≡ true

@@ -5,4 +5,6 @@ pub mod Whole
 pub mod Records
 pub mod Sheets
 pub mod Runs
+pub mod Printed
+pub mod Output
 pub mod Example

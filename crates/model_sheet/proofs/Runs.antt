@@ -9,31 +9,34 @@ use lib.Dec.{leb, eqb}
 use lib.ListN.{length}
 use borrow.Author.Tests.{eqb-true, leb-true, le-leb, lt-leb}
 use native.Mathlib.Omega.{arith}
+use Rattle.utf8.specs.Chars.{All, nil, cons}
 use Rattle.model.specs.Text.{any, all}
 use Rattle.model.specs.MagicString.{MagicString}
 use Rattle.model.specs.Limits.{Limits}
-use Rattle.model.specs.WellFormed.{Formed}
+use Rattle.model.specs.WellFormed.{Formed, WellFormed}
 use Rattle.model.specs.Call.{Edit, run, answers, opened, edit-numbers, Outcome, remove, update-with, reset, append-left, append-right, prepend-left, prepend-right}
 use Rattle.model.specs.Call.{append, prepend, relocate, trim, trim-start, trim-end, trim-lines, indent-with}
 use Rattle.model.proofs.Lists.{and-left, and-right, or-cases, no-tf}
 use Rattle.model_preservation.specs.Refusals.{among}
 use Rattle.model_preservation.proofs.Refusals.{answer-listed}
 use Rattle.model_preservation.proofs.Numbers.{opened-listed}
+use Rattle.model_preservation.proofs.Calls.{run-keeps}
 use Rattle.model_sheet.specs.Record.{Recorded}
-use Rattle.model_sheet.specs.Sheet.{Sheet, sheet, calls-of, all-made, refused-by, run-read, run-sheet, sheet-numbers}
+use Rattle.model_sheet.specs.Sheet.{Sheet, sheet, call-of, calls-of, all-made, refused-by, run-read, run-sheet, sheet-numbers}
 
 -- ── an answer is at most 15 ──
+any-below : (k n : ℕ) (l : List ℕ) → all (λ x. leb x k) l ≡ true → any (eqb n) l ≡ true → n ≤ k
+any-below k n [] h e = absurd (no-tf (sym e))
+any-below k n (x ∷ l) h e =
+    let below : ℕ → Bool = λ y. leb y k in
+    elim (or-cases (eqb n x) (any (eqb n) l) e) [
+      | inl q ↦ let same : n ≡ x = eqb-true n x q in let low : x ≤ k = leb-true x k (and-left (below x) (all below l) h) in omega arith
+      | inr q ↦ any-below k n l (and-right (below x) (all below l) h) q
+    ]
+
 -- the largest number of document 01's table
 abbrev small : ℕ → Bool
 small n = leb n 15
-
-any-small : (n : ℕ) (l : List ℕ) → all small l ≡ true → any (eqb n) l ≡ true → n ≤ 15
-any-small n [] h e = absurd (no-tf (sym e))
-any-small n (x ∷ l) h e =
-    elim (or-cases (eqb n x) (any (eqb n) l) e) [
-      | inl q ↦ let same : n ≡ x = eqb-true n x q in let low : x ≤ 15 = leb-true x 15 (and-left (small x) (all small l) h) in omega arith
-      | inr q ↦ any-small n l (and-right (small x) (all small l) h) q
-    ]
 
 numbers-small : (e : Edit) → all small (edit-numbers e) ≡ true
 numbers-small (remove a b) = refl
@@ -53,7 +56,11 @@ numbers-small trim-lines = refl
 numbers-small (indent-with i l) = refl
 
 pub answer-small : (k : Limits) (e : Edit) (m : MagicString) → Formed m → run k e m .number ≤ 15
-answer-small k e m f = any-small (run k e m .number) (0 ∷ edit-numbers e) (numbers-small e) (answer-listed k e m f)
+answer-small k e m f = any-below 15 (run k e m .number) (0 ∷ edit-numbers e) (numbers-small e) (answer-listed k e m f)
+
+pub answers-small : (k : Limits) (l : List Recorded) (m : MagicString) → WellFormed k m → All (λ x. x < 100) (answers k (calls-of l) m)
+answers-small k [] m w = nil
+answers-small k (r ∷ l) m w = cons {x = run k (call-of r) m .number} (omega (arith, answer-small k (call-of r) m (w .formed))) (answers-small k l _ (run-keeps k (call-of r) m w))
 
 -- ── a run gives one of its numbers ──
 pub sheet-listed : (k : Limits) (room : ℕ) (before : MagicString) (s : List ℕ) → among (run-sheet k room before s .shown .number) sheet-numbers ≡ true
@@ -87,6 +94,9 @@ sheet-listed k room before s = read (sheet s)
     read : (o : Option Sheet) → among (elim o as (λ _. Outcome) [ none ↦ refused-by 16 before | some w ↦ run-read k room before w ] .shown .number) sheet-numbers ≡ true
     read none = refl
     read (some w) = numbered w (opened k (w .source) before .number) refl
+
+pub sheet-small : (k : Limits) (room : ℕ) (before : MagicString) (s : List ℕ) → run-sheet k room before s .shown .number ≤ 16
+sheet-small k room before s = any-below 16 (run-sheet k room before s .shown .number) (0 ∷ sheet-numbers) refl (sheet-listed k room before s)
 
 -- ── a run, case by case ──
 module _ (k : Limits) (room : ℕ) (before : MagicString) where

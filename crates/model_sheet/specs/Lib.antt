@@ -1,3 +1,4 @@
 pub mod BigEndian
 pub mod Record
 pub mod Sheet
+pub mod Worked

@@ -1,6 +1,6 @@
 -- Document 02, L1: "A sheet is a version byte 1, a 16-bit source length, the source, then records." What a sheet is, what a run of it answers and leaves, and what the
 -- sheet program prints. The Rust has no such call.
-use Prim.Native.Nat.{ℕ, zero, suc, _+_, _/_, _%_}
+use Prim.Native.Nat.{ℕ, zero, suc, _+_, _*_, _/_, _%_}
 use mathlib.Core.Bool.{Bool, true, _&&_, cond}
 use mathlib.Core.List.{List, [], _∷_, _++_, map}
 use mathlib.Core.Option.{Option, none, some, bind, Option·map}
@@ -125,6 +125,16 @@ lines (r ∷ l) (n ∷ ns) = line (r .kind) n ++ lines l ns
 -- ".. then the text with nothing after it". "If opening is refused, it prints "0", space, the answer and a line feed only"
 unfoldable pub printed-run : List Recorded → Outcome → Text
 printed-run l o = elim (o .shown .number) [ suc n ↦ line 0 (suc n) | zero ↦ lines l (o .shown .written) ++ to-string (o .desk) ]
+
+-- the most bytes of a line (a kind of one digit, an answer of two), and of the text: the store and the source
+abbrev pub MOST-LINE : ℕ
+MOST-LINE = 5
+
+abbrev pub MOST-TEXT : ℕ
+MOST-TEXT = full .most-bytes + full .most-source
+
+abbrev pub MOST-PRINTED : ℕ
+MOST-PRINTED = MOST-LINE * MOST-RECORDS + MOST-TEXT
 
 -- what the sheet program prints for its input; 16 "is printed as an opening refusal"
 unfoldable pub printed : List ℕ → Text

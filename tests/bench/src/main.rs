@@ -1,5 +1,6 @@
 //! `bench`: the time of each call as a ratio to the Rust's, measured in the same
-//! run; whole papers, by exported and by inner calls; and the check alone.
+//! run; whole papers, by exported and by inner calls and as sheets; and the check
+//! alone.
 
 mod calls;
 mod check;
@@ -10,6 +11,7 @@ mod inner;
 mod moved;
 mod papers;
 mod rust;
+mod sheets;
 mod timing;
 
 use differential::{Core, cores};
@@ -37,6 +39,7 @@ fn main() {
     }
   }
   papers::print(&mut core);
+  sheets::print(&mut core);
   #[cfg(feature = "inner")]
   {
     inner::papers(&mut core);

@@ -12,7 +12,7 @@ use string_wizard::MagicString;
 
 use crate::{calls::ROOM, desks, rust::RustCall, timing::least};
 
-const EDITS: usize = 200;
+pub const EDITS: usize = 200;
 
 pub fn print(core: &mut impl Core) {
   println!("\na whole paper: open, {EDITS} edits, to_string");

@@ -78,6 +78,14 @@ impl Lent<'_> {
   }
 }
 
+/// Sheets.
+impl Lent<'_> {
+  /// Runs the sheet that is lent in the source's place.
+  pub fn run_sheet(&mut self, answers: &mut [u8]) -> Answer {
+    unsafe { edit!(self, magic_string_run_sheet, answers.as_mut_ptr(), answers.len()) }
+  }
+}
+
 /// Reports. Those that fill `out` answer how many bytes they wrote.
 impl Lent<'_> {
   pub fn slice(&self, start: u32, has_end: u32, end: u32, out: &mut [u8]) -> Answer {

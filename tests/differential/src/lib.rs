@@ -1,6 +1,6 @@
 //! Compares a core (the exported functions, or a stand-in) with the oracle: call
-//! by call on random scripts, and image by image on damaged memory; and the orders
-//! of lists of edits with each other.
+//! by call on random scripts, and image by image on damaged memory; the orders of
+//! lists of edits with each other; and sheets with a plain reading of document 02.
 
 pub mod any_order;
 pub mod arguments;
@@ -20,6 +20,7 @@ pub mod out;
 pub mod paper;
 pub mod papers;
 pub mod run;
+pub mod sheets;
 pub mod shrink;
 pub mod sizes;
 pub mod step;

@@ -6,9 +6,10 @@ include!(concat!(env!("OUT_DIR"), "/missing.rs"));
 
 /// Whether the archive has the call.
 pub fn has(call: &Call) -> bool {
-  MISSING.is_empty() || {
-    let line = call.to_string();
-    let name = line.split(' ').next().unwrap_or_default();
-    !MISSING.contains(&format!("magic_string_{name}").as_str())
-  }
+  MISSING.is_empty() || has_function(call.to_string().split(' ').next().unwrap_or_default())
+}
+
+/// Whether the archive has the function with this name.
+pub fn has_function(name: &str) -> bool {
+  MISSING.is_empty() || !MISSING.contains(&format!("magic_string_{name}").as_str())
 }

@@ -1,9 +1,9 @@
 //! One call made on both sides, and everything that must agree after it.
 
-use oracle::{Answer as Expected, Call, Desk, Limits, apply, dump, number, random::Random};
+use oracle::{Answer as Expected, Call, Desk, Limits, apply, number, random::Random};
 
 use crate::{
-  Answer, Core, Image, Made, Sizes, Start, Unseen, holds_desk,
+  Answer, Core, Image, Made, Sizes, Start, Unseen,
   image::{self, Style},
   keeps,
   layout::{MOST_BYTES, MOST_SOURCE},
@@ -137,16 +137,8 @@ impl Both {
   }
 
   fn same_desk(&self) -> Result<(), String> {
-    let Image { source, chunks, pieces, store } = &self.image;
-    if !holds_desk(source, chunks, pieces, store) {
-      return Err("the desk is not well formed".to_string());
-    }
-    let left = image::decode(source, chunks, pieces, store);
     let expected = self.desk.as_ref().expect("an edit has a desk").data();
-    if left == expected {
-      return Ok(());
-    }
-    Err(format!("the desk is {}\n  and not {}", dump::print(&left), dump::print(&expected)))
+    self.image.check_desk(&expected)
   }
 }
 

@@ -64,7 +64,7 @@ impl Judged<'_> {
   /// 13 where a limit is just reached.
   fn narrow(&self, count: fn(&Counts) -> usize, limit: usize) -> u32 {
     let reached = count(&self.after) == limit && count(&self.before) != limit;
-    self.right_unless(self.right != DESK_LIMIT && reached, DESK_LIMIT)
+    self.right_unless(self.right != LIMIT && reached, LIMIT)
   }
 
   /// No 13 where a limit is passed by one, and no other is.
@@ -99,24 +99,24 @@ const FAULTS: [(&str, Fault); 15] = [
   ("an insertion's 6 made a cut", |judged| {
     let refused = judged.right == CUT_IN_REPLACEMENT && judged.before.chunks == MOST_CHUNKS;
     let inserts = !matches!(judged.call, Call::UpdateWith { .. }) && judged.call.text().is_some();
-    judged.right_unless(refused && inserts, DESK_LIMIT)
+    judged.right_unless(refused && inserts, LIMIT)
   }),
   ("an update frees no bytes first", |judged| {
     let replaces = matches!(judged.call, Call::UpdateWith { .. }) && judged.right == ACCEPTED;
-    judged.right_unless(replaces && judged.has_long_text(), DESK_LIMIT)
+    judged.right_unless(replaces && judged.has_long_text(), LIMIT)
   }),
   ("a refusal counts the text that it leaves out", |judged| {
     let refused = [4, 5, 6, 7, 10].contains(&judged.right);
-    judged.right_unless(refused && judged.has_long_text(), DESK_LIMIT)
+    judged.right_unless(refused && judged.has_long_text(), LIMIT)
   }),
   ("a trim is judged after its first half", |judged| {
     let Call::Trim { pattern } = *judged.call else { return judged.right };
     let half = apply(&mut judged.desk.clone(), &Call::TrimStart { pattern }).number;
-    judged.right_unless(half == DESK_LIMIT, DESK_LIMIT)
+    judged.right_unless(half == LIMIT, LIMIT)
   }),
   ("an empty piece is not counted", |judged| {
     let inserts = judged.call.text().is_some_and(<[u8]>::is_empty);
-    let full = judged.right == DESK_LIMIT && judged.after.pieces == MOST_PIECES + 1;
+    let full = judged.right == LIMIT && judged.after.pieces == MOST_PIECES + 1;
     judged.right_unless(inserts && full, ACCEPTED)
   }),
 ];

@@ -91,8 +91,8 @@ pub fn step(
 fn numbers(call: &Call) -> &'static [u32] {
   use Call::*;
   match call {
-    Open { .. } => &[NOT_UTF8, DESK_LIMIT],
-    Remove { .. } => &[INSIDE_CHARACTER, END_BEFORE_START, CUT_IN_REPLACEMENT, DESK_LIMIT],
+    Open { .. } => &[NOT_UTF8, LIMIT],
+    Remove { .. } => &[INSIDE_CHARACTER, END_BEFORE_START, CUT_IN_REPLACEMENT, LIMIT],
     UpdateWith { .. } => &[
       NOT_UTF8,
       INSIDE_CHARACTER,
@@ -101,27 +101,25 @@ fn numbers(call: &Call) -> &'static [u32] {
       CUT_IN_REPLACEMENT,
       ACROSS_MOVED_EDGE,
       PAST_SOURCE,
-      DESK_LIMIT,
+      LIMIT,
     ],
-    Reset { .. } => {
-      &[INSIDE_CHARACTER, END_BEFORE_START, CUT_IN_REPLACEMENT, PAST_SOURCE, DESK_LIMIT]
-    }
+    Reset { .. } => &[INSIDE_CHARACTER, END_BEFORE_START, CUT_IN_REPLACEMENT, PAST_SOURCE, LIMIT],
     AppendLeft { .. } | AppendRight { .. } | PrependLeft { .. } | PrependRight { .. } => {
-      &[NOT_UTF8, INSIDE_CHARACTER, CUT_IN_REPLACEMENT, DESK_LIMIT]
+      &[NOT_UTF8, INSIDE_CHARACTER, CUT_IN_REPLACEMENT, LIMIT]
     }
-    Append { .. } | Prepend { .. } => &[NOT_UTF8, DESK_LIMIT],
+    Append { .. } | Prepend { .. } => &[NOT_UTF8, LIMIT],
     Relocate { .. } => &[
       INSIDE_CHARACTER,
       END_BEFORE_START,
       CUT_IN_REPLACEMENT,
-      INSIDE_ITSELF,
+      INTO_ITSELF,
       NOT_TOGETHER,
       PAST_SOURCE,
-      DESK_LIMIT,
+      LIMIT,
     ],
-    Trim { .. } | TrimStart { .. } | TrimEnd { .. } => &[OPTION, DESK_LIMIT],
-    TrimLines => &[DESK_LIMIT],
-    IndentWith { .. } => &[OPTION, NOT_UTF8, INSIDE_CHARACTER, DESK_LIMIT],
+    Trim { .. } | TrimStart { .. } | TrimEnd { .. } => &[BAD_OPTION, LIMIT],
+    TrimLines => &[LIMIT],
+    IndentWith { .. } => &[BAD_OPTION, NOT_UTF8, INSIDE_CHARACTER, LIMIT],
     Slice { .. } => &[INSIDE_CHARACTER, SLICE_START, SLICE_END, SHORT_BUFFER],
     ToString { .. } | LastLine { .. } | GetIndentString { .. } => &[SHORT_BUFFER],
     Len | LenUtf16 | LineCount | IsEmpty | HasChanged | LastChar => &[],

@@ -36,7 +36,7 @@ impl Desk {
   /// A fresh desk over the source; 13 for its length, then 1.
   pub fn open(limits: Limits, source: &[u8]) -> Result<Self, u32> {
     if source.len() > limits.source {
-      return Err(number::DESK_LIMIT);
+      return Err(number::LIMIT);
     }
     let source = str::from_utf8(source).map_err(|_| number::NOT_UTF8)?;
     Ok(Self { limits, magic_string: MagicString::new(source.to_string()) })
@@ -87,7 +87,7 @@ pub fn apply(desk: &mut Desk, call: &Call) -> Answer {
   let mut left = desk.magic_string.clone();
   let number = edit(&mut left, call).err().unwrap_or(number::ACCEPTED);
   if !desk.limits.hold(left.counts()) {
-    return Answer::number(number::DESK_LIMIT);
+    return Answer::number(number::LIMIT);
   }
   desk.magic_string = left;
   Answer::number(number)
@@ -104,7 +104,7 @@ fn arguments(source: &str, call: &Call) -> Result<(), u32> {
   };
   let inside = |&at: &u32| (at as usize) < source.len() && !source.is_char_boundary(at as usize);
   if !option {
-    Err(number::OPTION)
+    Err(number::BAD_OPTION)
   } else if call.text().is_some_and(|text| str::from_utf8(text).is_err()) {
     Err(number::NOT_UTF8)
   } else if call.positions().iter().any(inside) {

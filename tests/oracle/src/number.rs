@@ -1,4 +1,5 @@
-//! Document 01's numbers, and which message of the Rust is which.
+//! Document 01's numbers and the one that document 02's L1 adds, and which message
+//! of the Rust is which.
 
 pub const ACCEPTED: u32 = 0;
 pub const NOT_UTF8: u32 = 1;
@@ -9,14 +10,16 @@ pub const END_BEFORE_START: u32 = 4;
 pub const ZERO_WIDTH: u32 = 5;
 pub const CUT_IN_REPLACEMENT: u32 = 6;
 pub const ACROSS_MOVED_EDGE: u32 = 7;
-pub const INSIDE_ITSELF: u32 = 8;
+pub const INTO_ITSELF: u32 = 8;
 pub const NOT_TOGETHER: u32 = 9;
 pub const PAST_SOURCE: u32 = 10;
 pub const SLICE_START: u32 = 11;
 pub const SLICE_END: u32 = 12;
-pub const DESK_LIMIT: u32 = 13;
+pub const LIMIT: u32 = 13;
 pub const SHORT_BUFFER: u32 = 14;
-pub const OPTION: u32 = 15;
+pub const BAD_OPTION: u32 = 15;
+/// A sheet that breaks its rules: no answer of the Rust's.
+pub const BAD_SHEET: u32 = 16;
 
 /// Each message by a part that no other has.
 const MESSAGES: [(&str, u32); 10] = [
@@ -24,7 +27,7 @@ const MESSAGES: [(&str, u32); 10] = [
   ("Cannot overwrite a zero-length range", ZERO_WIDTH),
   ("Cannot split a chunk that has already been edited", CUT_IN_REPLACEMENT),
   ("Cannot overwrite across a split point", ACROSS_MOVED_EDGE),
-  ("Cannot move a selection inside itself", INSIDE_ITSELF),
+  ("Cannot move a selection inside itself", INTO_ITSELF),
   ("an earlier move left it non-contiguous", NOT_TOGETHER),
   ("it is out of bounds (source length is", PAST_SOURCE),
   ("Character is out of bounds", PAST_SOURCE),

@@ -84,7 +84,7 @@ fn limits_are_judged_on_what_is_left() {
 fn what_stays_after_a_refusal() {
   let after = |line: &str| -> Vec<u32> {
     let call = parse(line).unwrap().unwrap();
-    (NOT_UTF8..=OPTION).filter(|&number| !keeps::every_byte(&call, number)).collect()
+    (NOT_UTF8..=BAD_OPTION).filter(|&number| !keeps::every_byte(&call, number)).collect()
   };
   assert_eq!(after("remove 0 1"), [CUT_IN_REPLACEMENT]);
   assert_eq!(after("reset 0 1"), [CUT_IN_REPLACEMENT]);

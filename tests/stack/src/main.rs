@@ -1,6 +1,7 @@
 //! `stack [SEED [COUNT]]`: the most stack that the calls of each group used, on
-//! chosen desks and on random papers of COUNT calls. It fails where a call used more
-//! than include/magic_string.h says of its kind, or did not answer as the oracle.
+//! chosen desks, on random papers of COUNT calls and on sheets. It fails where a call
+//! used more than include/magic_string.h says of its kind, or did not answer as the
+//! oracle.
 
 mod chosen;
 mod measured;
@@ -8,7 +9,7 @@ mod painted;
 
 use std::process::ExitCode;
 
-use differential::{Core, Paper, Tally, cores, papers, run::run};
+use differential::{Core, Paper, Tally, cores, papers, run::run, sheets};
 use measured::{GROUPS, Measured};
 use oracle::random::Random;
 
@@ -30,7 +31,8 @@ fn main() -> ExitCode {
   println!("seed: {seed}");
   let made = chosen::all(&mut core, seed)
     .and_then(|()| random(&mut core, papers::paper, seed, count))
-    .and_then(|()| random(&mut core, papers::blanks::paper, seed, count / 4));
+    .and_then(|()| random(&mut core, papers::blanks::paper, seed, count / 4))
+    .and_then(|()| random_sheets(&mut core, seed, count / 10));
   if let Err(what) = made {
     println!("{what}");
     return ExitCode::FAILURE;
@@ -84,4 +86,14 @@ fn random(
     run(core, &paper, &mut tally).map_err(|found| format!("{paper}\n{}", found.what))?;
   }
   Ok(())
+}
+
+/// Random sheets: some of them lead their calls to each limit of a desk.
+fn random_sheets(core: &mut impl Core, seed: u64, count: u64) -> Result<(), String> {
+  let mut seeds = Random::new(seed);
+  let mut tally = sheets::Tally::default();
+  (0..count).try_for_each(|_| {
+    let handed = sheets::random(seeds.number());
+    sheets::run::run(core, &handed, &mut tally).map_err(|what| format!("{handed}\n{what}"))
+  })
 }

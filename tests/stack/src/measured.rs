@@ -9,7 +9,7 @@ use oracle::Call;
 use crate::painted::Painted;
 
 /// The groups, in the order in which they are printed, each with its kind.
-pub const GROUPS: [(&str, usize); 10] = [
+pub const GROUPS: [(&str, usize); 11] = [
   ("open", REPORT),
   ("well_formed", REPORT),
   ("remove, reset", EDIT),
@@ -18,6 +18,7 @@ pub const GROUPS: [(&str, usize); 10] = [
   ("relocate", EDIT),
   ("trim, trim_start, trim_end, trim_lines", EDIT),
   ("indent_with", EDIT),
+  ("run_sheet", EDIT),
   ("slice, to_string, last_line, get_indent_string", REPORT),
   (
     "len, len_utf16, line_count, is_empty, has_changed, last_char, is_range_within_edited_chunk",
@@ -83,6 +84,15 @@ impl<C: Core> Core for Measured<C> {
     let mut answer = Answer::NO_DESK;
     let bytes = self.stack.used_by(|| answer = self.core.well_formed(lent));
     self.note("well_formed", bytes);
+    answer
+  }
+
+  fn run_sheet(&mut self, lent: &mut Lent, answers: &mut [u8]) -> Option<Answer> {
+    let mut answer = None;
+    let bytes = self.stack.used_by(|| answer = self.core.run_sheet(lent, answers));
+    if answer.is_some() {
+      self.note("run_sheet", bytes);
+    }
     answer
   }
 }

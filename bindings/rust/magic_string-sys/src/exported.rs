@@ -3,12 +3,14 @@
 use crate::Answer;
 
 /// Declares functions that take the source and the tables first, and their own
-/// arguments behind them: edits write the tables, reports read them. A slice passes
-/// as its address and its length in elements.
+/// arguments behind them: edits write the tables, reports read them. The others take
+/// just the arguments that are written here. A slice passes as its address and its
+/// length in elements.
 macro_rules! exported {
   (
     edits { $($(#[$of_edit:meta])* $edit:ident($($edits_argument:ident: $edits_type:ty),*);)* }
     reports { $($(#[$of_report:meta])* $report:ident($($argument:ident: $type:ty),*);)* }
+    others { $($(#[$of_other:meta])* $other:ident($($others_argument:ident: $others_type:ty),*);)* }
   ) => {
     unsafe extern "C" {
       $($(#[$of_edit])* pub fn $edit(
@@ -26,10 +28,13 @@ macro_rules! exported {
         store: *const u8, store_len: usize,
         $($argument: $type),*
       ) -> Answer;)*
+
+      $($(#[$of_other])* pub fn $other($($others_argument: $others_type),*) -> Answer;)*
     }
 
     /// The names of all exported functions.
-    pub const NAMES: &[&str] = &[$(stringify!($edit),)* $(stringify!($report)),*];
+    pub const NAMES: &[&str] =
+      &[$(stringify!($edit),)* $(stringify!($report),)* $(stringify!($other)),*];
   };
 }
 
@@ -98,6 +103,17 @@ exported! {
     magic_string_is_range_within_edited_chunk(start: u32, end: u32);
     /// The code of the output's last character, or [`NO_CHAR`](crate::layout::NO_CHAR).
     magic_string_last_char();
+  }
+  others {
+    /// Opens the source of a sheet, makes the call of each of its records, and writes
+    /// the number of each.
+    magic_string_run_sheet(
+      sheet: *const u8, sheet_len: usize,
+      chunks: *mut u32, chunks_len: usize,
+      pieces: *mut u32, pieces_len: usize,
+      store: *mut u8, store_len: usize,
+      answers: *mut u8, answers_len: usize
+    );
   }
 }
 

@@ -1,5 +1,6 @@
 //! The limits of a desk and the words of its memory, as docs/LAYOUT.md and
-//! include/magic_string.h have them. For callers who make or keep desks as memory.
+//! include/magic_string.h have them, and the limits of a sheet, whose form the header
+//! describes. For callers who make or keep desks as memory, or make sheets.
 
 /// Most bytes of a source.
 pub const SOURCE_BYTES: usize = 16_384;
@@ -9,6 +10,15 @@ pub const CHUNKS: usize = 512;
 pub const PIECES: usize = 1_024;
 /// Most bytes in pieces and replacements together.
 pub const STORE_BYTES: usize = 32_768;
+
+/// The version of a sheet, its first byte.
+pub const SHEET_VERSION: u8 = 1;
+/// Bytes of a sheet before its source.
+pub const SHEET_FRONT: usize = 3;
+/// Most records of a sheet.
+pub const SHEET_RECORDS: usize = 200;
+/// Most bytes of a whole sheet.
+pub const SHEET_BYTES: usize = 57_344;
 
 /// Length of the table of chunks, in words: the desk's own row and [`CHUNKS`] rows.
 pub const CHUNKS_LEN: usize = (1 + CHUNKS) * ROW;

@@ -1,7 +1,7 @@
 //! The exported functions of `libmagic_string.a`, as `include/magic_string.h`
-//! declares them, and the [layout] of the memory that is lent to them. The header
-//! says what each call does and which numbers it may give; the crate `magic_string`
-//! is the safe one over these.
+//! declares them, the [numbers] that they give, and the [layout] of the memory that is
+//! lent to them. The header says what each call does and which numbers it may give;
+//! the crate `magic_string` is the safe one over these.
 //!
 //! With the feature `link`, which is on unless switched off, the archive is linked.
 
@@ -9,6 +9,7 @@
 
 mod exported;
 pub mod layout;
+pub mod numbers;
 
 pub use exported::*;
 
@@ -18,7 +19,7 @@ pub use exported::*;
 #[repr(C)]
 #[derive(Debug, Clone, Copy, PartialEq, Eq)]
 pub struct Answer {
-  /// 0 if the call was accepted, or 1 to 15.
+  /// 0 if the call was accepted, or one of the [numbers].
   pub number: u32,
   /// What is reported.
   pub value: u32,
@@ -28,5 +29,5 @@ impl Answer {
   /// Accepted, with nothing to report.
   pub const ACCEPTED: Answer = Answer { number: 0, value: 0 };
   /// The memory holds no well-formed desk.
-  pub const NO_DESK: Answer = Answer { number: 2, value: 0 };
+  pub const NO_DESK: Answer = Answer { number: numbers::NOT_WELL_FORMED, value: 0 };
 }

@@ -1,10 +1,13 @@
-//! The crate declares what include/magic_string.h does.
+//! The crate declares what include/magic_string.h does, and the lists of refusals are
+//! one list: those of the header, of this crate, of the wrapper and of the library.
 
 use std::collections::BTreeSet;
 
-use magic_string_sys::{NAMES, layout::*};
+use magic_string_sys::{NAMES, layout::*, numbers::NUMBERS};
 
 const HEADER: &str = include_str!("../../../../include/magic_string.h");
+const WRAPPER: &str = include_str!("../../magic_string/src/refusal.rs");
+const LIBRARY: &str = include_str!("../../../../crates/memory_layout/src/numbers.rt");
 
 #[test]
 fn the_functions() {
@@ -54,6 +57,10 @@ fn limits_lengths_and_marks() {
     ("CHUNKS", CHUNKS),
     ("PIECES", PIECES),
     ("STORE_BYTES", STORE_BYTES),
+    ("SHEET_VERSION", SHEET_VERSION.into()),
+    ("SHEET_FRONT", SHEET_FRONT),
+    ("SHEET_RECORDS", SHEET_RECORDS),
+    ("SHEET_BYTES", SHEET_BYTES),
     ("CHUNKS_LEN", CHUNKS_LEN),
     ("PIECES_LEN", PIECES_LEN),
     ("STORE_LEN", STORE_LEN),
@@ -68,8 +75,8 @@ fn limits_lengths_and_marks() {
   }
 }
 
-/// The names of the header's enum number n, which are counted from 0.
-fn counted(n: usize) -> Vec<&'static str> {
+/// What stands between the commas of the header's n-th enum.
+fn members(n: usize) -> Vec<&'static str> {
   let names = HEADER.split("enum {").nth(n).and_then(|rest| rest.split("};").next()).unwrap();
   names.split(',').map(str::trim).collect()
 }
@@ -88,13 +95,54 @@ fn words_of_a_row() {
     ("TEXT_AT", TEXT_AT),
     ("TEXT_N", TEXT_N),
   ];
-  let words = counted(1);
+  let words = members(1);
   assert_eq!(words.len(), values.len());
   for (name, value) in values {
     assert_eq!(words[value], format!("MAGIC_STRING_{name}"));
   }
-  let words = counted(2);
+  let words = members(2);
   assert_eq!(words.len(), 2);
   assert_eq!(words[PIECE_AT], "MAGIC_STRING_PIECE_AT");
   assert_eq!(words[PIECE_N], "MAGIC_STRING_PIECE_N");
+}
+
+/// A name and its number, with this between them.
+fn numbered<'a>(line: &'a str, between: &str) -> Option<(&'a str, u32)> {
+  let (name, number) = line.split_once(between)?;
+  Some((name, number.parse().ok()?))
+}
+
+#[test]
+fn numbers_of_the_header() {
+  let listed = members(3).into_iter().map(|member| {
+    let named = member.strip_prefix("MAGIC_STRING_").and_then(|rest| numbered(rest, " = "));
+    named.unwrap_or_else(|| panic!("not a name and its number: {member}"))
+  });
+  assert_eq!(listed.collect::<Vec<_>>(), NUMBERS);
+}
+
+#[test]
+fn numbers_of_the_library() {
+  let constants = LIBRARY.lines().filter_map(|line| line.strip_prefix("pub const "));
+  let listed = constants.map(|constant| {
+    let named = constant.strip_suffix(';').and_then(|rest| numbered(rest, ": u32 = "));
+    named.unwrap_or_else(|| panic!("not a name and its number: {constant}"))
+  });
+  assert_eq!(listed.collect::<Vec<_>>(), NUMBERS);
+}
+
+/// A name as Rust writes that of a variant: `NOT_UTF8` is `NotUtf8`.
+fn variant(name: &str) -> String {
+  let word = |word: &str| word[..1].to_string() + &word[1..].to_lowercase();
+  name.split('_').map(word).collect()
+}
+
+/// Each variant takes its number from the constant of its name.
+#[test]
+fn numbers_of_the_wrapper() {
+  let (_, behind) = WRAPPER.split_once("pub enum Refusal {\n").expect("the enum");
+  let (variants, _) = behind.split_once("\n}").expect("its end");
+  let lines = variants.lines().map(str::trim).filter(|line| !line.starts_with("///"));
+  let expected = NUMBERS.iter().map(|(name, _)| format!("{} = numbers::{name},", variant(name)));
+  assert_eq!(lines.collect::<Vec<_>>(), expected.collect::<Vec<_>>());
 }

@@ -1,5 +1,5 @@
 //! A paper: a script is opened and edits are filed on it, with the running text after
-//! each. Then the desk chunk by chunk, its reports, and the fifteen refusals in words.
+//! each. Then the desk chunk by chunk, its reports, and the sixteen refusals in words.
 
 use magic_string::{Chunk, IndentOptions, MagicString, Refusal, UpdateOptions, layout};
 
@@ -133,6 +133,7 @@ fn refusals(desk: &mut MagicString) {
   refused("append more than the store holds", desk.append(long));
   refused("write the text to 10 bytes", desk.write_to(&mut [0; 10]));
   refused("trim by another pattern", desk.trim(Some("[0-9]")));
+  refused("run a sheet of no byte at all", MagicString::run_sheet(b""));
 
   println!("\nThe text has {} bytes, as before: {}", text.len(), desk.to_string() == text);
 }

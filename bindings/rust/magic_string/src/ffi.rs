@@ -6,7 +6,7 @@
 //! stay within the lengths and keep nothing.
 #![allow(unsafe_code)]
 
-use magic_string_sys::{Answer, edit, report};
+use magic_string_sys::{Answer, edit, magic_string_run_sheet, report};
 
 use crate::{Refusal, memory::Memory};
 
@@ -14,10 +14,7 @@ use crate::{Refusal, memory::Memory};
 pub type Answered = Result<u32, Refusal>;
 
 fn answered(answer: Answer) -> Answered {
-  match answer.number {
-    0 => Ok(answer.value),
-    number => Err(Refusal::from_number(number).expect("a number of 1 to 15")),
-  }
+  Refusal::answer(answer.number).map(|()| answer.value)
 }
 
 /// Edits.
@@ -96,6 +93,28 @@ impl Memory {
         text.len(),
         exclude.as_ptr(),
         exclude.len()
+      )
+    })
+  }
+}
+
+/// A sheet.
+impl Memory {
+  /// Runs a sheet on the tables, whatever they hold, and gives how many answers it
+  /// wrote. The source here is not looked at: that of the desk then is the sheet's.
+  pub fn run_sheet(&mut self, sheet: &[u8], answers: &mut [u8]) -> Answered {
+    answered(unsafe {
+      magic_string_run_sheet(
+        sheet.as_ptr(),
+        sheet.len(),
+        self.chunks.as_mut_ptr(),
+        self.chunks.len(),
+        self.pieces.as_mut_ptr(),
+        self.pieces.len(),
+        self.store.as_mut_ptr(),
+        self.store.len(),
+        answers.as_mut_ptr(),
+        answers.len(),
       )
     })
   }

@@ -23,13 +23,14 @@
 //! - [`MagicString`] owns its source and three tables of fixed length, so it has no
 //!   lifetime, and [limits](layout). [`MagicString::new`] and every edit may give
 //!   [`Refusal::Limit`].
-//! - Errors are a [`Refusal`], one of fifteen, and not a `String`.
+//! - Errors are a [`Refusal`], one of sixteen, and not a `String`.
 //! - A position inside a character is refused, where string_wizard may panic, and
 //!   so is an update past the source.
 //! - Trims take the two patterns that string_wizard names. Names and source maps,
 //!   `filename`, `ignore_list`, `replace`, `snip` and the joiner are left out.
-//! - Added: [`MagicString::line_count`], and a way to look at what is filed, chunk
-//!   by chunk ([`MagicString::chunks`]).
+//! - Added: [`MagicString::line_count`], a way to look at what is filed, chunk by
+//!   chunk ([`MagicString::chunks`]), and a whole paper in one call
+//!   ([`MagicString::run_sheet`]).
 //!
 //! Positions are byte offsets into the source.
 
@@ -40,13 +41,14 @@ mod memory;
 mod refusal;
 mod span;
 
-/// For callers who make or keep desks as memory ([`MagicString::from_tables`]).
+/// For callers who make or keep desks as memory ([`MagicString::from_tables`]), or make
+/// sheets ([`MagicString::run_sheet`]).
 #[doc(inline)]
 pub use magic_string_sys::layout;
 
 pub use crate::{
   chunk::{Chunk, Chunks},
-  magic_string::{MagicString, indent::IndentOptions, update::UpdateOptions},
+  magic_string::{MagicString, indent::IndentOptions, sheet::SheetRun, update::UpdateOptions},
   refusal::Refusal,
   span::Span,
 };

@@ -1,6 +1,8 @@
 use std::{error::Error, fmt};
 
-/// Why a call was not done: document 01's numbers.
+use magic_string_sys::numbers;
+
+/// Why a call was not done: document 01's numbers, and those that document 02 adds.
 ///
 /// 6, 7, 9 and an update's 10 leave the cuts that were made, and 7 the chunks that
 /// were cleared before it; every other refusal changes nothing.
@@ -8,40 +10,42 @@ use std::{error::Error, fmt};
 #[repr(u32)]
 pub enum Refusal {
   /// Text not UTF-8.
-  NotUtf8 = 1,
+  NotUtf8 = numbers::NOT_UTF8,
   /// Desk not well formed.
-  NotWellFormed = 2,
+  NotWellFormed = numbers::NOT_WELL_FORMED,
   /// Position inside a character.
-  InsideCharacter = 3,
+  InsideCharacter = numbers::INSIDE_CHARACTER,
   /// End before start.
-  EndBeforeStart = 4,
+  EndBeforeStart = numbers::END_BEFORE_START,
   /// Replace zero width.
-  ZeroWidth = 5,
+  ZeroWidth = numbers::ZERO_WIDTH,
   /// Cut inside a non-empty replacement.
-  CutInReplacement = 6,
+  CutInReplacement = numbers::CUT_IN_REPLACEMENT,
   /// Replace across a moved edge.
-  AcrossMovedEdge = 7,
+  AcrossMovedEdge = numbers::ACROSS_MOVED_EDGE,
   /// Move into itself: start ≤ `to` ≤ end.
-  IntoItself = 8,
+  IntoItself = numbers::INTO_ITSELF,
   /// Moved range not together.
-  NotTogether = 9,
+  NotTogether = numbers::NOT_TOGETHER,
   /// End past source (update, reset, relocate).
-  PastSource = 10,
+  PastSource = numbers::PAST_SOURCE,
   /// Slice starts inside a replaced chunk.
-  SliceStart = 11,
+  SliceStart = numbers::SLICE_START,
   /// Slice ends inside a replaced chunk.
-  SliceEnd = 12,
+  SliceEnd = numbers::SLICE_END,
   /// The desk that the call would leave breaks a [limit](crate::layout).
-  Limit = 13,
+  Limit = numbers::LIMIT,
   /// Output buffer too short.
-  ShortBuffer = 14,
+  ShortBuffer = numbers::SHORT_BUFFER,
   /// Pattern above 1, or an exclude list of odd count.
-  BadOption = 15,
+  BadOption = numbers::BAD_OPTION,
+  /// A sheet, or a record of one, that breaks the rules of its form.
+  BadSheet = numbers::BAD_SHEET,
 }
 
 impl Refusal {
-  /// All fifteen, in the order of their numbers.
-  pub const ALL: [Refusal; 15] = [
+  /// All of them, in the order of their numbers.
+  pub const ALL: [Refusal; 16] = [
     Refusal::NotUtf8,
     Refusal::NotWellFormed,
     Refusal::InsideCharacter,
@@ -57,9 +61,10 @@ impl Refusal {
     Refusal::Limit,
     Refusal::ShortBuffer,
     Refusal::BadOption,
+    Refusal::BadSheet,
   ];
 
-  /// Its number, 1 to 15.
+  /// Its number, 1 to 16.
   pub fn number(self) -> u32 {
     self as u32
   }
@@ -68,9 +73,17 @@ impl Refusal {
   pub fn from_number(number: u32) -> Option<Self> {
     Self::ALL.into_iter().find(|refusal| refusal.number() == number)
   }
+
+  /// What a call answered with this number, which is 0 or a refusal's.
+  pub(crate) fn answer(number: u32) -> Result<(), Self> {
+    match number {
+      0 => Ok(()),
+      number => Err(Self::from_number(number).expect("a refusal's number")),
+    }
+  }
 }
 
-/// Document 01's words.
+/// The documents' words.
 impl fmt::Display for Refusal {
   fn fmt(&self, out: &mut fmt::Formatter) -> fmt::Result {
     out.pad(match self {
@@ -89,6 +102,7 @@ impl fmt::Display for Refusal {
       Refusal::Limit => "the desk would break a limit",
       Refusal::ShortBuffer => "output buffer too short",
       Refusal::BadOption => "pattern above 1, or an exclude list of odd count",
+      Refusal::BadSheet => "sheet or record breaks the rules of its form",
     })
   }
 }

@@ -1,12 +1,14 @@
-//! Each of the fifteen refusals through the wrapper: document 01's own examples,
+//! Each of the sixteen refusals through the wrapper: document 01's own examples,
 //! what the desk is afterwards, and which calls have them.
 //!
-//! Types rule out some ways to a number, though none of the fifteen. 1: texts of
-//! edits are `str`, so only `from_utf8` has it. 2: a `MagicString` is well formed,
-//! so only `from_tables` has it. 14: the wrapper's own buffers are long enough, so
-//! only `write_to` has it. 15: excluded ranges are pairs, so only trims have it.
+//! Types rule out some ways to a number, though none of the sixteen. 1: texts of
+//! edits are `str`, so only `from_utf8` and `run_sheet` have it. 2: a `MagicString`
+//! is well formed, so only `from_tables` has it. 14: the wrapper's own buffers are
+//! long enough, so only `write_to` has it. 15: excluded ranges are pairs, so only
+//! trims have it. 16: only `run_sheet` has it (tests/sheet.rs).
 
 use magic_string::{IndentOptions, MagicString, Refusal, Span, layout};
+use magic_string_sys::numbers::NUMBERS;
 
 fn open(source: &str) -> MagicString {
   MagicString::new(source).unwrap()
@@ -16,23 +18,23 @@ fn open(source: &str) -> MagicString {
 fn refused(
   desk: &mut MagicString,
   edit: impl FnOnce(&mut MagicString) -> Result<&mut MagicString, Refusal>,
-) -> u32 {
+) -> Refusal {
   let before = desk.to_string();
   let refusal = edit(desk).map(drop).unwrap_err();
   assert_eq!(desk.to_string(), before);
-  refusal.number()
+  refusal
 }
 
 /// The same, and that the whole desk and every word of its tables stay.
 fn untouched(
   desk: &mut MagicString,
   edit: impl FnOnce(&mut MagicString) -> Result<&mut MagicString, Refusal>,
-) -> u32 {
+) -> Refusal {
   let before = desk.clone();
-  let number = refused(desk, edit);
+  let refusal = refused(desk, edit);
   assert_eq!(*desk, before);
   assert_eq!(desk.tables(), before.tables());
-  number
+  refusal
 }
 
 fn spans(desk: &MagicString) -> Vec<(u32, u32)> {
@@ -46,8 +48,9 @@ fn numbers_and_words() {
     assert_eq!(Refusal::from_number(number), Some(refusal));
     assert!(!refusal.to_string().is_empty());
   }
+  assert_eq!(Refusal::ALL.len(), NUMBERS.len());
   assert_eq!(Refusal::from_number(0), None);
-  assert_eq!(Refusal::from_number(16), None);
+  assert_eq!(Refusal::from_number(17), None);
   let error: &dyn std::error::Error = &Refusal::PastSource;
   assert_eq!(error.to_string(), "end past source");
 }
@@ -64,19 +67,18 @@ fn number_1_text_not_utf8() {
 fn number_2_desk_not_well_formed() {
   let desk = open("abc");
   let (chunks, pieces, store) = desk.tables();
-  let made = |chunks: &[u32], pieces: &[u32]| {
-    MagicString::from_tables("abc", chunks, pieces, store).map_err(Refusal::number)
-  };
+  let made =
+    |chunks: &[u32], pieces: &[u32]| MagicString::from_tables("abc", chunks, pieces, store);
   assert_eq!(made(chunks, pieces), Ok(desk.clone()));
   // Two chunks whose links are all zero.
   let mut two = vec![0; layout::CHUNKS_LEN];
   two[layout::START] = 2;
-  assert_eq!(made(&two, pieces), Err(2));
+  assert_eq!(made(&two, pieces), Err(Refusal::NotWellFormed));
   // A span that does not cover the source, and a table that is too short.
   let mut short = chunks.to_vec();
   short[layout::ROW + layout::END] = 2;
-  assert_eq!(made(&short, pieces), Err(2));
-  assert_eq!(made(chunks, &pieces[1..]), Err(2));
+  assert_eq!(made(&short, pieces), Err(Refusal::NotWellFormed));
+  assert_eq!(made(chunks, &pieces[1..]), Err(Refusal::NotWellFormed));
   assert_eq!(
     MagicString::from_tables(b"\xFFbc", chunks, pieces, store),
     Err(Refusal::NotWellFormed)
@@ -86,17 +88,20 @@ fn number_2_desk_not_well_formed() {
 #[test]
 fn number_3_position_inside_a_character() {
   let desk = &mut open("é");
-  assert_eq!(untouched(desk, |s| s.remove(0, 1)), 3);
-  assert_eq!(untouched(desk, |s| s.remove(1, 1)), 3);
-  assert_eq!(untouched(desk, |s| s.reset(1, 2)), 3);
-  assert_eq!(untouched(desk, |s| s.update(1, 1, "x")), 3);
-  assert_eq!(untouched(desk, |s| s.relocate(0, 2, 1)), 3);
-  assert_eq!(untouched(desk, |s| s.append_left(1, "x")), 3);
-  assert_eq!(untouched(desk, |s| s.append_right(1, "x")), 3);
-  assert_eq!(untouched(desk, |s| s.prepend_left(1, "x")), 3);
-  assert_eq!(untouched(desk, |s| s.prepend_right(1, "x")), 3);
+  assert_eq!(untouched(desk, |s| s.remove(0, 1)), Refusal::InsideCharacter);
+  assert_eq!(untouched(desk, |s| s.remove(1, 1)), Refusal::InsideCharacter);
+  assert_eq!(untouched(desk, |s| s.reset(1, 2)), Refusal::InsideCharacter);
+  assert_eq!(untouched(desk, |s| s.update(1, 1, "x")), Refusal::InsideCharacter);
+  assert_eq!(untouched(desk, |s| s.relocate(0, 2, 1)), Refusal::InsideCharacter);
+  assert_eq!(untouched(desk, |s| s.append_left(1, "x")), Refusal::InsideCharacter);
+  assert_eq!(untouched(desk, |s| s.append_right(1, "x")), Refusal::InsideCharacter);
+  assert_eq!(untouched(desk, |s| s.prepend_left(1, "x")), Refusal::InsideCharacter);
+  assert_eq!(untouched(desk, |s| s.prepend_right(1, "x")), Refusal::InsideCharacter);
   let exclude = &[(0, 1)];
-  assert_eq!(untouched(desk, |s| s.indent_with(IndentOptions { indentor: None, exclude })), 3);
+  assert_eq!(
+    untouched(desk, |s| s.indent_with(IndentOptions { indentor: None, exclude })),
+    Refusal::InsideCharacter
+  );
   assert_eq!(desk.slice(1, None), Err(Refusal::InsideCharacter));
   assert_eq!(desk.slice(0, Some(1)), Err(Refusal::InsideCharacter));
   // The range report takes any two numbers.
@@ -106,27 +111,27 @@ fn number_3_position_inside_a_character() {
 #[test]
 fn number_4_end_before_start() {
   let desk = &mut open("abc");
-  assert_eq!(untouched(desk, |s| s.remove(2, 1)), 4);
-  assert_eq!(untouched(desk, |s| s.reset(2, 1)), 4);
-  assert_eq!(untouched(desk, |s| s.update(2, 1, "x")), 4);
-  assert_eq!(untouched(desk, |s| s.relocate(2, 1, 0)), 4);
+  assert_eq!(untouched(desk, |s| s.remove(2, 1)), Refusal::EndBeforeStart);
+  assert_eq!(untouched(desk, |s| s.reset(2, 1)), Refusal::EndBeforeStart);
+  assert_eq!(untouched(desk, |s| s.update(2, 1, "x")), Refusal::EndBeforeStart);
+  assert_eq!(untouched(desk, |s| s.relocate(2, 1, 0)), Refusal::EndBeforeStart);
 }
 
 #[test]
 fn number_5_replace_zero_width() {
-  assert_eq!(untouched(&mut open("abc"), |s| s.update(1, 1, "x")), 5);
+  assert_eq!(untouched(&mut open("abc"), |s| s.update(1, 1, "x")), Refusal::ZeroWidth);
 }
 
 #[test]
 fn number_6_cut_inside_a_replacement() {
   let desk = &mut open("abcdef");
   desk.update(0, 4, "X").unwrap();
-  assert_eq!(untouched(desk, |s| s.append_left(2, "x")), 6);
-  assert_eq!(untouched(desk, |s| s.prepend_right(2, "x")), 6);
+  assert_eq!(untouched(desk, |s| s.append_left(2, "x")), Refusal::CutInReplacement);
+  assert_eq!(untouched(desk, |s| s.prepend_right(2, "x")), Refusal::CutInReplacement);
   // The cuts that were made stay: that at `start`, before the one inside.
   let desk = &mut open("abcdef");
   desk.update(2, 6, "X").unwrap();
-  assert_eq!(refused(desk, |s| s.remove(1, 3)), 6);
+  assert_eq!(refused(desk, |s| s.remove(1, 3)), Refusal::CutInReplacement);
   assert_eq!(spans(desk), [(0, 1), (1, 2), (2, 6)]);
   // An empty replacement can be cut.
   let desk = &mut open("abcdef");
@@ -139,7 +144,7 @@ fn number_7_replace_across_a_moved_edge() {
   // Case E.
   let desk = &mut open("abcd");
   desk.relocate(2, 3, 4).unwrap();
-  assert_eq!(refused(desk, |s| s.update(0, 3, "X")), 7);
+  assert_eq!(refused(desk, |s| s.update(0, 3, "X")), Refusal::AcrossMovedEdge);
   assert_eq!(desk.to_string(), "abdc");
   // Case F: the chunk of b is cleared before the refusal.
   let desk = &mut open("abcd");
@@ -151,8 +156,8 @@ fn number_7_replace_across_a_moved_edge() {
 #[test]
 fn number_8_move_into_itself() {
   let desk = &mut open("abc");
-  assert_eq!(untouched(desk, |s| s.relocate(1, 1, 1)), 8);
-  assert_eq!(untouched(desk, |s| s.relocate(0, 2, 1)), 8);
+  assert_eq!(untouched(desk, |s| s.relocate(1, 1, 1)), Refusal::IntoItself);
+  assert_eq!(untouched(desk, |s| s.relocate(0, 2, 1)), Refusal::IntoItself);
   // Case L: another zero width is accepted.
   desk.relocate(1, 1, 2).unwrap();
   assert_eq!(*desk, open("abc"));
@@ -164,17 +169,17 @@ fn number_9_moved_range_not_together() {
   let desk = &mut open("abc");
   desk.relocate(0, 2, 3).unwrap();
   assert_eq!(desk.to_string(), "cab");
-  assert_eq!(refused(desk, |s| s.relocate(1, 3, 0)), 9);
+  assert_eq!(refused(desk, |s| s.relocate(1, 3, 0)), Refusal::NotTogether);
   assert_eq!(spans(desk), [(2, 3), (0, 1), (1, 2)]);
 }
 
 #[test]
 fn number_10_end_past_source() {
   let desk = &mut open("abc");
-  assert_eq!(untouched(desk, |s| s.reset(0, 4)), 10);
-  assert_eq!(untouched(desk, |s| s.relocate(1, 4, 0)), 10);
+  assert_eq!(untouched(desk, |s| s.reset(0, 4)), Refusal::PastSource);
+  assert_eq!(untouched(desk, |s| s.relocate(1, 4, 0)), Refusal::PastSource);
   // An update's cuts stay.
-  assert_eq!(refused(desk, |s| s.update(1, 4, "x")), 10);
+  assert_eq!(refused(desk, |s| s.update(1, 4, "x")), Refusal::PastSource);
   assert_eq!(spans(desk), [(0, 1), (1, 3)]);
 }
 
@@ -199,15 +204,15 @@ fn number_13_limits() {
   let desk = &mut open("ab");
   desk.update(0, 2, "x".repeat(layout::STORE_BYTES)).unwrap();
   desk.update(0, 2, "y".repeat(layout::STORE_BYTES)).unwrap();
-  assert_eq!(untouched(desk, |s| s.append("z")), 13);
-  assert_eq!(untouched(desk, |s| s.prepend("z")), 13);
+  assert_eq!(untouched(desk, |s| s.append("z")), Refusal::Limit);
+  assert_eq!(untouched(desk, |s| s.prepend("z")), Refusal::Limit);
 
   // Pieces, empty ones counted.
   let desk = &mut open("ab");
   for _ in 0..layout::PIECES {
     desk.append_right(1, "").unwrap();
   }
-  assert_eq!(untouched(desk, |s| s.append_left(2, "")), 13);
+  assert_eq!(untouched(desk, |s| s.append_left(2, "")), Refusal::Limit);
 
   // Chunks.
   let desk = &mut open(&"a".repeat(1_000));
@@ -215,17 +220,17 @@ fn number_13_limits() {
     desk.append_left(at, "").unwrap();
   }
   assert_eq!(desk.chunks().count(), layout::CHUNKS);
-  assert_eq!(untouched(desk, |s| s.remove(600, 700)), 13);
-  assert_eq!(untouched(desk, |s| s.relocate(600, 700, 0)), 13);
-  assert_eq!(untouched(desk, |s| s.reset(600, 700)), 13);
-  assert_eq!(untouched(desk, |s| s.prepend_right(600, "")), 13);
+  assert_eq!(untouched(desk, |s| s.remove(600, 700)), Refusal::Limit);
+  assert_eq!(untouched(desk, |s| s.relocate(600, 700, 0)), Refusal::Limit);
+  assert_eq!(untouched(desk, |s| s.reset(600, 700)), Refusal::Limit);
+  assert_eq!(untouched(desk, |s| s.prepend_right(600, "")), Refusal::Limit);
   desk.remove(0, 1).unwrap();
 
   // A chunk trimmed in part needs bytes.
   let desk = &mut open(&format!("{} ", "a".repeat(10)));
   desk.append_right(0, "x".repeat(layout::STORE_BYTES)).unwrap();
-  assert_eq!(untouched(desk, |s| s.trim_end(None)), 13);
-  assert_eq!(untouched(desk, |s| s.indent()), 13);
+  assert_eq!(untouched(desk, |s| s.trim_end(None)), Refusal::Limit);
+  assert_eq!(untouched(desk, |s| s.indent()), Refusal::Limit);
 }
 
 #[test]
@@ -241,9 +246,18 @@ fn number_14_output_buffer_too_short() {
 #[test]
 fn number_15_pattern_above_1() {
   let desk = &mut open(" abc ");
-  assert_eq!(untouched(desk, |s| s.trim(Some("[ab]"))), 15);
-  assert_eq!(untouched(desk, |s| s.trim_start(Some(""))), 15);
-  assert_eq!(untouched(desk, |s| s.trim_end(Some(" "))), 15);
+  assert_eq!(untouched(desk, |s| s.trim(Some("[ab]"))), Refusal::BadOption);
+  assert_eq!(untouched(desk, |s| s.trim_start(Some(""))), Refusal::BadOption);
+  assert_eq!(untouched(desk, |s| s.trim_end(Some(" "))), Refusal::BadOption);
+}
+
+#[test]
+fn number_16_sheet_breaks_its_rules() {
+  // No version, another one, and a record of no kind.
+  for sheet in [&b""[..], b"\x02\0\0", b"\x01\0\0\0\x01\0"] {
+    assert_eq!(MagicString::run_sheet(sheet), Err(Refusal::BadSheet));
+  }
+  assert_eq!(MagicString::run_sheet(b"\x01\0\0").unwrap().desk, MagicString::default());
 }
 
 #[test]

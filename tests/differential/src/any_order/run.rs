@@ -1,13 +1,13 @@
 //! One sitting: its list run in each order, and all that must be the same.
 
-use oracle::{Call, Desk, DeskData, Limits, apply, dump, random::Random};
+use oracle::{Call, Desk, DeskData, Limits, apply, random::Random};
 
 use super::{
   Sitting, Tally,
   later::{Later, Seen},
   sitting::Start,
 };
-use crate::{Answer, Core, Image, Unseen, holds_desk, image};
+use crate::{Answer, Core, Image, Unseen, image};
 
 /// The order in which something is seen that the others do not have, and what.
 #[derive(Debug, Clone)]
@@ -70,14 +70,14 @@ fn run_order(
       return Err(format!("{call} gives {answer:?}"));
     }
   }
-  same_desk(&image, &expected.desk)?;
+  image.check_desk(&expected.desk)?;
   let text = Later::text(sitting.seed).make(core, &mut image);
   text.same_as(&expected.text).map_err(|what| format!("the text: {what}"))?;
   for (later, expected) in sitting.later.iter().zip(&expected.later) {
     let seen = later.make(core, &mut image);
     seen.same_as(expected).map_err(|what| format!("later, {}: {what}", later.call))?;
   }
-  same_desk(&image, &expected.end).map_err(|what| format!("behind the later calls, {what}"))
+  image.check_desk(&expected.end).map_err(|what| format!("behind the later calls, {what}"))
 }
 
 /// Memory of the desk that the list is run from, other memory for each order.
@@ -94,26 +94,11 @@ fn memory(core: &mut impl Core, sitting: &Sitting, number: usize) -> Result<Imag
       image
     }
   };
-  same_desk(&image, &sitting.start.desk()).map_err(|what| format!("at the start, {what}"))?;
+  image.check_desk(&sitting.start.desk()).map_err(|what| format!("at the start, {what}"))?;
   Ok(image)
 }
 
 /// Makes an edit, which fills no buffer.
 fn make(core: &mut impl Core, image: &mut Image, call: &Call) -> Answer {
   core.call(&mut image.lend(), call, &Unseen::PLAIN, &mut [])
-}
-
-/// The memory holds that desk: source, head and tail pieces, and chunks in list
-/// order with span, intro, outro and replacement.
-fn same_desk(image: &Image, expected: &DeskData) -> Result<(), String> {
-  let Image { source, chunks, pieces, store } = image;
-  if !holds_desk(source, chunks, pieces, store) {
-    return Err("the desk is not well formed".to_string());
-  }
-  let desk = image::decode(source, chunks, pieces, store);
-  if desk != *expected {
-    let (desk, expected) = (dump::print(&desk), dump::print(expected));
-    return Err(format!("the desk is {desk}\n  and not {expected}"));
-  }
-  Ok(())
 }

@@ -61,4 +61,8 @@ impl Core for Archive {
   fn well_formed(&mut self, lent: &Lent) -> Answer {
     lent.well_formed()
   }
+
+  fn run_sheet(&mut self, lent: &mut Lent, answers: &mut [u8]) -> Option<Answer> {
+    missing::has_function("run_sheet").then(|| lent.run_sheet(answers))
+  }
 }

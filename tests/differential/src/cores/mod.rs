@@ -42,6 +42,12 @@ pub trait Core {
   fn list(&mut self, lent: &mut Lent, calls: &[&Call], unseen: &Unseen) -> Vec<Answer> {
     calls.iter().map(|call| self.call(lent, call, unseen, &mut [])).collect()
   }
+
+  /// Runs the sheet that is lent in the source's place. None where the core runs no
+  /// sheets.
+  fn run_sheet(&mut self, _lent: &mut Lent, _answers: &mut [u8]) -> Option<Answer> {
+    None
+  }
 }
 
 /// What `Core::well_formed` must answer.

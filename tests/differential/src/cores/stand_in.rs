@@ -6,7 +6,7 @@
 use oracle::{Call, Desk, apply, number, random::Random};
 
 use super::{Core, Unseen, verdict};
-use crate::{Answer, Lent, Sizes, image, image::Style, keeps};
+use crate::{Answer, Lent, Sizes, image, image::Style, keeps, sheets::reading};
 
 #[derive(Debug, Clone)]
 pub struct StandIn {
@@ -81,5 +81,21 @@ impl Core for StandIn {
 
   fn takes(&self, sizes: Sizes) -> bool {
     self.any_size || sizes == Sizes::FULL
+  }
+
+  /// By the plain reading. There is no inner function for it.
+  fn run_sheet(&mut self, lent: &mut Lent, answers: &mut [u8]) -> Option<Answer> {
+    if self.any_size {
+      return None;
+    }
+    let full = lent.sizes() == Some(Sizes::FULL);
+    Some(match reading::run(lent.source, full, answers.len()) {
+      Err(number) => Answer { number, value: 0 },
+      Ok(ran) => {
+        answers[..ran.answers.len()].copy_from_slice(&ran.answers);
+        self.lay_out(Sizes::FULL, &ran.desk, lent);
+        Answer { number: number::ACCEPTED, value: ran.answers.len() as u32 }
+      }
+    })
   }
 }

@@ -5,8 +5,16 @@ use std::{collections::BTreeMap, fmt};
 use oracle::{Call, Desk, random::Random};
 
 use crate::{
-  Answer, Core, Image, Made, Unseen, cores::verdict, every_call, holds_desk, image, layout::*,
-  out::Out, step::Both,
+  Answer, Core, Image, Made, Unseen,
+  cores::verdict,
+  every_call, holds_desk, image,
+  layout::*,
+  out::Out,
+  sheets::{
+    fields::{Fields, kind},
+    run::run_in,
+  },
+  step::Both,
 };
 
 /// What was counted, by kind of damage: images that are well formed all the
@@ -37,6 +45,8 @@ pub struct Judge<'a, C> {
   random: Random,
   /// Calls whose arguments are in order, and calls whose are not.
   every: [Vec<Call>; 2],
+  /// Those of the first that a sheet can have.
+  records: Vec<Call>,
   before: Image,
   pub verdicts: Verdicts,
 }
@@ -46,8 +56,10 @@ impl<'a, C: Core> Judge<'a, C> {
     let mut random = Random::new(seed);
     let before = Image::junk(Vec::new(), &mut random);
     let mut every = [every_call::accepted(), every_call::refused()];
+    let mut records = every[0].clone();
+    records.retain(|call| kind(call).is_some());
     every.iter_mut().for_each(|calls| calls.retain(|call| core.has(call)));
-    Self { core, random, every, before, verdicts: Verdicts::default() }
+    Self { core, random, every, records, before, verdicts: Verdicts::default() }
   }
 
   /// Judges the image, which is left as it is.
@@ -58,6 +70,7 @@ impl<'a, C: Core> Judge<'a, C> {
     let judged = self
       .verdict(image, holds)
       .and_then(|()| self.open(image))
+      .and_then(|()| self.run_sheet(image))
       .and_then(|()| if holds { self.calls_on_desk(image) } else { self.calls_on_no_desk(image) });
     judged.map_err(|what| Found { kind, what, image: Box::new(self.before.clone()) })
   }
@@ -118,6 +131,15 @@ impl<'a, C: Core> Judge<'a, C> {
       && holds_desk(&image.source, &image.chunks, &image.pieces, &image.store)
       && image::decode(&image.source, &image.chunks, &image.pieces, &image.store) == desk;
     if opened { Ok(()) } else { Err("open does not make a fresh desk".to_string()) }
+  }
+
+  /// A run of a sheet looks at their lengths alone too. The sheet has the image's source.
+  fn run_sheet(&mut self, image: &Image) -> Result<(), String> {
+    let sheet = Fields::of(&image.source, &self.records).bytes();
+    let memory = Image { source: sheet, ..image.clone() };
+    let ran = run_in(self.core, memory, self.records.len(), &mut self.random);
+    self.verdicts.calls += ran.map_err(|what| format!("run_sheet: {what}"))?.is_some() as u64;
+    Ok(())
   }
 
   /// The answer is the one expected, and no byte changed.

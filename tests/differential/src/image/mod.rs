@@ -9,9 +9,9 @@ pub use decode::decode;
 pub use encode::{Style, encode, encode_in};
 pub use places::shuffle;
 
-use oracle::random::Random;
+use oracle::{DeskData, dump, random::Random};
 
-use crate::{Lent, Sizes, layout::*};
+use crate::{Lent, Sizes, holds_desk, layout::*};
 
 /// The memory of one desk. A damaged one may have any lengths.
 #[derive(Debug, Clone, PartialEq, Eq)]
@@ -121,6 +121,21 @@ impl Image {
     self.chunks.clone_from(&other.chunks);
     self.pieces.clone_from(&other.pieces);
     self.store.clone_from(&other.store);
+  }
+
+  /// The memory is well formed and holds that desk: source, head and tail pieces, and
+  /// chunks in list order with span, intro, outro and replacement.
+  pub fn check_desk(&self, expected: &DeskData) -> Result<(), String> {
+    let Self { source, chunks, pieces, store } = self;
+    if !holds_desk(source, chunks, pieces, store) {
+      return Err("the desk is not well formed".to_string());
+    }
+    let desk = decode(source, chunks, pieces, store);
+    if desk != *expected {
+      let (desk, expected) = (dump::print(&desk), dump::print(expected));
+      return Err(format!("the desk is {desk}\n  and not {expected}"));
+    }
+    Ok(())
   }
 
   /// Whether the three tables hold the same words and bytes.

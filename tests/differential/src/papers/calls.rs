@@ -102,7 +102,7 @@ impl Caller {
     Call::UpdateWith { start, end, overwrite, text }
   }
 
-  fn bytes_left(&self) -> usize {
+  pub(super) fn bytes_left(&self) -> usize {
     self.desk.limits().bytes - self.desk.counts().bytes
   }
 }

@@ -4,6 +4,7 @@ pub mod blanks;
 mod calls;
 mod cuts;
 pub mod fixed;
+pub mod in_sheet;
 mod positions;
 pub mod sized;
 mod sweep;

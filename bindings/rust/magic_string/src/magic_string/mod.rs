@@ -3,6 +3,7 @@ pub mod indent;
 pub mod movement;
 pub mod prepend;
 pub mod reset;
+pub mod sheet;
 pub mod slice;
 pub mod trim;
 pub mod update;

@@ -1,0 +1,46 @@
+//! The numbers of refusals by name, as include/magic_string.h has them.
+
+/// Declares the numbers, and all of them as one list.
+macro_rules! numbers {
+  ($($(#[$of_number:meta])* $name:ident = $number:literal;)*) => {
+    $($(#[$of_number])* pub const $name: u32 = $number;)*
+
+    /// All of them with their names, in order.
+    pub const NUMBERS: &[(&str, u32)] = &[$((stringify!($name), $name)),*];
+  };
+}
+
+numbers! {
+  /// A text is not UTF-8.
+  NOT_UTF8 = 1;
+  /// The memory holds no well-formed desk.
+  NOT_WELL_FORMED = 2;
+  /// A position lies inside a character.
+  INSIDE_CHARACTER = 3;
+  /// The end lies before the start.
+  END_BEFORE_START = 4;
+  /// A replacement of zero width.
+  ZERO_WIDTH = 5;
+  /// A cut inside a non-empty replacement.
+  CUT_IN_REPLACEMENT = 6;
+  /// A replacement across a moved edge.
+  ACROSS_MOVED_EDGE = 7;
+  /// A move into itself.
+  INTO_ITSELF = 8;
+  /// A moved range that is not together.
+  NOT_TOGETHER = 9;
+  /// An end past the source.
+  PAST_SOURCE = 10;
+  /// A slice that starts inside a replaced chunk.
+  SLICE_START = 11;
+  /// A slice that ends inside a replaced chunk.
+  SLICE_END = 12;
+  /// The desk would break a limit.
+  LIMIT = 13;
+  /// The output buffer is too short.
+  SHORT_BUFFER = 14;
+  /// A pattern above 1, or an exclude list of odd count.
+  BAD_OPTION = 15;
+  /// A sheet, or a record of one, that breaks the rules of its form.
+  BAD_SHEET = 16;
+}

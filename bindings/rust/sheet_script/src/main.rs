@@ -1,0 +1,63 @@
+//! `sheet_script to-sheet [FILE]` makes a sheet of a script, `sheet_script to-script
+//! [FILE]` a script of a sheet: from FILE, or from standard input without one, to
+//! standard output. What is wrong goes to standard error, and the status is then 1.
+
+use std::{
+  env, fs,
+  io::{self, Read, Write},
+  path::{Path, PathBuf},
+  process::ExitCode,
+};
+
+use sheet_script::{to_script, to_sheet};
+
+const USAGE: &str = "usage: sheet_script to-sheet [FILE]\n       sheet_script to-script [FILE]";
+
+fn main() -> ExitCode {
+  match run() {
+    Ok(()) => ExitCode::SUCCESS,
+    Err(message) => {
+      eprintln!("{message}");
+      ExitCode::FAILURE
+    }
+  }
+}
+
+fn run() -> Result<(), String> {
+  let arguments: Vec<PathBuf> = env::args_os().skip(1).map(PathBuf::from).collect();
+  let (command, file) = match &arguments[..] {
+    [command] => (command, None),
+    [command, file] => (command, Some(file.as_path())),
+    _ => return Err(USAGE.to_string()),
+  };
+  let turn = match command.to_str() {
+    Some("to-sheet") => |bytes: &[u8]| to_sheet(bytes).map_err(|error| error.to_string()),
+    Some("to-script") => {
+      |bytes: &[u8]| to_script(bytes).map(String::into_bytes).map_err(|error| error.to_string())
+    }
+    _ => return Err(USAGE.to_string()),
+  };
+  let named = |what: String| match file {
+    Some(file) => format!("{}: {what}", file.display()),
+    None => what,
+  };
+  let bytes = read(file).map_err(|error| named(error.to_string()))?;
+  let turned = turn(&bytes).map_err(named)?;
+  write(&turned).map_err(|error| error.to_string())
+}
+
+/// The file's bytes, or those of standard input.
+fn read(file: Option<&Path>) -> io::Result<Vec<u8>> {
+  let Some(file) = file else {
+    let mut bytes = Vec::new();
+    io::stdin().read_to_end(&mut bytes)?;
+    return Ok(bytes);
+  };
+  fs::read(file)
+}
+
+fn write(bytes: &[u8]) -> io::Result<()> {
+  let mut out = io::stdout();
+  out.write_all(bytes)?;
+  out.flush()
+}
