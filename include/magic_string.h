@@ -9,8 +9,8 @@
  * element's type. A slice that is written lies apart from the others, and
  * nothing else writes any of them during the call.
  *
- * A call uses no heap. Its stack, measured: an edit up to 128 kB, the check and
- * a report up to 20 kB.
+ * A call uses no heap. Its stack, measured: an edit or a sheet up to 128 kB,
+ * the check and a report up to 20 kB.
  *
  * The tables do not hold the source, and nothing in them tells which it was. A
  * caller lends the same source to every call on a desk: another one of the same
