@@ -1,7 +1,6 @@
 -- The worked sheets and records, by computation.
-use Prim.Native.Nat.{ℕ}
 use mathlib.Core.Path.{_≡_, refl}
-use mathlib.Core.List.{List, [], _∷_, _++_, map, flatten}
+use mathlib.Core.List.{[], _∷_, _++_, map, flatten}
 use mathlib.Core.Option.{none, some, bind}
 use Rattle.utf8.specs.Rfc3629.{scalar, sequence, decodeAt, wholeFrom, utf8, between}
 use Rattle.utf8.specs.Chars.{toFirst, chars, code}

@@ -1,8 +1,6 @@
 -- Laws of lists and tests.
 use Prim.Native.Nat.{ℕ, zero, suc}
-use mathlib.Core.Path.{_≡_, refl, sym}
-use mathlib.Core.Bool.{Bool, true, false, _&&_, true≢false}
-use mathlib.Core.List.{List, _++_}
+use mathlib.Core.List.{List}
 use lib.ListN.{getD, take, drop}
 use Rattle.utf8.specs.Chars.{All, nil, cons}
 

@@ -1,11 +1,11 @@
 -- Lists of records: reading takes one record after the other, writing and reading are inverse, and lists of bytes one behind the other give
 -- lists of records one behind the other.
-use Prim.Native.Nat.{ℕ, zero, suc, _+_, _*_, _-_, _≤_, _<_}
+use Prim.Native.Nat.{ℕ, zero, suc, _+_, _-_, _≤_, _<_}
 use mathlib.Core.Path.{_≡_, refl, sym, ap, ap₂, _∙_}
 use mathlib.Core.List.{List, [], _∷_, _++_, append-assoc}
 use mathlib.Core.Option.{Option, none, some, Option·map, bind}
-use lib.ListN.{length, take, drop, length-drop, take-append-drop}
-use lib.Seq.{drop-append-le, drop-at, drop-length}
+use lib.ListN.{length, drop, length-drop, take-append-drop}
+use lib.Seq.{drop-append-le, drop-at}
 use native.Mathlib.Omega.{arith}
 use Rattle.utf8.specs.Chars.{All, nil, cons}
 use Rattle.model_sheet.specs.BigEndian.{Bytes}

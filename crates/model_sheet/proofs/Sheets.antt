@@ -1,8 +1,8 @@
 -- Laws of sheets: writing one and reading it are inverse both ways.
 use Prim.Native.Nat.{ℕ, _+_, _^_, _≤_, _<_}
 use mathlib.Core.Path.{_≡_, refl, sym, ap, ap₂, _∙_}
-use mathlib.Core.Bool.{Bool, true, false, _&&_, cond}
-use mathlib.Core.List.{List, [], _∷_, _++_, append-assoc}
+use mathlib.Core.Bool.{Bool, true, false, cond}
+use mathlib.Core.List.{List, [], _∷_, _++_}
 use mathlib.Core.Option.{Option, none, some, bind, Option·map}
 use lib.ListN.{length, getD, take, drop, length-append, length-drop, take-append-drop}
 use lib.Seq.{take-at, drop-at, drop-drop, length-take-le}
@@ -10,12 +10,12 @@ use lib.Dec.{leb, eqb}
 use borrow.Author.Tests.{leb-true, eqb-true, le-leb}
 use native.Mathlib.Omega.{arith}
 use Rattle.utf8.specs.Chars.{All, nil, cons}
-use Rattle.model.proofs.Lists.{both, and-left, and-right, bool-elim, no-tf}
+use Rattle.model.proofs.Lists.{both, and-left, and-right}
 use Rattle.model_sheet.specs.BigEndian.{Bytes, number, bytes}
 use Rattle.model_sheet.specs.Record.{Recorded, encode-all, records, Valid}
 use Rattle.model_sheet.specs.Sheet.{MOST-RECORDS, MOST-BYTES, VERSION, FRONT, Sheet, encode-sheet, source-size, source-of, records-of, front-fits, few, sheet}
 use Rattle.model_sheet.proofs.BigEndian.{length-bytes, number-bytes, bytes-number}
-use Rattle.model_sheet.proofs.Lists.{all-take, all-drop}
+use Rattle.model_sheet.proofs.Lists.{all-drop}
 use Rattle.model_sheet.proofs.Records.{records-encode, encode-records}
 
 -- the front of a sheet that is read: its facts

@@ -136,6 +136,14 @@ MOST-TEXT = full .most-bytes + full .most-source
 abbrev pub MOST-PRINTED : ℕ
 MOST-PRINTED = MOST-LINE * MOST-RECORDS + MOST-TEXT
 
+-- the run of the program, with as many answer bytes as a sheet may have records
+abbrev pub run-of : List ℕ → Outcome
+run-of s = run-sheet full MOST-RECORDS (new []) s
+
+abbrev pub list-of : Option Sheet → List Recorded
+list-of none = []
+list-of (some w) = w .list
+
 -- what the sheet program prints for its input; 16 "is printed as an opening refusal"
 unfoldable pub printed : List ℕ → Text
-printed s = elim (sheet s) [ none ↦ line 0 16 | some w ↦ printed-run (w .list) (run-read full MOST-RECORDS (new []) w) ]
+printed s = printed-run (list-of (sheet s)) (run-of s)

@@ -2,7 +2,6 @@
 use Prim.Native.Nat.{ℕ}
 use mathlib.Core.Bool.{true}
 use mathlib.Core.List.{List, [], _∷_, _++_, map}
-use mathlib.Core.Option.{Option, none, some}
 use Rattle.model.specs.Text.{Text}
 use Rattle.model.specs.MagicString.{new}
 use Rattle.model.specs.Limits.{full}

@@ -15,7 +15,7 @@ use Rattle.model.specs.Call.{to-string as ToString}
 use Rattle.model.specs.WellFormed as model
 use Rattle.model_sheet.specs.BigEndian.{number}
 use Rattle.model_sheet.specs.Record.{Recorded, records}
-use Rattle.model_sheet.specs.Sheet.{MOST-RECORDS, MOST-LINE, MOST-TEXT, MOST-PRINTED, FRONT, source-size, source-of, run-sheet, line, lines, printed}
+use Rattle.model_sheet.specs.Sheet.{MOST-RECORDS, MOST-LINE, MOST-TEXT, MOST-PRINTED, FRONT, source-size, run-sheet, line, lines, run-of, printed}
 use Rattle.model_sheet.proofs.Sheets.{ReadSheet, read-of}
 use Rattle.model_sheet.proofs.Runs.{sheet-small}
 use Rattle.model_sheet.proofs.Printed.{Accepted, accepted, printed-refused}
@@ -26,9 +26,10 @@ use Rattle.memory.specs.Calls.{Told}
 use Rattle.memory.specs.declared.Answer.{Answer}
 use Rattle.memory.proofs.Desks.{limits-full}
 use Rattle.sheet_records.specs.Found.{Counted}
+use Rattle.sheet_records.proofs.Parts.{source-part, records-part, size-is, source-is, records-are}
 use Rattle.sheet_lines.specs.Lines.{PutText, LinesAre}
 use Rattle.sheet_run.specs.SheetRan.{outcome, SheetDone}
-use Rattle.sheet_print.specs.PutPrinted.{run-of, Left, PutPrinted}
+use Rattle.sheet_print.specs.PutPrinted.{Left, PutPrinted}
 
 -- ── a buffer with lines at its front, and a text behind them ──
 -- the part behind the first n bytes, as it is lent on
@@ -123,42 +124,35 @@ module _ {sheet t p s a : List ℕ} {n : ℕ} (h : Left sheet n t p s a) where
 
   module _ (k : ℕ) (e : k ≡ number (take 2 (drop 1 sheet))) where
     pub sized : k ≡ source-size sheet
-    unfolding source-size
-    sized = e
+    sized = size-is sheet k e
 
-    are : records (take (length sheet - (FRONT + k)) (drop (FRONT + k) sheet)) ≡ some (got .read .list)
-    are =
-        ap records (take-all (length sheet - (FRONT + k)) (drop (FRONT + k) sheet) (omega (arith, length-drop (FRONT + k) sheet)))
-        ∙ ap (λ j. records (drop (FRONT + j) sheet)) sized
-        ∙ front .list
+    are : records (records-part sheet k) ≡ some (got .read .list)
+    are = records-are sheet k sized ∙ front .list
 
-    pub counted : Counted (take (length sheet - (FRONT + k)) (drop (FRONT + k) sheet)) (length a) n
+    pub counted : Counted (records-part sheet k) (length a) n
     counted = record { list = got .read .list; are = are; count = calls; few = omega (arith, few, h .room) }
 
-    source-is : take (FRONT + k - FRONT) (drop FRONT sheet) ≡ source-of sheet
-    source-is = let q : FRONT + k - FRONT ≡ source-size sheet = omega (arith, sized) in ap (λ j. take j (drop FRONT sheet)) q
-
-    pub desk-formed : WellFormed (take (FRONT + k - FRONT) (drop FRONT sheet)) t p s
-    desk-formed = subst (λ x. WellFormed x t p s) (sym source-is) (h .well-formed)
+    pub desk-formed : WellFormed (source-part sheet k) t p s
+    desk-formed = subst (λ x. WellFormed x t p s) (sym (source-is sheet k sized)) (h .well-formed)
 
     -- the text has room behind the lines
-    text-most : length (to-string (magicStringOf (take (FRONT + k - FRONT) (drop FRONT sheet)) t p s)) ≤ MOST-TEXT
+    text-most : length (to-string (magicStringOf (source-part sheet k) t p s)) ≤ MOST-TEXT
     text-most =
-        output-most (magicStringOf (take (FRONT + k - FRONT) (drop FRONT sheet)) t p s)
-        (subst (λ q. model.WellFormed q (magicStringOf (take (FRONT + k - FRONT) (drop FRONT sheet)) t p s)) (limits-full (h .full-size)) (desk-formed .desk))
+        output-most (magicStringOf (source-part sheet k) t p s)
+        (subst (λ q. model.WellFormed q (magicStringOf (source-part sheet k) t p s)) (limits-full (h .full-size)) (desk-formed .desk))
 
     pub put-run : {d d₁ mid′ : List ℕ} {r v number : ℕ} → MOST-PRINTED ≤ length d → length d₁ ≡ length d → r ≤ MOST-LINE * n
-        → ((list : List Recorded) → records (take (length sheet - (FRONT + k)) (drop (FRONT + k) sheet)) ≡ some list → LinesAre list (take n a) d d₁ r)
-        → Told (ToString (length (take (length d₁ - r) (drop r d₁)))) (magicStringOf (take (FRONT + k - FRONT) (drop FRONT sheet)) t p s) (take (length d₁ - r) (drop r d₁)) mid′ number v
+        → ((list : List Recorded) → records (records-part sheet k) ≡ some list → LinesAre list (take n a) d d₁ r)
+        → Told (ToString (length (take (length d₁ - r) (drop r d₁)))) (magicStringOf (source-part sheet k) t p s) (take (length d₁ - r) (drop r d₁)) mid′ number v
         → PutPrinted sheet d (take r d₁ ++ (mid′ ++ drop (length d₁ - r) (drop r d₁))) (r + v)
     put-run {d} {d₁} {mid′} {r} {v} {number} room long low x y =
-        let m = magicStringOf (take (FRONT + k - FRONT) (drop FRONT sheet)) t p s in
+        let m = magicStringOf (source-part sheet k) t p s in
         let l = lines (got .read .list) (take n a) in
         let z = x (got .read .list) are in
         let lent : length (take (length d₁ - r) (drop r d₁)) ≡ length d₁ - r = length-take-le (length d₁ - r) (drop r d₁) (omega (arith, length-drop r d₁)) in
         let w = text-told m (take (length d₁ - r) (drop r d₁)) mid′ number v y (omega (arith, text-most, few, lent)) in
         let b = behind-lines d d₁ mid′ l (to-string m) r v (z .out-is) (z .size-is) (w .0) (w .1) in
-        let same : m ≡ run-of sheet .desk = ap (λ q. magicStringOf q t p s) source-is ∙ h .desk in
+        let same : m ≡ run-of sheet .desk = ap (λ q. magicStringOf q t p s) (source-is sheet k sized) ∙ h .desk in
         let all : printed sheet ≡ l ++ to-string m =
         got .prints ∙ ap₂ (λ f g. lines (got .read .list) f ++ to-string g) (sym written) (sym same) in
         put-printed (b .0 ∙ sym (ap (λ q. q ++ drop (length q) d) all)) (b .1 ∙ sym (ap length all))

@@ -1,18 +1,11 @@
 -- What printing a sheet asks and leaves.
 use Prim.Native.Nat.{ℕ, _≤_}
 use mathlib.Core.Path.{_≡_}
-use mathlib.Core.List.{List, [], _++_}
+use mathlib.Core.List.{List, _++_}
 use lib.ListN.{length, drop}
-use Rattle.model.specs.MagicString.{new}
-use Rattle.model.specs.Limits.{full}
-use Rattle.model.specs.Call.{Outcome}
-use Rattle.model_sheet.specs.Sheet.{MOST-RECORDS, source-of, run-sheet, printed}
+use Rattle.model_sheet.specs.Sheet.{MOST-RECORDS, source-of, run-of, printed}
 use Rattle.memory.specs.Layout.{magicStringOf}
 use Rattle.memory.specs.WellFormed.{Full, WellFormed}
-
--- the run that is printed
-abbrev pub run-of : List ℕ → Outcome
-run-of sheet = run-sheet full MOST-RECORDS (new []) sheet
 
 -- what a run that was accepted has left: n calls, their answers at the front of a, and the desk
 pub record Left (sheet : List ℕ) (n : ℕ) (t p s a : List ℕ) : Type 0 where

@@ -1,4 +1,5 @@
 mod Fields
 pub mod Finding
 pub mod Walk
+pub mod Parts
 mod Judging

@@ -1,21 +1,18 @@
 -- A sheet's answer, number by number.
-use Prim.Native.Nat.{ℕ, zero, suc, _+_, _-_, _≤_, _<_}
+use Prim.Native.Nat.{ℕ, zero, suc, _≤_, _<_}
 use mathlib.Core.Path.{_≡_, refl, sym, ap, ap₂, subst, _∙_}
 use mathlib.Core.List.{List, [], _++_}
-use mathlib.Core.Option.{none, some}
-use lib.ListN.{length, take, drop, length-drop}
-use lib.Seq.{take-all}
+use mathlib.Core.Option.{none}
+use lib.ListN.{length, drop}
 use borrow.Author.Tests.{le-leb}
 use native.Mathlib.Omega.{arith}
-use Rattle.utf8.specs.Rfc3629.{utf8}
-use Rattle.model.specs.MagicString.{MagicString, new}
+use Rattle.model.specs.MagicString.{new}
 use Rattle.model.specs.Limits.{Limits, full}
 use Rattle.model.specs.Call.{after, answers, opened, Outcome}
-use Rattle.model_sheet.specs.Record.{records}
-use Rattle.model_sheet.specs.Sheet.{FRONT, Sheet, source-size, source-of, sheet, calls-of, refused-by, all-made}
+use Rattle.model_sheet.specs.Sheet.{Sheet, source-of, sheet, calls-of, refused-by, all-made}
 use Rattle.model_sheet.proofs.Runs.{run-none, run-some, run-refused, run-short, run-made, answers-length}
 use Rattle.memory.specs.Layout.{magicStringOf}
-use Rattle.memory.specs.WellFormed.{limitsOf, Lengths, WellFormed}
+use Rattle.memory.specs.WellFormed.{limitsOf, WellFormed}
 use Rattle.memory.specs.declared.Answer.{Answer}
 use Rattle.memory.proofs.Desks.{limits-as, all-same}
 use Rattle.memory_used.specs.declared.Used.{Used}
@@ -23,6 +20,7 @@ use Rattle.open.specs.OpenedWith.{Opens, NewDesk}
 use Rattle.open.proofs.Opening.{number-with}
 use Rattle.sheet_records.specs.Found.{Counted}
 use Rattle.sheet_records.specs.SheetFound.{SheetIs}
+use Rattle.sheet_records.proofs.Parts.{source-part, records-part, source-is, records-are}
 use Rattle.sheet_run.specs.RanAll.{RanAll, RanRecords}
 use Rattle.sheet_run.specs.SheetRan.{outcome, SheetDone}
 
@@ -33,25 +31,8 @@ opened-desk k source e o =
     let h : length source ≤ k .most-source = subst (λ n. length source ≤ n) (sym e) (o .fits refl) in
     rw (le-leb (length source) (k .most-source) h, o .text refl) refl
 
--- the source and the records, as the parts of the sheet that are lent on
-abbrev source-part : List ℕ → ℕ → List ℕ
-source-part s n = take (FRONT + n - FRONT) (drop FRONT s)
-
-abbrev records-part : List ℕ → ℕ → List ℕ
-records-part s n = take (length s - (FRONT + n)) (drop (FRONT + n) s)
-
-module _ {s : List ℕ} {n c : ℕ} (g : SheetIs s n c) where
-  source-is : source-part s n ≡ source-of s
-  source-is = let q : FRONT + n - FRONT ≡ source-size s = omega (arith, g .size) in ap (λ k. take k (drop FRONT s)) q
-
-  records-are : records (records-part s n) ≡ some (g .list)
-  records-are =
-      ap records (take-all (length s - (FRONT + n)) (drop (FRONT + n) s) (omega (arith, length-drop (FRONT + n) s)))
-      ∙ ap (λ k. records (drop (FRONT + k) s)) (g .size)
-      ∙ g .are
-
-  pub records-counted : (room : ℕ) → c ≤ room → Counted (records-part s n) room c
-  records-counted room h = record { list = g .list; are = records-are; count = g .count; few = h }
+pub records-counted : {s : List ℕ} {n c : ℕ} → SheetIs s n c → (room : ℕ) → c ≤ room → Counted (records-part s n) room c
+records-counted {s} {n} g room h = record { list = g .list; are = records-are s n (g .size) ∙ g .are; count = g .count; few = h }
 
 module _ (s t p st a : List ℕ) where
   -- a refusal leaves every byte
@@ -75,7 +56,7 @@ module _ (s t p st a : List ℕ) where
 
     -- the number of the opening
     number : {m : ℕ} → Opens (source-part s n) m → m ≡ opened (limitsOf t p st) (source-of s) (new []) .number
-    number o = number-with (source-part s n) t p st o ∙ ap (λ x. opened (limitsOf t p st) x (new []) .number) (source-is g)
+    number o = number-with (source-part s n) t p st o ∙ ap (λ x. opened (limitsOf t p st) x (new []) .number) (source-is s n (g .size))
 
     pub done-open : {m : ℕ} → Opens (source-part s n) m → (m ≡ 0 → ⊥) → {r : Answer} → (r .number ≡ m) × (r .value ≡ 0) → SheetDone s t p st a t p st a r
     done-open {m} o h {r} e = go m refl
@@ -96,10 +77,10 @@ module _ (s t p st a : List ℕ) where
     done-0 {t₁} {t′} {p′} {s′} {a′} o d same h all =
         let k = limitsOf t p st in
         let l = g .list in
-        let x : RanAll l (source-part s n) t₁ p st a t′ p′ s′ a′ = all l (records-are g) in
+        let x : RanAll l (source-part s n) t₁ p st a t′ p′ s′ a′ = all l (records-are s n (g .size) ∙ g .are) in
         let limits : limitsOf t₁ p st ≡ k = limits-as {t = t} {p = p} {s = st} {t′ = t₁} {p′ = p} {s′ = st} (record { chunks = same; pieces = refl; store = refl }) in
-        let desk : magicStringOf (source-part s n) t₁ p st ≡ new (source-of s) = d .desk-is ∙ ap new (source-is g) in
-        let fresh : opened k (source-of s) (new []) .desk ≡ new (source-of s) = opened-desk k (source-of s) refl (subst (λ y. Opens y 0) (source-is g) o) in
+        let desk : magicStringOf (source-part s n) t₁ p st ≡ new (source-of s) = d .desk-is ∙ ap new (source-is s n (g .size)) in
+        let fresh : opened k (source-of s) (new []) .desk ≡ new (source-of s) = opened-desk k (source-of s) refl (subst (λ y. Opens y 0) (source-is s n (g .size)) o) in
         let made : outcome s t p st a ≡ all-made k l (new (source-of s)) =
         run-some k (length a) (new []) s (g .is) ∙ run-made k (length a) (new []) read (sym (number o)) (omega (arith, g .count)) ∙ ap (all-made k l) fresh in
         let count : length l ≡ c = g .count in
@@ -112,7 +93,7 @@ module _ (s t p st a : List ℕ) where
               ∙ ap (λ i. answers k (calls-of l) (new (source-of s)) ++ drop i a) (sym (answers-length k l (new (source-of s))))
               ∙ sym (ap (λ (y : Outcome). y .shown .written ++ drop (length (y .shown .written)) a) made);
           desk-is = λ _.
-              ap (λ y. magicStringOf y t′ p′ s′) (sym (source-is g)) ∙ x .desk-is ∙ ap₂ (λ q m. after q (calls-of l) m) limits desk ∙ sym (ap (λ (y : Outcome). y .desk) made);
-          well-formed = λ _. subst (λ y. WellFormed y t′ p′ s′) (source-is g) (x .well-formed);
+              ap (λ y. magicStringOf y t′ p′ s′) (sym (source-is s n (g .size))) ∙ x .desk-is ∙ ap₂ (λ q m. after q (calls-of l) m) limits desk ∙ sym (ap (λ (y : Outcome). y .desk) made);
+          well-formed = λ _. subst (λ y. WellFormed y t′ p′ s′) (source-is s n (g .size)) (x .well-formed);
           refused = λ z. absurd (z refl);
         }

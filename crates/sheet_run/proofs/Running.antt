@@ -1,5 +1,5 @@
 -- A list of records, run: one record's call, and the loop over all of them.
-use Prim.Native.Nat.{ℕ, zero, suc, _+_, _≤_, _<_}
+use Prim.Native.Nat.{ℕ, suc, _+_, _≤_, _<_}
 use mathlib.Core.Path.{_≡_, refl, sym, ap, ap₂, subst, _∙_}
 use mathlib.Core.List.{List, [], _∷_, _++_, append-assoc, append-nil}
 use mathlib.Core.Option.{Option, none, some, Option·map}
@@ -8,12 +8,12 @@ use lib.Seq.{drop-drop, drop-set-lt, take-suc-set}
 use native.Mathlib.Omega.{arith}
 use Rattle.model.specs.MagicString.{MagicString}
 use Rattle.model.specs.Limits.{Limits}
-use Rattle.model.specs.Call.{Edit, run, after, answers}
+use Rattle.model.specs.Call.{run, after, answers}
 use Rattle.model_sheet.specs.Record.{Recorded, next-record, records}
 use Rattle.model_sheet.specs.Sheet.{call-of, calls-of}
 use Rattle.model_sheet.proofs.Runs.{answer-small}
 use Rattle.memory.specs.Layout.{magicStringOf}
-use Rattle.memory.specs.WellFormed.{limitsOf, Lengths, WellFormed}
+use Rattle.memory.specs.WellFormed.{limitsOf, Lengths}
 use Rattle.memory.proofs.Desks.{limits-as}
 use Rattle.memory_used.specs.declared.Used.{Used}
 use Rattle.memory_used.specs.Above.{Desk}

@@ -1,5 +1,4 @@
-use mathlib.Core.Path.{_≡_, subst}
-use native.Mathlib.Omega.{arith}
+use mathlib.Core.Path.{subst}
 use Rattle.open.specs.OpenedWith.{Opens}
 use Rattle.open.proofs.Opening.{opened-refused, opened-0}
 use borrow.Author.Needs.{needs}

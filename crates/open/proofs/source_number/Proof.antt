@@ -1,5 +1,4 @@
 use mathlib.Core.Path.{sym, _∙_}
-use native.Mathlib.Omega.{arith}
 use Rattle.open.proofs.Opening.{opens-13, opens-1, opens-0}
 use borrow.Author.Needs.{needs}
 use Rattle.open.proofs.source_number.Statement.{statement}

@@ -1,5 +1,4 @@
 use mathlib.Core.Path.{subst}
-use native.Mathlib.Omega.{arith}
 use Rattle.model_sheet.specs.Sheet.{MOST-RECORDS}
 use Rattle.sheet_records.specs.Found.{Counts}
 use Rattle.sheet_records.proofs.Judging.{too-long, too-short, other-version, cut-off, broken, is-sheet}
