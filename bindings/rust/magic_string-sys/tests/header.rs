@@ -8,6 +8,7 @@ use magic_string_sys::{NAMES, layout::*, numbers::NUMBERS};
 const HEADER: &str = include_str!("../../../../include/magic_string.h");
 const WRAPPER: &str = include_str!("../../magic_string/src/refusal.rs");
 const LIBRARY: &str = include_str!("../../../../crates/memory_layout/src/numbers.rt");
+const LIBRARY_SHEET: &str = include_str!("../../../../crates/sheet_records/src/sheet.rt");
 
 #[test]
 fn the_functions() {
@@ -129,6 +130,20 @@ fn numbers_of_the_library() {
     named.unwrap_or_else(|| panic!("not a name and its number: {constant}"))
   });
   assert_eq!(listed.collect::<Vec<_>>(), NUMBERS);
+}
+
+#[test]
+fn limits_of_a_sheet_in_the_library() {
+  let values = [
+    ("VERSION: u8", SHEET_VERSION.into()),
+    ("FRONT: usize", SHEET_FRONT),
+    ("MOST_RECORDS: usize", SHEET_RECORDS),
+    ("MOST_BYTES: usize", SHEET_BYTES),
+  ];
+  for (name, value) in values {
+    let constant = format!("pub const {name} = {value};");
+    assert!(LIBRARY_SHEET.lines().any(|line| line == constant), "no line {constant}");
+  }
 }
 
 /// A name as Rust writes that of a variant: `NOT_UTF8` is `NotUtf8`.
