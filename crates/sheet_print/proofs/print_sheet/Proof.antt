@@ -11,7 +11,8 @@ run-sheet-requires c κs =
 
 put-line-requires : tie.Need-put-line-requires
 put-line-requires c κs =
-    let pre = c .before .before .before .before .before .before .before .before .before .before .before .before .before .before .before .before .before .before .before .before .before .before .pre in
+    let pre = c .before .before .before .before .before .before .before .before .before .before .before .before .before .before .before .before .before .before .before .before
+    .before .before .pre in
     let low = run-low (c .before .before .before .before .before .before .before .before .before .before .before .run-sheet .ensures) (pre .0) (pre .1 .0) in
     (omega arith, omega arith, omega (arith, pre .1 .1))
 
@@ -32,18 +33,24 @@ same-length-5 c = search needs
 
 returns : tie.Need-returns
 returns c =
-    let pre = c .before .before .before .before .before .before .before .before .before .before .before .before .before .before .before .before .before .before .before .before .before .before .before .before .before .pre in
-    put-refused _ _ _ _ _ (run-number (c .before .before .before .before .before .before .before .before .before .before .before .before .before .before .run-sheet .ensures) (pre .0) (pre .1 .0)) (c .before .before .before .before .if1 .taken) (c .before .before .put-line .ensures)
+    let pre = c .before .before .before .before .before .before .before .before .before .before .before .before .before .before .before .before .before .before .before .before
+    .before .before .before .before .before .pre in
+    put-refused _ _ _ _ _ (run-number (c .before .before .before .before .before .before .before .before .before .before .before .before .before .before .run-sheet .ensures)
+    (pre .0) (pre .1 .0)) (c .before .before .before .before .if1 .taken) (c .before .before .put-line .ensures)
 
 cast-print-run : tie.Need-cast-print-run
 cast-print-run c = search needs
 
 print-run-requires : tie.Need-print-run-requires
 print-run-requires c κs =
-    let pre = c .before .before .before .before .before .before .before .before .before .before .before .before .before .before .before .before .before .before .before .before .before .before .before .before .before .before .before .pre in
+    let pre = c .before .before .before .before .before .before .before .before .before .before .before .before .before .before .before .before .before .before .before .before
+    .before .before .before .before .before .before .before .pre in
     let run = c .before .before .before .before .before .before .before .before .before .before .before .before .before .before .before .before .run-sheet in
-    let lengths = run .kept .1 in
-    (run-left (run .ensures) (pre .0) (pre .1 .0) (c .before .before .before .before .before .before .if1 .left) (record { chunks = lengths .0; pieces = lengths .1 .0; store = lengths .1 .1 .0 }) (lengths .1 .1 .1 .0), pre .1 .1)
+    let lengths = run .kept .1 in (
+      run-left (run .ensures) (pre .0) (pre .1 .0) (c .before .before .before .before .before .before .if1 .left)
+          (record { chunks = lengths .0; pieces = lengths .1 .0; store = lengths .1 .1 .0 }) (lengths .1 .1 .1 .0),
+      pre .1 .1,
+    )
 
 same-length-6 : tie.Need-same-length-6
 same-length-6 c = search needs

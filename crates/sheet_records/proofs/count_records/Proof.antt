@@ -18,8 +18,10 @@ abbrev μ-loop : tie.MeasureT-loop
 
 -- the record at hand
 here : (c : tie.After-next Inv-loop μ-loop) → let g = c .next .given .0 in
-    Taken (c .before .before .before .before .before .before .args .s .now) (c .before .before .before .before .loop .at) (g .0) (g .1 .0) (g .1 .1 .0) (g .1 .1 .1 .0) (g .1 .1 .1 .1 .0) (g .1 .1 .1 .1 .1 .0)
-here c = subst (Found (c .before .before .before .before .before .before .args .s .now) (c .before .before .before .before .loop .at)) (c .next .given .1) (c .before .before .read-at .ensures)
+    Taken (c .before .before .before .before .before .before .args .s .now) (c .before .before .before .before .loop .at) (g .0) (g .1 .0) (g .1 .1 .0) (g .1 .1 .1 .0)
+    (g .1 .1 .1 .1 .0) (g .1 .1 .1 .1 .1 .0)
+here c = subst (Found (c .before .before .before .before .before .before .args .s .now) (c .before .before .before .before .loop .at)) (c .next .given .1)
+    (c .before .before .read-at .ensures)
 
 loop-holds : tie.Need-loop-holds Inv-loop μ-loop
 loop-holds c = (walk-start (c .before .args .s .now), omega arith)
@@ -31,7 +33,8 @@ enum-known-next : tie.Need-enum-known-next Inv-loop μ-loop
 enum-known-next c = search needs
 
 returns : tie.Need-returns Inv-loop μ-loop
-returns c = walk-full (walk-turn (c .before .before .before .before .before .before .loop .inv .0) (here (c .before .before))) (c .before .before .before .before .before .before .before .before .args .most) (omega (arith, c .if1 .taken))
+returns c = walk-full (walk-turn (c .before .before .before .before .before .before .loop .inv .0) (here (c .before .before)))
+    (c .before .before .before .before .before .before .before .before .args .most) (omega (arith, c .if1 .taken))
 
 add-count : tie.Need-add-count Inv-loop μ-loop
 add-count c = search needs
@@ -46,13 +49,15 @@ enum-told : tie.Need-enum-told Inv-loop μ-loop
 enum-told c = search needs
 
 returns-2 : tie.Need-returns-2 Inv-loop μ-loop
-returns-2 c = let f = subst (Found (c .before .before .before .before .before .before .args .s .now) (c .before .before .before .before .loop .at)) (c .enum-told .given .1) (c .before .before .read-at .ensures) in λ l q. walk-bad (c .before .before .before .before .loop .inv .0) (f .0) (f .1) l q
+returns-2 c = let f = subst (Found (c .before .before .before .before .before .before .args .s .now) (c .before .before .before .before .loop .at)) (c .enum-told .given .1)
+    (c .before .before .read-at .ensures) in λ l q. walk-bad (c .before .before .before .before .loop .inv .0) (f .0) (f .1) l q
 
 enum-told-2 : tie.Need-enum-told-2 Inv-loop μ-loop
 enum-told-2 c = search needs
 
 returns-3 : tie.Need-returns-3 Inv-loop μ-loop
-returns-3 c = let f = subst (Found (c .before .before .before .before .before .before .args .s .now) (c .before .before .before .before .loop .at)) (c .enum-told2 .given .1) (c .before .before .read-at .ensures) in absurd (omega arith)
+returns-3 c = let f = subst (Found (c .before .before .before .before .before .before .args .s .now) (c .before .before .before .before .loop .at)) (c .enum-told2 .given .1)
+    (c .before .before .read-at .ensures) in absurd (omega arith)
 
 returns-4 : tie.Need-returns-4 Inv-loop μ-loop
 returns-4 c = walk-end (c .before .loop .inv .0) (c .before .before .before .args .most) (c .before .loop .inv .1) (omega arith)

@@ -46,7 +46,8 @@ fields-at-requires : tie.Need-fields-at-requires
 fields-at-requires c κs =
     let a = c .before .before .before .before .before .before .before .before .before .args in
     record {
-      size = extent-at (now (a .s)) (a .at) (c .before .before .before .before .size .result) (c .before .before .before .before .size .ensures ∙ c .before .before .before .before .before .u16-at .ensures .0);
+      size = extent-at (now (a .s)) (a .at) (c .before .before .before .before .size .result)
+          (c .before .before .before .before .size .ensures ∙ c .before .before .before .before .before .u16-at .ensures .0);
       third = kind-at (now (a .s)) (a .at);
       good = sym (c .before .size-fits .ensures) ∙ c .if4 .taken;
       there = omega arith;
@@ -61,7 +62,8 @@ returns-5 c =
     let n = 2 + c .before .before .before .before .size .result in (
       omega arith,
       unfit (now (a .s)) (a .at) (getD (now (a .s)) (a .at + 2) 0) n (kind-at (now (a .s)) (a .at))
-          (extent-at (now (a .s)) (a .at) (c .before .before .before .before .size .result) (c .before .before .before .before .size .ensures ∙ c .before .before .before .before .before .u16-at .ensures .0))
+          (extent-at (now (a .s)) (a .at) (c .before .before .before .before .size .result)
+          (c .before .before .before .before .size .ensures ∙ c .before .before .before .before .before .u16-at .ensures .0))
           (sym (c .before .size-fits .ensures) ∙ c .if4 .left),
     )
 

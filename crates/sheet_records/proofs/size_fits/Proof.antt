@@ -28,10 +28,12 @@ add-result-2 : tie.Need-add-result-2
 add-result-2 c = search needs
 
 returns-2 : tie.Need-returns-2
-returns-2 c = let a = c .before .before .before .before .args in rw (c .before .before .before .positions-of .ensures .0) (sym (fits-text (a .kind) (a .n) (omega arith) (sym (c .before .carries-text .ensures) ∙ c .if2 .taken)))
+returns-2 c = let a = c .before .before .before .before .args in
+    rw (c .before .before .before .positions-of .ensures .0) (sym (fits-text (a .kind) (a .n) (omega arith) (sym (c .before .carries-text .ensures) ∙ c .if2 .taken)))
 
 returns-3 : tie.Need-returns-3
-returns-3 c = let a = c .before .before .before .before .args in rw (c .before .before .before .positions-of .ensures .0) (sym (fits-bare (a .kind) (a .n) (omega arith) (sym (c .before .carries-text .ensures) ∙ c .if2 .left)))
+returns-3 c = let a = c .before .before .before .before .args in
+    rw (c .before .before .before .positions-of .ensures .0) (sym (fits-bare (a .kind) (a .n) (omega arith) (sym (c .before .carries-text .ensures) ∙ c .if2 .left)))
 
 pub size-fits-spec : {M : Type 1} → statement M
 size-fits-spec =

@@ -9,7 +9,8 @@ use Rattle.sheet_run.proofs.run_sheet.Statement.{statement}
 use Rattle.sheet_run.proofs.run_sheet.Tie as tie
 
 -- the sheet as it was judged
-judged : (c : tie.After-source-n) → SheetIs (now (c .before .before .before .before .before .before .before .before .args .sheet)) (c .source-n .given .0 .0) (c .source-n .given .0 .1 .0)
+judged : (c : tie.After-source-n) → SheetIs (now (c .before .before .before .before .before .before .before .before .args .sheet)) (c .source-n .given .0 .0)
+    (c .source-n .given .0 .1 .0)
 judged c = subst (JudgesSheet (now (c .before .before .before .before .before .before .before .before .args .sheet))) (c .source-n .given .1) (c .before .before .judge-sheet .ensures)
 
 judge-sheet-requires : tie.Need-judge-sheet-requires
@@ -58,11 +59,15 @@ refused-requires-3 c κs = search needs
 
 returns-3 : tie.Need-returns-3
 returns-3 c =
-    done-14 _ _ _ _ _ (judged (c .before .before .before .before .before .before)) (subst (Opens _) (c .before .before .if1 .left) (c .before .before .before .source-number .ensures)) (c .before .if2 .taken) (c .refused3 .ensures)
+    done-14 _ _ _ _ _ (judged (c .before .before .before .before .before .before))
+    (subst (Opens _) (c .before .before .if1 .left) (c .before .before .before .source-number .ensures)) (c .before .if2 .taken) (c .refused3 .ensures)
 
 open-rows-requires : tie.Need-open-rows-requires
-open-rows-requires c κs =
-    (c .before .before .before .before .before .before .before .before .before .before .before .before .before .before .before .before .pre, subst (Opens _) (c .before .before .before .before .if1 .left) (c .before .before .before .before .before .source-number .ensures))
+open-rows-requires c κs = (
+  c .before .before .before .before .before .before .before .before .before .before .before .before .before .before .before .before .pre,
+  subst (Opens _)
+      (c .before .before .before .before .if1 .left) (c .before .before .before .before .before .source-number .ensures),
+)
 
 sub-run-records : tie.Need-sub-run-records
 sub-run-records c =
@@ -76,12 +81,17 @@ part-run-records-end : tie.Need-part-run-records-end
 part-run-records-end c = search needs
 
 run-records-requires : tie.Need-run-records-requires
-run-records-requires c κs =
-    (c .before .before .before .before .before .before .before .open-rows .ensures .desk, records-counted (judged (c .before .before .before .before .before .before .before .before .before .before .before .before .before .before .before .before)) _ (c .before .before .before .before .before .before .before .before .before .before .before .if2 .left))
+run-records-requires c κs = (
+  c .before .before .before .before .before .before .before .open-rows .ensures .desk,
+  records-counted
+      (judged (c .before .before .before .before .before .before .before .before .before .before .before .before .before .before .before .before)) _
+      (c .before .before .before .before .before .before .before .before .before .before .before .if2 .left),
+)
 
 cast-t35 : tie.Need-cast-t35
 cast-t35 c =
-    let few = judged (c .before .before .before .before .before .before .before .before .before .before .before .before .before .before .before .before .before .before .before .before .before .before .before .before .before) .few in omega arith
+    let few = judged (c .before .before .before .before .before .before .before .before .before .before .before .before .before .before .before .before .before .before .before
+    .before .before .before .before .before .before) .few in omega arith
 
 same-length : tie.Need-same-length
 same-length c = search needs
@@ -97,8 +107,15 @@ same-length-4 c = search needs
 
 returns-4 : tie.Need-returns-4
 returns-4 c =
-    done-0 _ _ _ _ _ (judged (c .before .before .before .before .before .before .before .before .before .before .before .before .before .before .before .before .before .before .before .before .before .before .before .before .before)) (subst (Opens _) (c .before .before .before .before .before .before .before .before .before .before .before .before .before .before .before .before .before .before .before .before .before .if1 .left) (c .before .before .before .before .before .before .before .before .before .before .before .before .before .before .before .before .before .before .before .before .before .before .source-number .ensures)) (c .before .before .before .before .before .before .before .before .before .before .before .before .before .before .before .before .open-rows .ensures)
-    (c .before .before .before .before .before .before .before .before .before .before .before .before .before .before .before .before .open-rows .kept .1 .0) (c .before .before .before .before .before .before .before .before .before .before .before .before .before .before .before .before .before .before .before .before .if2 .left) (c .before .before .before .before .before .before .before .before .run-records .ensures)
+    done-0 _ _ _ _ _ (judged (c .before .before .before .before .before .before .before .before .before .before .before .before .before .before .before .before .before .before
+    .before .before .before .before .before .before .before))
+    (subst (Opens _) (c .before .before .before .before .before .before .before .before .before .before .before .before .before .before .before .before .before .before .before
+    .before .before .if1 .left) (c .before .before .before .before .before .before .before .before .before .before .before .before .before .before .before .before .before .before
+    .before .before .before .before .source-number .ensures))
+    (c .before .before .before .before .before .before .before .before .before .before .before .before .before .before .before .before .open-rows .ensures)
+    (c .before .before .before .before .before .before .before .before .before .before .before .before .before .before .before .before .open-rows .kept .1 .0)
+    (c .before .before .before .before .before .before .before .before .before .before .before .before .before .before .before .before .before .before .before .before .if2 .left)
+    (c .before .before .before .before .before .before .before .before .run-records .ensures)
 
 pub run-sheet-spec : {M : Type 1} → statement M
 run-sheet-spec =

@@ -23,7 +23,9 @@ same-length-4 : tie.Need-same-length-4
 same-length-4 c = search needs
 
 returns : tie.Need-returns
-returns c = sheet-yes (c .before .before .before .before .before .before .before .before .before .before .before .before .before .before .full-size .ensures .yes (c .before .before .before .before .before .before .before .before .before .before .before .before .before .if1 .taken)) (c .before .before .before .before .before .before .before .before .run-sheet .ensures)
+returns c = sheet-yes (c .before .before .before .before .before .before .before .before .before .before .before .before .before .before .full-size .ensures .yes
+    (c .before .before .before .before .before .before .before .before .before .before .before .before .before .if1 .taken))
+    (c .before .before .before .before .before .before .before .before .run-sheet .ensures)
 
 same-length-5 : tie.Need-same-length-5
 same-length-5 c = search needs

@@ -51,7 +51,9 @@ enum-told c = search needs
 returns-5 : tie.Need-returns-5
 returns-5 c =
     let counted = subst (Counts _ MOST-RECORDS) (c .before .count .given .1) (c .before .before .before .count-records .ensures) in
-    is-sheet _ _ (c .before .before .before .before .before .before .u16-at .ensures .0) (c .before .before .before .before .before .before .before .before .before .before .if1 .left) (c .before .before .before .before .before .before .before .if3 .left) (c .before .before .before .before .before .if4 .left) counted
+    is-sheet _ _ (c .before .before .before .before .before .before .u16-at .ensures .0)
+    (c .before .before .before .before .before .before .before .before .before .before .if1 .left) (c .before .before .before .before .before .before .before .if3 .left)
+    (c .before .before .before .before .before .if4 .left) counted
 
 returns-6 : tie.Need-returns-6
 returns-6 c =

@@ -39,7 +39,8 @@ same-length-3 c = search needs
 returns : tie.Need-returns
 returns c =
     let a = c .before .before .before .before .before .before .before .before .before .before .before .before .before .before .before .before .args in
-    leaves-as (of-remove (a .a) (a .b) (a .c) (a .text .now) (a .kind) (c .before .before .before .before .before .before .before .before .before .before .match .keys1)) (c .before .before .before .before .before .before .remove .ensures)
+    leaves-as (of-remove (a .a) (a .b) (a .c) (a .text .now) (a .kind) (c .before .before .before .before .before .before .before .before .before .before .match .keys1))
+    (c .before .before .before .before .before .before .remove .ensures)
 
 same-length-4 : tie.Need-same-length-4
 same-length-4 c = search needs
@@ -53,7 +54,8 @@ same-length-6 c = search needs
 returns-2 : tie.Need-returns-2
 returns-2 c =
     let a = c .before .before .before .before .before .before .before .before .before .before .before .before .before .before .before .before .args in
-    leaves-as (of-update (a .a) (a .b) (a .c) (a .text .now) (a .kind) (c .before .before .before .before .before .before .before .before .before .before .match .keys2)) (c .before .before .before .before .before .before .update-with .ensures)
+    leaves-as (of-update (a .a) (a .b) (a .c) (a .text .now) (a .kind) (c .before .before .before .before .before .before .before .before .before .before .match .keys2))
+    (c .before .before .before .before .before .before .update-with .ensures)
 
 same-length-7 : tie.Need-same-length-7
 same-length-7 c = search needs
@@ -67,7 +69,8 @@ same-length-9 c = search needs
 returns-3 : tie.Need-returns-3
 returns-3 c =
     let a = c .before .before .before .before .before .before .before .before .before .before .before .before .before .before .before .before .args in
-    leaves-as (of-reset (a .a) (a .b) (a .c) (a .text .now) (a .kind) (c .before .before .before .before .before .before .before .before .before .before .match .keys3)) (c .before .before .before .before .before .before .reset .ensures)
+    leaves-as (of-reset (a .a) (a .b) (a .c) (a .text .now) (a .kind) (c .before .before .before .before .before .before .before .before .before .before .match .keys3))
+    (c .before .before .before .before .before .before .reset .ensures)
 
 same-length-10 : tie.Need-same-length-10
 same-length-10 c = search needs
@@ -81,7 +84,8 @@ same-length-12 c = search needs
 returns-4 : tie.Need-returns-4
 returns-4 c =
     let a = c .before .before .before .before .before .before .before .before .before .before .before .before .before .before .before .before .args in
-    leaves-as (of-append-left (a .a) (a .b) (a .c) (a .text .now) (a .kind) (c .before .before .before .before .before .before .before .before .before .before .match .keys4)) (c .before .before .before .before .before .before .append-left .ensures)
+    leaves-as (of-append-left (a .a) (a .b) (a .c) (a .text .now) (a .kind) (c .before .before .before .before .before .before .before .before .before .before .match .keys4))
+    (c .before .before .before .before .before .before .append-left .ensures)
 
 same-length-13 : tie.Need-same-length-13
 same-length-13 c = search needs
@@ -95,7 +99,8 @@ same-length-15 c = search needs
 returns-5 : tie.Need-returns-5
 returns-5 c =
     let a = c .before .before .before .before .before .before .before .before .before .before .before .before .before .before .before .before .args in
-    leaves-as (of-append-right (a .a) (a .b) (a .c) (a .text .now) (a .kind) (c .before .before .before .before .before .before .before .before .before .before .match .keys5)) (c .before .before .before .before .before .before .append-right .ensures)
+    leaves-as (of-append-right (a .a) (a .b) (a .c) (a .text .now) (a .kind) (c .before .before .before .before .before .before .before .before .before .before .match .keys5))
+    (c .before .before .before .before .before .before .append-right .ensures)
 
 same-length-16 : tie.Need-same-length-16
 same-length-16 c = search needs
@@ -109,7 +114,8 @@ same-length-18 c = search needs
 returns-6 : tie.Need-returns-6
 returns-6 c =
     let a = c .before .before .before .before .before .before .before .before .before .before .before .before .before .before .before .before .args in
-    leaves-as (of-prepend-left (a .a) (a .b) (a .c) (a .text .now) (a .kind) (c .before .before .before .before .before .before .before .before .before .before .match .keys6)) (c .before .before .before .before .before .before .prepend-left .ensures)
+    leaves-as (of-prepend-left (a .a) (a .b) (a .c) (a .text .now) (a .kind) (c .before .before .before .before .before .before .before .before .before .before .match .keys6))
+    (c .before .before .before .before .before .before .prepend-left .ensures)
 
 same-length-19 : tie.Need-same-length-19
 same-length-19 c = search needs
@@ -123,7 +129,8 @@ same-length-21 c = search needs
 returns-7 : tie.Need-returns-7
 returns-7 c =
     let a = c .before .before .before .before .before .before .before .before .before .before .before .before .before .before .before .before .args in
-    leaves-as (of-prepend-right (a .a) (a .b) (a .c) (a .text .now) (a .kind) (c .before .before .before .before .before .before .before .before .before .before .match .keys7)) (c .before .before .before .before .before .before .prepend-right .ensures)
+    leaves-as (of-prepend-right (a .a) (a .b) (a .c) (a .text .now) (a .kind) (c .before .before .before .before .before .before .before .before .before .before .match .keys7))
+    (c .before .before .before .before .before .before .prepend-right .ensures)
 
 same-length-22 : tie.Need-same-length-22
 same-length-22 c = search needs
@@ -137,7 +144,8 @@ same-length-24 c = search needs
 returns-8 : tie.Need-returns-8
 returns-8 c =
     let a = c .before .before .before .before .before .before .before .before .before .before .before .before .before .before .before .before .args in
-    leaves-as (of-relocate (a .a) (a .b) (a .c) (a .text .now) (a .kind) (c .before .before .before .before .before .before .before .before .before .before .match .rest)) (c .before .before .before .before .before .before .relocate .ensures)
+    leaves-as (of-relocate (a .a) (a .b) (a .c) (a .text .now) (a .kind) (c .before .before .before .before .before .before .before .before .before .before .match .rest))
+    (c .before .before .before .before .before .before .relocate .ensures)
 
 pub core-call-spec : {M : Type 1} → statement M
 core-call-spec =

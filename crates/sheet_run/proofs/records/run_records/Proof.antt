@@ -22,13 +22,18 @@ step-requires : tie.Need-step-requires Inv-loop μ-loop
 step-requires c κs = let w = c .before .before .before .before .loop .inv .0 in (w .desk, running-next w (c .before .before .before .loop-test .taken))
 
 cast-answers : tie.Need-cast-answers Inv-loop μ-loop
-cast-answers c = let low = running-byte (c .before .before .before .before .before .before .before .before .before .before .before .before .before .loop .inv .0) (c .before .before .before .before .before .before .before .before .step .ensures) in omega arith
+cast-answers c = let low = running-byte (c .before .before .before .before .before .before .before .before .before .before .before .before .before .loop .inv .0)
+    (c .before .before .before .before .before .before .before .before .step .ensures) in omega arith
 
 slice-write-answers : tie.Need-slice-write-answers Inv-loop μ-loop
 slice-write-answers c = search needs
 
 add-i : tie.Need-add-i Inv-loop μ-loop
-add-i c = omega (arith, c .before .before .before .before .before .before .before .before .before .before .before .before .before .loop-test .taken, c .before .before .before .before .before .before .before .before .before .before .before .before .before .before .before .before .before .before .before .before .before .fits)
+add-i c = omega (
+  arith,
+  c .before .before .before .before .before .before .before .before .before .before .before .before .before .loop-test .taken,
+  c .before .before .before .before .before .before .before .before .before .before .before .before .before .before .before .before .before .before .before .before .before .fits,
+)
 
 loop-less : tie.Need-loop-less Inv-loop μ-loop
 loop-less c = search needs
@@ -36,8 +41,11 @@ loop-less c = search needs
 loop-again : tie.Need-loop-again Inv-loop μ-loop
 loop-again c =
     let step = c .before .before .before .before .before .before .before .before .before .step in
-    let inv = c .before .before .before .before .before .before .before .before .before .before .before .before .before .before .loop .inv in
-    (running-turn (inv .0) (step .ensures) (c .before .before .before .before .before .before .before .before .before .before .before .before .before .loop-test .taken) (record { chunks = step .kept .1 .0; pieces = step .kept .1 .1 .0; store = step .kept .1 .1 .1 .0 }), inv .1)
+    let inv = c .before .before .before .before .before .before .before .before .before .before .before .before .before .before .loop .inv in (
+      running-turn (inv .0) (step .ensures) (c .before .before .before .before .before .before .before .before .before .before .before .before .before .loop-test .taken)
+          (record { chunks = step .kept .1 .0; pieces = step .kept .1 .1 .0; store = step .kept .1 .1 .1 .0 }),
+      inv .1,
+    )
 
 same-length : tie.Need-same-length Inv-loop μ-loop
 same-length c = search needs

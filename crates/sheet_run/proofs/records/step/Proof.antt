@@ -10,8 +10,10 @@ use Rattle.sheet_run.proofs.records.step.Tie as tie
 
 -- the record at hand
 here : (c : tie.After-kind) → let g = c .kind .given .0 in
-    Taken (now (c .before .before .before .before .before .before .before .before .args .records)) (c .before .before .before .before .before .before .before .before .args .at) (g .0) (g .1 .0) (g .1 .1 .0) (g .1 .1 .1 .0) (g .1 .1 .1 .1 .0) (g .1 .1 .1 .1 .1 .0)
-here c = subst (Found (now (c .before .before .before .before .before .before .before .before .args .records)) (c .before .before .before .before .before .before .before .before .args .at)) (c .kind .given .1) (c .before .before .read-at .ensures)
+    Taken (now (c .before .before .before .before .before .before .before .before .args .records)) (c .before .before .before .before .before .before .before .before .args .at)
+    (g .0) (g .1 .0) (g .1 .1 .0) (g .1 .1 .1 .0) (g .1 .1 .1 .1 .0) (g .1 .1 .1 .1 .1 .0)
+here c = subst (Found (now (c .before .before .before .before .before .before .before .before .args .records))
+    (c .before .before .before .before .before .before .before .before .args .at)) (c .kind .given .1) (c .before .before .read-at .ensures)
 
 read-at-requires : tie.Need-read-at-requires
 read-at-requires c κs = search needs
@@ -60,7 +62,8 @@ returns-2 c =
 returns-3 : tie.Need-returns-3
 returns-3 c =
     let a = c .before .before .before .before .before .before .before .before .args in
-    not-end (now (a .records)) (a .at) (c .before .before .before .before .before .before .before .before .pre .1) (subst (Found (now (a .records)) (a .at)) (c .enum-told2 .given .1) (c .before .before .read-at .ensures))
+    not-end (now (a .records)) (a .at) (c .before .before .before .before .before .before .before .before .pre .1)
+    (subst (Found (now (a .records)) (a .at)) (c .enum-told2 .given .1) (c .before .before .read-at .ensures))
 
 pub step-spec : {M : Type 1} → statement M
 step-spec =
