@@ -188,33 +188,16 @@ magic_string_answer magic_string_update_with(MAGIC_STRING_DESK, uint32_t start,
 magic_string_answer magic_string_reset(MAGIC_STRING_DESK, uint32_t start,
                                        uint32_t end);
 
-/* Adds a piece at the back of the outro of the chunk that ends at the position,
- * after a cut there; where no chunk does (at 0, past the source), at the back
- * of the head.
+/* Adds a piece at the position, after a cut there. With left it goes to the
+ * outro of the chunk that ends there, or to the head where none does: past the
+ * source, and at 0 if the source is not empty. Without left it goes to the
+ * intro of the chunk that starts there, or to the tail where none does: past
+ * the source, and at its end if it is not empty. With front it is the first
+ * piece of that list, without front the last.
  * Numbers: 2, 1, 3, 6; 13 in place of 0. */
-magic_string_answer magic_string_append_left(MAGIC_STRING_DESK, uint32_t at,
-                                             const uint8_t *text,
-                                             size_t text_len);
-
-/* Adds a piece at the back of the intro of the chunk that starts at the
- * position, after a cut there; where no chunk does (at the source's end and
- * past it), at the back of the tail.
- * Numbers: 2, 1, 3, 6; 13 in place of 0. */
-magic_string_answer magic_string_append_right(MAGIC_STRING_DESK, uint32_t at,
-                                              const uint8_t *text,
-                                              size_t text_len);
-
-/* As append_left, at the front of the same list.
- * Numbers: 2, 1, 3, 6; 13 in place of 0. */
-magic_string_answer magic_string_prepend_left(MAGIC_STRING_DESK, uint32_t at,
-                                              const uint8_t *text,
-                                              size_t text_len);
-
-/* As append_right, at the front of the same list.
- * Numbers: 2, 1, 3, 6; 13 in place of 0. */
-magic_string_answer magic_string_prepend_right(MAGIC_STRING_DESK, uint32_t at,
-                                               const uint8_t *text,
-                                               size_t text_len);
+magic_string_answer magic_string_insert(MAGIC_STRING_DESK, uint32_t at,
+                                        const uint8_t *text, size_t text_len,
+                                        uint32_t left, uint32_t front);
 
 /* Adds a piece at the back of the tail, the end of the output.
  * Numbers: 2, 1; 13 in place of 0. */
@@ -286,10 +269,10 @@ magic_string_indent_with(MAGIC_STRING_DESK, uint32_t has_indentor,
  *    kind 1   remove          start, end
  *    kind 2   update_with     start, end, text; overwrite is yes
  *    kind 3   reset           start, end
- *    kind 4   append_left     at, text
- *    kind 5   append_right    at, text
- *    kind 6   prepend_left    at, text
- *    kind 7   prepend_right   at, text
+ *    kind 4   append_left     at, text; insert with left
+ *    kind 5   append_right    at, text; insert
+ *    kind 6   prepend_left    at, text; insert with left and front
+ *    kind 7   prepend_right   at, text; insert with front
  *    kind 8   relocate        start, end, to
  *
  * A sheet has at most MAGIC_STRING_SHEET_RECORDS records, and at most

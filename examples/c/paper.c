@@ -28,6 +28,10 @@ static uint8_t out[MAGIC_STRING_SOURCE_BYTES + MAGIC_STRING_STORE_BYTES];
       MAGIC_STRING_STORE_LEN
 #define DESK TEXT(script), TABLES
 
+/* The switches of an insertion. */
+enum { RIGHT, LEFT };
+enum { BACK, FRONT };
+
 static const char *const words[] = {
     [0] = "done",
     [MAGIC_STRING_NOT_UTF8] = "text not UTF-8",
@@ -155,9 +159,9 @@ int main(void) {
        magic_string_update_with(DESK, start("north"), end("north"),
                                 TEXT("north-west"), 0));
   file("add behind 12",
-       magic_string_append_left(DESK, end("12"), TEXT(" to 15")));
+       magic_string_insert(DESK, end("12"), TEXT(" to 15"), LEFT, BACK));
   file("add before over",
-       magic_string_append_right(DESK, start("over"), TEXT("and ")));
+       magic_string_insert(DESK, start("over"), TEXT("and "), RIGHT, BACK));
   file("remove the sea",
        magic_string_remove(DESK, start(", sea"), end("calm")));
   file("move the air before the wind",
@@ -166,7 +170,7 @@ int main(void) {
   file("remove from inside the Å",
        magic_string_remove(DESK, start("Å") + 1, end("Å")));
   file("add inside a replaced word",
-       magic_string_append_left(DESK, start("north") + 1, TEXT("?")));
+       magic_string_insert(DESK, start("north") + 1, TEXT("?"), LEFT, BACK));
   file("replace across the moved line",
        magic_string_update_with(DESK, start("Radio"), end("Wind"), TEXT("?"),
                                 0));

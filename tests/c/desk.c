@@ -51,10 +51,13 @@ static void reported(const char *call, magic_string_answer answer) {
 static void edits(void) {
   static const uint32_t exclude[2] = {9, 13};
   edit("remove 3,7", magic_string_remove(DESK, 3, 7));
-  edit("append_left 5 Z", magic_string_append_left(DESK, 5, TEXT("Z")));
-  edit("prepend_left 5 Y", magic_string_prepend_left(DESK, 5, TEXT("Y")));
-  edit("append_right 5 z", magic_string_append_right(DESK, 5, TEXT("z")));
-  edit("prepend_right 5 y", magic_string_prepend_right(DESK, 5, TEXT("y")));
+  /* Any number but 0 says left, and front. */
+  edit("append_left 5 Z",
+       magic_string_insert(DESK, 5, TEXT("Z"), UINT32_C(0x80000000), 0));
+  edit("prepend_left 5 Y",
+       magic_string_insert(DESK, 5, TEXT("Y"), 2, UINT32_MAX));
+  edit("append_right 5 z", magic_string_insert(DESK, 5, TEXT("z"), 0, 0));
+  edit("prepend_right 5 y", magic_string_insert(DESK, 5, TEXT("y"), 0, 256));
   edit("prepend", magic_string_prepend(DESK, TEXT(" >")));
   edit("append", magic_string_append(DESK, TEXT("< \n")));
   edit("relocate 2,3,8", magic_string_relocate(DESK, 2, 3, 8));

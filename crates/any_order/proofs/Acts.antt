@@ -3,7 +3,7 @@ use Prim.Native.Nat.{ℕ, suc, _-_, _≤_, _<_}
 use native.Mathlib.Omega.{arith}
 use native.Mathlib.Decide.{ℕ-discrete}
 use mathlib.Core.Path.{_≡_, refl, ap, ap₂, sym, _∙_}
-use mathlib.Core.Bool.{Bool, cond}
+use mathlib.Core.Bool.{Bool, true, false, cond}
 use mathlib.Core.List.{List, [], _∷_, map, map-append}
 use mathlib.Core.Option.{Option, some}
 use mathlib.Core.Logic.{_⊎_, inl, inr}
@@ -12,8 +12,9 @@ use borrow.Author.Tests.{eq-eqb, ne-eqb}
 use Rattle.utf8.specs.Chars.{All, nil, cons}
 use Rattle.model.specs.Text.{Text}
 use Rattle.model.specs.Chunk.{Span, Texts, Chunk, bare, edit, start-of, end-of}
-use Rattle.model_closed_forms.specs.Plan.{End, Plan, nothing, clear, replace, insert-left, insert-right, insert-head, insert-tail, move, cuts, split, cut, cut-all, add-intro}
-use Rattle.model_closed_forms.specs.Plan.{add-outro, act, acted}
+use Rattle.model.specs.MagicString.{edge}
+use Rattle.model.specs.Insert.{push-to}
+use Rattle.model_closed_forms.specs.Plan.{Plan, nothing, clear, replace, insert-piece, insert-whole, move, cuts, split, cut, cut-all, act, acted}
 use Rattle.model_closed_forms.proofs.Cuts.{Contains, dec-contains, split-in, split-out, ends-by, starts-from, Aligned, aligned-halves, cut-keeps}
 use Rattle.model_closed_forms.proofs.Spans.{Inside, inside-true, inside-false, dec-inside}
 
@@ -22,10 +23,8 @@ abbrev pub Touch : Plan → Span → Type 0
 Touch nothing s = ⊥
 Touch (clear a b r) s = Inside a b (s .start)
 Touch (replace a b t o) s = Inside a b (s .start)
-Touch (insert-left p w t) s = s .end ≡ p
-Touch (insert-right p w t) s = s .start ≡ p
-Touch (insert-head w t) s = ⊥
-Touch (insert-tail w t) s = ⊥
+Touch (insert-piece p t left front) s = edge left s ≡ p
+Touch (insert-whole t left front) s = ⊥
 Touch (move a b to) s = ⊥
 
 never : Dec ⊥
@@ -35,10 +34,8 @@ pub dec-touch : (P : Plan) (s : Span) → Dec (Touch P s)
 dec-touch nothing s = never
 dec-touch (clear a b r) s = dec-inside a b (s .start)
 dec-touch (replace a b t o) s = dec-inside a b (s .start)
-dec-touch (insert-left p w t) s = ℕ-discrete (s .end) p
-dec-touch (insert-right p w t) s = ℕ-discrete (s .start) p
-dec-touch (insert-head w t) s = never
-dec-touch (insert-tail w t) s = never
+dec-touch (insert-piece p t left front) s = ℕ-discrete (edge left s) p
+dec-touch (insert-whole t left front) s = never
 dec-touch (move a b to) s = never
 
 pub act-out : (P : Plan) (s : Span) (x : Texts) → (Touch P s → ⊥) → act P s x ≡ x
@@ -46,10 +43,8 @@ unfolding act
 act-out nothing s x h = refl
 act-out (clear a b r) s x h = rw (inside-false a b (s .start) h)
 act-out (replace a b t o) s x h = rw (inside-false a b (s .start) h)
-act-out (insert-left p w t) s x h = rw (ne-eqb (s .end) p h)
-act-out (insert-right p w t) s x h = rw (ne-eqb (s .start) p h)
-act-out (insert-head w t) s x h = refl
-act-out (insert-tail w t) s x h = refl
+act-out (insert-piece p t left front) s x h = rw (ne-eqb (edge left s) p h)
+act-out (insert-whole t left front) s x h = refl
 act-out (move a b to) s x h = refl
 
 pub act-clear : (a b : ℕ) (r : Option Text) (s : Span) (x : Texts) → Inside a b (s .start) → act (clear a b r) s x ≡ bare r
@@ -60,13 +55,9 @@ pub act-replace : (a b : ℕ) (t : Text) (o : Bool) (s : Span) (x : Texts) → I
 unfolding act
 act-replace a b t o s x h = rw (inside-true a b (s .start) h)
 
-pub act-left : (p : ℕ) (w : End) (t : Text) (s : Span) (x : Texts) → s .end ≡ p → act (insert-left p w t) s x ≡ add-outro w t x
+pub act-insert : (p : ℕ) (t : Text) (left front : Bool) (s : Span) (x : Texts) → edge left s ≡ p → act (insert-piece p t left front) s x ≡ push-to left front t x
 unfolding act
-act-left p w t s x h = rw (eq-eqb (s .end) p h)
-
-pub act-right : (p : ℕ) (w : End) (t : Text) (s : Span) (x : Texts) → s .start ≡ p → act (insert-right p w t) s x ≡ add-intro w t x
-unfolding act
-act-right p w t s x h = rw (eq-eqb (s .start) p h)
+act-insert p t left front s x h = rw (eq-eqb (edge left s) p h)
 
 -- ── with a cut ──
 -- q does not fall strictly inside a range that P replaces
@@ -74,10 +65,8 @@ abbrev pub OutsideReplaced : Plan → ℕ → Type 0
 OutsideReplaced nothing q = Unit {0}
 OutsideReplaced (clear a b r) q = Unit {0}
 OutsideReplaced (replace a b t o) q = a < q → q < b → ⊥
-OutsideReplaced (insert-left p w t) q = Unit {0}
-OutsideReplaced (insert-right p w t) q = Unit {0}
-OutsideReplaced (insert-head w t) q = Unit {0}
-OutsideReplaced (insert-tail w t) q = Unit {0}
+OutsideReplaced (insert-piece p t left front) q = Unit {0}
+OutsideReplaced (insert-whole t left front) q = Unit {0}
 OutsideReplaced (move a b to) q = Unit {0}
 
 -- the texts of the two halves
@@ -121,24 +110,23 @@ halves (replace a b t o) q c (cons na (cons nb nil)) ns i =
   where
     within : Inside a b (start-of c) → ⊥
     within h = ns (omega arith) (omega (arith, ends-by b c nb (h .1)))
-halves (insert-left p w t) q c (cons na nil) ns i = go (ℕ-discrete (end-of c) p)
+halves (insert-piece p t true front) q c (cons na nil) ns i = go (ℕ-discrete (end-of c) p)
   where
-    go : Dec (end-of c ≡ p) → Halves (insert-left p w t) q (c .span) (c .texts)
+    go : Dec (end-of c ≡ p) → Halves (insert-piece p t true front) q (c .span) (c .texts)
     go (yes h) = (
-      act-out (insert-left p w t) (span (start-of c) q) (first-texts (c .texts)) (λ j. omega arith) ∙ ap first-texts (sym (act-left p w t (c .span) (c .texts) h)),
-      act-left p w t (span q (end-of c)) (second-texts (c .texts)) h ∙ ap second-texts (sym (act-left p w t (c .span) (c .texts) h)),
+      act-out (insert-piece p t true front) (span (start-of c) q) (first-texts (c .texts)) (λ j. omega arith) ∙ ap first-texts (sym (act-insert p t true front (c .span) (c .texts) h)),
+      act-insert p t true front (span q (end-of c)) (second-texts (c .texts)) h ∙ ap second-texts (sym (act-insert p t true front (c .span) (c .texts) h)),
     )
-    go (no h) = halves-out (insert-left p w t) q (c .span) (c .texts) h (λ j. na (omega arith)) h
-halves (insert-right p w t) q c (cons na nil) ns i = go (ℕ-discrete (start-of c) p)
+    go (no h) = halves-out (insert-piece p t true front) q (c .span) (c .texts) h (λ j. na (omega arith)) h
+halves (insert-piece p t false front) q c (cons na nil) ns i = go (ℕ-discrete (start-of c) p)
   where
-    go : Dec (start-of c ≡ p) → Halves (insert-right p w t) q (c .span) (c .texts)
+    go : Dec (start-of c ≡ p) → Halves (insert-piece p t false front) q (c .span) (c .texts)
     go (yes h) = (
-      act-right p w t (span (start-of c) q) (first-texts (c .texts)) h ∙ ap first-texts (sym (act-right p w t (c .span) (c .texts) h)),
-      act-out (insert-right p w t) (span q (end-of c)) (second-texts (c .texts)) (λ j. omega arith) ∙ ap second-texts (sym (act-right p w t (c .span) (c .texts) h)),
+      act-insert p t false front (span (start-of c) q) (first-texts (c .texts)) h ∙ ap first-texts (sym (act-insert p t false front (c .span) (c .texts) h)),
+      act-out (insert-piece p t false front) (span q (end-of c)) (second-texts (c .texts)) (λ j. omega arith) ∙ ap second-texts (sym (act-insert p t false front (c .span) (c .texts) h)),
     )
-    go (no h) = halves-out (insert-right p w t) q (c .span) (c .texts) h h (λ j. na (omega arith))
-halves (insert-head w t) q c al ns i = halves-out (insert-head w t) q (c .span) (c .texts) (λ h. h) (λ h. h) (λ h. h)
-halves (insert-tail w t) q c al ns i = halves-out (insert-tail w t) q (c .span) (c .texts) (λ h. h) (λ h. h) (λ h. h)
+    go (no h) = halves-out (insert-piece p t false front) q (c .span) (c .texts) h h (λ j. na (omega arith))
+halves (insert-whole t left front) q c al ns i = halves-out (insert-whole t left front) q (c .span) (c .texts) (λ h. h) (λ h. h) (λ h. h)
 halves (move a b to) q c al ns i = halves-out (move a b to) q (c .span) (c .texts) (λ h. h) (λ h. h) (λ h. h)
 
 split-acted : (P : Plan) (q : ℕ) (c : Chunk) → Aligned (cuts P) c → OutsideReplaced P q → split q (acted P c) ≡ map (acted P) (split q c)
@@ -162,22 +150,20 @@ abbrev pub PlanByte : Plan → ℕ → Type 0
 PlanByte nothing x = ⊥
 PlanByte (clear a b r) x = Inside a b x
 PlanByte (replace a b t o) x = Inside a b x
-PlanByte (insert-left p w t) x = suc x ≡ p
-PlanByte (insert-right p w t) x = x ≡ p
-PlanByte (insert-head w t) x = ⊥
-PlanByte (insert-tail w t) x = ⊥
+PlanByte (insert-piece p t left front) x = cond left (suc x) x ≡ p
+PlanByte (insert-whole t left front) x = ⊥
 PlanByte (move a b to) x = ⊥
 
 data IsLeft : Plan → Type 0 where
-  is-left : (p : ℕ) (w : End) (t : Text) → IsLeft (insert-left p w t)
+  is-left : (p : ℕ) (t : Text) (front : Bool) → IsLeft (insert-piece p t true front)
 
 data IsRight : Plan → Type 0 where
-  is-right : (p : ℕ) (w : End) (t : Text) → IsRight (insert-right p w t)
+  is-right : (p : ℕ) (t : Text) (front : Bool) → IsRight (insert-piece p t false front)
 
 not-both : (P : Plan) → IsLeft P → IsRight P → ⊥
-not-both (insert-left p w t) l r = none-right r
+not-both (insert-piece p t true front) l r = none-right r
   where
-    none-right : IsRight (insert-left p w t) → ⊥
+    none-right : IsRight (insert-piece p t true front) → ⊥
     none-right = elim [ ]
 
 -- a touched chunk's first byte is reached, or the plan adds at an end
@@ -185,10 +171,9 @@ first-byte : (P : Plan) (c : Chunk) → Touch P (c .span) → PlanByte P (start-
 first-byte nothing c h = inl h
 first-byte (clear a b r) c h = inl h
 first-byte (replace a b t o) c h = inl h
-first-byte (insert-left p w t) c h = inr (is-left p w t)
-first-byte (insert-right p w t) c h = inl h
-first-byte (insert-head w t) c h = inl h
-first-byte (insert-tail w t) c h = inl h
+first-byte (insert-piece p t true front) c h = inr (is-left p t front)
+first-byte (insert-piece p t false front) c h = inl h
+first-byte (insert-whole t left front) c h = inl h
 first-byte (move a b to) c h = inl h
 
 -- so is its last byte, or the plan adds at a start
@@ -197,10 +182,9 @@ unfolding cuts
 last-byte nothing c p al h = inl h
 last-byte (clear a b r) c p (cons na (cons nb nil)) h = inl (omega arith, omega (arith, ends-by b c nb (h .1)))
 last-byte (replace a b t o) c p (cons na (cons nb nil)) h = inl (omega arith, omega (arith, ends-by b c nb (h .1)))
-last-byte (insert-left q w t) c p al h = inl (omega arith)
-last-byte (insert-right q w t) c p al h = inr (is-right q w t)
-last-byte (insert-head w t) c p al h = inl h
-last-byte (insert-tail w t) c p al h = inl h
+last-byte (insert-piece q t true front) c p al h = inl (omega arith)
+last-byte (insert-piece q t false front) c p al h = inr (is-right q t front)
+last-byte (insert-whole t left front) c p al h = inl h
 last-byte (move a b to) c p al h = inl h
 
 Commute : Plan → Plan → Chunk → Type 0
@@ -216,10 +200,10 @@ commute-sym P Q c h = sym h
 
 commute-ends : (P Q : Plan) (c : Chunk) → Touch P (c .span) → Touch Q (c .span) → IsLeft P → IsRight Q → Commute P Q c
 unfolding Commute
-commute-ends P Q c h k (is-left p w t) (is-right q v u) =
+commute-ends P Q c h k (is-left p t w) (is-right q u v) =
     let s = c .span in
     let x = c .texts in
-    rw (act-right q v u s x k, act-left p w t s x h, act-left p w t s _ h, act-right q v u s _ k)
+    rw (act-insert q u false v s x k, act-insert p t true w s x h, act-insert p t true w s _ h, act-insert q u false v s _ k)
 
 acts-commute : (P Q : Plan) (c : Chunk) → start-of c < end-of c → Aligned (cuts P) c → Aligned (cuts Q) c → ((x : ℕ) → PlanByte P x → PlanByte Q x → ⊥) → Commute P Q c
 acts-commute P Q c pr aP aQ dis = go (dec-touch P (c .span)) (dec-touch Q (c .span))

@@ -12,10 +12,11 @@ use borrow.Author.Tests.{eq-eqb, ne-eqb, lt-ltb, le-ltb, le-leb}
 use Rattle.utf8.specs.Chars.{All, nil, cons}
 use Rattle.model.specs.Text.{Text, sum}
 use Rattle.model.specs.Chunk.{is-filled}
-use Rattle.model.specs.Call.{Edit, remove, update-with, reset, append-left, append-right, prepend-left, prepend-right, append, prepend, relocate, trim, trim-start, trim-end}
+use Rattle.model.specs.Call.{Edit, remove, update-with, reset, insert, append, prepend, relocate, trim, trim-start, trim-end}
 use Rattle.model.specs.Call.{trim-lines, indent-with, texts, positions, listed}
 use Rattle.model.proofs.Lists.{clash, first-of, rest-of, all-of, all-map}
-use Rattle.model_closed_forms.specs.Plan.{End, front, back, Plan, nothing, clear, replace, insert-head, insert-tail, move, on-left, on-right, plan, cuts}
+use Rattle.model.specs.Insert.{left, right, front, back}
+use Rattle.model_closed_forms.specs.Plan.{Plan, nothing, clear, replace, insert-whole, move, plan, cuts}
 use Rattle.any_order.specs.Claim.{Spot, byte, head, tail, left-of, right-of, Bytes, Reach, IsMove, InReplaced, Wide, new-pieces, new-bytes, Disjoint, FreeOf}
 use Rattle.any_order.proofs.Acts.{OutsideReplaced, PlanByte}
 use Rattle.any_order.proofs.Pair.{PlanHead, PlanTail, PlanMove, PlansApart, WellPlanned}
@@ -89,70 +90,69 @@ replace-implements n a b t o h k = record {
   sizes = omega arith;
 }
 
-head-implements : (n : ℕ) (e : Edit) (w : End) (t : Text) → Reach n e head → 1 ≤ new-pieces e → texts e ≡ t ∷ [] → Implements n e (insert-head w t)
+-- a piece for the head or the tail
+whole-implements : (n : ℕ) (e : Edit) (t : Text) (left front : Bool) → Reach n e (cond left head tail) → 1 ≤ new-pieces e → texts e ≡ t ∷ [] → Implements n e (insert-whole t left front)
 unfolding cuts
-head-implements n e w t reach k ts = record {
+whole-implements n e t left front reach k ts = record {
   well = tt;
   bytes = λ x i. absurd i;
-  heads = λ i. reach;
-  tails = λ i. absurd i;
+  heads = in-head left reach;
+  tails = in-tail left reach;
   moves = λ i. absurd i;
   cuts-free = λ a b away m. nil;
   outside-replaced = λ qs g. all-of (λ q. tt) qs;
   pieces = k;
   sizes = omega (arith, ap (sum length) ts);
 }
+  where
+    in-head : (left : Bool) → Reach n e (cond left head tail) → PlanHead (insert-whole t left front) → Reach n e head
+    in-head true r i = r
+    in-head false r i = clash i refl
 
-tail-implements : (n : ℕ) (e : Edit) (w : End) (t : Text) → Reach n e tail → 1 ≤ new-pieces e → texts e ≡ t ∷ [] → Implements n e (insert-tail w t)
-unfolding cuts
-tail-implements n e w t reach k ts = record {
-  well = tt;
-  bytes = λ x i. absurd i;
-  heads = λ i. absurd i;
-  tails = λ i. reach;
-  moves = λ i. absurd i;
-  cuts-free = λ a b away m. nil;
-  outside-replaced = λ qs g. all-of (λ q. tt) qs;
-  pieces = k;
-  sizes = omega (arith, ap (sum length) ts);
-}
+    in-tail : (left : Bool) → Reach n e (cond left head tail) → PlanTail (insert-whole t left front) → Reach n e tail
+    in-tail true r i = clash refl i
+    in-tail false r i = r
 
--- an insertion of either end
-module _ (n : ℕ) (e : Edit) (p : ℕ) (w : End) (t : Text) (some-source : 0 < n) (k : 1 ≤ new-pieces e) (ts : texts e ≡ t ∷ []) where
-  left-implements : ((z : Spot) → z ≡ left-of p → Reach n e z) → (q : ℕ) → p ≡ q → p ≤ n → Implements n e (on-left n p w t)
-  unfolding cuts left-of
-  left-implements reach zero z h =
-      rw (z, le-leb 0 n (omega arith), ne-eqb n 0 (λ i. omega arith)) (head-implements n e w t (reach head (rw z)) k ts)
-  left-implements reach (suc q) z h =
+-- a piece at a position, left or right
+module _ (n p : ℕ) (t : Text) (front : Bool) (some-source : 0 < n) where
+  left-implements : (q : ℕ) → p ≡ q → p ≤ n → Implements n (insert p t true front) (plan n (insert p t true front))
+  unfolding plan cuts left-of
+  left-implements zero z h =
+      rw (z, le-leb 0 n (omega arith), ne-eqb n 0 (λ i. omega arith)) (whole-implements n (insert 0 t true front) t true front refl (omega arith) refl)
+  left-implements (suc q) z h =
       rw (le-leb p n h, lt-ltb 0 p (omega arith)) (record {
         well = (omega arith, h);
-        bytes = λ x i. reach (byte x) (rw (sym i));
+        bytes = λ x i. rw (sym i);
         heads = λ i. absurd i;
         tails = λ i. absurd i;
         moves = λ i. absurd i;
-        cuts-free = λ a b away m. cons (λ (u : a < p) (v : p < b). away (byte q) (omega arith) (reach (byte q) (rw z))) nil;
+        cuts-free = λ a b away m. cons (λ (u : a < p) (v : p < b). away (byte q) (omega arith) (rw z)) nil;
         outside-replaced = λ qs g. all-of (λ q. tt) qs;
-        pieces = k;
-        sizes = omega (arith, ap (sum length) ts);
+        pieces = omega arith;
+        sizes = omega arith;
       })
 
-  right-implements : ((z : Spot) → z ≡ right-of n p → Reach n e z) → Dec (p < n) → Implements n e (on-right n p w t)
-  unfolding cuts right-of
-  right-implements reach (yes h) =
+  right-implements : Dec (p < n) → Implements n (insert p t false front) (plan n (insert p t false front))
+  unfolding plan cuts right-of
+  right-implements (yes h) =
       rw (lt-ltb p n h) (record {
         well = h;
-        bytes = λ x i. reach (byte x) (rw (lt-ltb p n h) (ap byte i));
+        bytes = λ x i. rw (lt-ltb p n h) (ap byte i);
         heads = λ i. absurd i;
         tails = λ i. absurd i;
         moves = λ i. absurd i;
-        cuts-free = λ a b away m. cons (λ (u : a < p) (v : p < b). away (byte p) (omega arith) (reach (byte p) (rw (lt-ltb p n h)))) nil;
+        cuts-free = λ a b away m. cons (λ (u : a < p) (v : p < b). away (byte p) (omega arith) (rw (lt-ltb p n h))) nil;
         outside-replaced = λ qs g. all-of (λ q. tt) qs;
-        pieces = k;
-        sizes = omega (arith, ap (sum length) ts);
+        pieces = omega arith;
+        sizes = omega arith;
       })
-  right-implements reach (no h) =
+  right-implements (no h) =
       let l : n ≤ p = omega arith in
-      rw (le-ltb p n l, ne-eqb p 0 (λ i. omega arith)) (tail-implements n e w t (reach tail (rw (le-ltb p n l))) k ts)
+      rw (le-ltb p n l, ne-eqb p 0 (λ i. omega arith)) (whole-implements n (insert p t false front) t false front (rw (le-ltb p n l)) (omega arith) refl)
+
+  insert-implements : (left : Bool) → p ≤ n → Implements n (insert p t left front) (plan n (insert p t left front))
+  insert-implements true h = left-implements p refl h
+  insert-implements false h = right-implements (decLt p n)
 
 nothing-implements : (n : ℕ) (e : Edit) → Implements n e nothing
 unfolding cuts
@@ -187,12 +187,9 @@ unfolding plan
 implements n (remove a b) s h = rw (ne-eqb a b (λ i. omega (arith, h .wide))) (clear-implements n (remove a b) a b (some []) (h .wide) (first-of (rest-of (h .within))) refl (λ z i. i))
 implements n (update-with a b t o) s h = replace-implements n a b t o (h .wide) (first-of (rest-of (h .within)))
 implements n (reset a b) s h = rw (ne-eqb a b (λ i. omega (arith, h .wide))) (clear-implements n (reset a b) a b none (h .wide) (first-of (rest-of (h .within))) refl (λ z i. i))
-implements n (append-left p t) s h = left-implements n (append-left p t) p back t s (omega arith) refl (λ z i. i) p refl (first-of (h .within))
-implements n (append-right p t) s h = right-implements n (append-right p t) p back t s (omega arith) refl (λ z i. i) (decLt p n)
-implements n (prepend-left p t) s h = left-implements n (prepend-left p t) p front t s (omega arith) refl (λ z i. i) p refl (first-of (h .within))
-implements n (prepend-right p t) s h = right-implements n (prepend-right p t) p front t s (omega arith) refl (λ z i. i) (decLt p n)
-implements n (append t) s h = tail-implements n (append t) back t refl (omega arith) refl
-implements n (prepend t) s h = head-implements n (prepend t) front t refl (omega arith) refl
+implements n (insert p t left front) s h = insert-implements n p t front s left (first-of (h .within))
+implements n (append t) s h = whole-implements n (append t) t right back refl (omega arith) refl
+implements n (prepend t) s h = whole-implements n (prepend t) t left front refl (omega arith) refl
 implements n (relocate a b to) s h = go (ℕ-discrete a b)
   where
     go : Dec (a ≡ b) → Implements n (relocate a b to) (cond (eqb a b) nothing (move a b to))

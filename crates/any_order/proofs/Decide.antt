@@ -13,11 +13,11 @@ use Rattle.utf8.specs.Chars.{All}
 use Rattle.model.specs.Text.{all, sum}
 use Rattle.model.specs.MagicString.{MagicString}
 use Rattle.model.specs.Limits.{Limits, piece-count, byte-count}
-use Rattle.model.specs.Call.{Edit, remove, update-with, reset, append-left, append-right, prepend-left, prepend-right, append, prepend, relocate, trim, trim-start, trim-end}
+use Rattle.model.specs.Call.{Edit, remove, update-with, reset, insert, append, prepend, relocate, trim, trim-start, trim-end}
 use Rattle.model.specs.Call.{trim-lines, indent-with, positions, run, listed}
 use Rattle.model.specs.WellFormed.{WellFormed}
 use Rattle.model.proofs.Lists.{both, and-left, and-right, clash, all-map, all-true, true-all}
-use Rattle.any_order.specs.Claim.{Pairs, Spot, byte, head, tail, left-of, right-of, Bytes, Reach, IsMove, InReplaced, Wide, most-cuts, new-pieces, new-bytes, Space}
+use Rattle.any_order.specs.Claim.{Pairs, Spot, byte, head, tail, left-of, right-of, beside, Bytes, Reach, IsMove, InReplaced, Wide, most-cuts, new-pieces, new-bytes, Space}
 use Rattle.any_order.specs.Claim.{Disjoint, FreeOf, EditsApart, Premises}
 use Rattle.any_order.specs.Tests.{pairs, Zone, bytes, head-zone, tail-zone, no-zone, left-zone, right-zone, zone, meets, is-move, in-replaced, free-of, is-wide}
 use Rattle.any_order.specs.Tests.{edits-apart, each-alone, has-space, any-order-holds}
@@ -120,6 +120,10 @@ right-is n p z = go (decLt p n)
     go (yes l) = rw (lt-ltb p n l) (byte-is p z)
     go (no l) = rw (le-ltb p n (omega arith)) (tail-is z)
 
+beside-is : (n p : ℕ) (left : Bool) (z : Spot) → (z ≡ beside n p left) ↔ InZone (cond left (left-zone p) (right-zone n p)) z
+beside-is n p true z = left-is p z
+beside-is n p false z = right-is n p z
+
 nothing-reached : (z : Spot) → ⊥ ↔ InZone no-zone z
 nothing-reached z = (λ h. h, λ h. h)
 
@@ -127,10 +131,7 @@ reach-zone : (n : ℕ) (e : Edit) (z : Spot) → Reach n e z ↔ InZone (zone n 
 reach-zone n (remove a b) z = bytes-zone a b z
 reach-zone n (update-with a b t o) z = bytes-zone a b z
 reach-zone n (reset a b) z = bytes-zone a b z
-reach-zone n (append-left p t) z = left-is p z
-reach-zone n (append-right p t) z = right-is n p z
-reach-zone n (prepend-left p t) z = left-is p z
-reach-zone n (prepend-right p t) z = right-is n p z
+reach-zone n (insert p t left front) z = beside-is n p left z
 reach-zone n (append t) z = tail-is z
 reach-zone n (prepend t) z = head-is z
 reach-zone n (relocate a b to) z = nothing-reached z
@@ -204,10 +205,7 @@ decide-move : (e : Edit) → Decides (is-move e) (IsMove e)
 decide-move (remove a b) = never (λ h. h)
 decide-move (update-with a b t o) = never (λ h. h)
 decide-move (reset a b) = never (λ h. h)
-decide-move (append-left p t) = never (λ h. h)
-decide-move (append-right p t) = never (λ h. h)
-decide-move (prepend-left p t) = never (λ h. h)
-decide-move (prepend-right p t) = never (λ h. h)
+decide-move (insert p t left front) = never (λ h. h)
 decide-move (append t) = never (λ h. h)
 decide-move (prepend t) = never (λ h. h)
 decide-move (relocate a b to) = always tt
@@ -221,10 +219,7 @@ decide-replaced : (e : Edit) (p : ℕ) → Decides (in-replaced e p) (InReplaced
 decide-replaced (remove a b) p = never (λ h. h)
 decide-replaced (update-with a b t o) p = decide-and (decide-lt a p) (decide-lt p b)
 decide-replaced (reset a b) p = never (λ h. h)
-decide-replaced (append-left q t) p = never (λ h. h)
-decide-replaced (append-right q t) p = never (λ h. h)
-decide-replaced (prepend-left q t) p = never (λ h. h)
-decide-replaced (prepend-right q t) p = never (λ h. h)
+decide-replaced (insert q t left front) p = never (λ h. h)
 decide-replaced (append t) p = never (λ h. h)
 decide-replaced (prepend t) p = never (λ h. h)
 decide-replaced (relocate a b to) p = never (λ h. h)
@@ -247,10 +242,7 @@ decide-wide : (e : Edit) → Decides (is-wide e) (Wide e)
 decide-wide (remove a b) = decide-lt a b
 decide-wide (update-with a b t o) = decide-lt a b
 decide-wide (reset a b) = decide-lt a b
-decide-wide (append-left p t) = always tt
-decide-wide (append-right p t) = always tt
-decide-wide (prepend-left p t) = always tt
-decide-wide (prepend-right p t) = always tt
+decide-wide (insert p t left front) = always tt
 decide-wide (append t) = always tt
 decide-wide (prepend t) = always tt
 decide-wide (relocate a b to) = always tt

@@ -4,7 +4,7 @@ use mathlib.Core.Bool.{true}
 use mathlib.Core.List.{List, [], _∷_, flatten}
 use Rattle.utf8.specs.Rfc3629.{scalar, sequence, decodeAt, wholeFrom, utf8, between}
 use Rattle.model.specs.Chunk.{contains}
-use Rattle.model.specs.MagicString.{MagicString, new, split-at, by-end-mut, by-start-mut, to-string}
+use Rattle.model.specs.MagicString.{MagicString, new, split-at, by-edge-mut, to-string}
 use Rattle.model.specs.Update.{update-chunks}
 use Rattle.model.specs.Update as update-rs
 use Rattle.model.specs.Movement.{change-range}
@@ -22,7 +22,7 @@ use Rattle.any_order.specs.Example.{source, prepared, desk, edits, text}
 
 -- ── a list of edits on it ──
 computed : (after full prepared (new source) ≡ desk) × (any-order-holds full desk edits ≡ true) × (to-string (after full edits desk) ≡ text)
-unfolding flatten scalar sequence decodeAt wholeFrom utf8 between contains split-at by-end-mut by-start-mut to-string update-chunks
+unfolding flatten scalar sequence decodeAt wholeFrom utf8 between contains split-at by-edge-mut to-string update-chunks
     update-rs.update-with change-range movement-rs.remove movement-rs.relocate reset-rs.reset within judged refused-before run edits-apart each-alone
     has-space any-order-holds
 computed = (refl, refl, refl)

@@ -13,7 +13,7 @@ use Rattle.model.specs.Text.{sum}
 use Rattle.model.specs.Chunk.{Chunk, start-of, end-of}
 use Rattle.model.specs.Movement.{insert-before}
 use Rattle.model.proofs.Lists.{bool-cases, first-of, rest-of, all-map}
-use Rattle.model_closed_forms.specs.Plan.{Plan, nothing, clear, replace, insert-left, insert-right, insert-head, insert-tail, move, cuts, split, cut, cut-all, inside, outside, acted}
+use Rattle.model_closed_forms.specs.Plan.{Plan, nothing, clear, replace, insert-piece, insert-whole, move, cuts, split, cut, cut-all, inside, outside, acted}
 use Rattle.model_closed_forms.specs.Plan.{keep, rearrange}
 use Rattle.model_closed_forms.proofs.Cuts.{Contains, dec-contains, split-in, split-out, ends-by, starts-from, cut-append, Aligned, aligned-halves, cut-keeps}
 use Rattle.model_closed_forms.proofs.Spans.{Inside, inside-true, inside-false, dec-inside}
@@ -43,10 +43,8 @@ unfolding rearrange
 rearrange-acted nothing Q cs = refl
 rearrange-acted (clear a b r) Q cs = refl
 rearrange-acted (replace a b t o) Q cs = refl
-rearrange-acted (insert-left p w t) Q cs = refl
-rearrange-acted (insert-right p w t) Q cs = refl
-rearrange-acted (insert-head w t) Q cs = refl
-rearrange-acted (insert-tail w t) Q cs = refl
+rearrange-acted (insert-piece p t left front) Q cs = refl
+rearrange-acted (insert-whole t left front) Q cs = refl
 rearrange-acted (move a b to) Q cs =
     rw (keep-acted (inside a b) Q cs, keep-acted (outside a b) Q cs) (insert-acted to Q (keep (inside a b) cs) (keep (outside a b) cs))
 
@@ -95,10 +93,8 @@ module _ {Z : Chunk → Type 0} where
   rearrange-keeps nothing z = z
   rearrange-keeps (clear a b r) z = z
   rearrange-keeps (replace a b t o) z = z
-  rearrange-keeps (insert-left p w t) z = z
-  rearrange-keeps (insert-right p w t) z = z
-  rearrange-keeps (insert-head w t) z = z
-  rearrange-keeps (insert-tail w t) z = z
+  rearrange-keeps (insert-piece p t left front) z = z
+  rearrange-keeps (insert-whole t left front) z = z
   rearrange-keeps (move a b to) z = insert-all Z to (keep-keeps (inside a b) z) (keep-keeps (outside a b) z)
 
 -- a chunk that contains neither end of a range starts in it exactly if each byte of it lies in it
@@ -118,10 +114,8 @@ unfolding rearrange cuts
 rearrange-cut nothing q al = refl
 rearrange-cut (clear a b r) q al = refl
 rearrange-cut (replace a b t o) q al = refl
-rearrange-cut (insert-left p w t) q al = refl
-rearrange-cut (insert-right p w t) q al = refl
-rearrange-cut (insert-head w t) q al = refl
-rearrange-cut (insert-tail w t) q al = refl
+rearrange-cut (insert-piece p t left front) q al = refl
+rearrange-cut (insert-whole t left front) q al = refl
 rearrange-cut (move a b to) q {cs} al =
     ap₂ (insert-before to)
     (keep-cut (inside a b) q (all-map (λ c h i. halves-inside a b q c (first-of h) (first-of (rest-of h)) i) al))
@@ -148,10 +142,8 @@ unfolding rearrange
 sum-rearrange w nothing cs = refl
 sum-rearrange w (clear a b r) cs = refl
 sum-rearrange w (replace a b t o) cs = refl
-sum-rearrange w (insert-left p v t) cs = refl
-sum-rearrange w (insert-right p v t) cs = refl
-sum-rearrange w (insert-head v t) cs = refl
-sum-rearrange w (insert-tail v t) cs = refl
+sum-rearrange w (insert-piece p t left front) cs = refl
+sum-rearrange w (insert-whole t left front) cs = refl
 sum-rearrange w (move a b to) cs = insert-sum w to (keep (inside a b) cs) (keep (outside a b) cs) ∙ sum-parts w a b cs
 
 -- ── a range that stands together goes on doing so: after a cut ──
@@ -281,8 +273,6 @@ unfolding rearrange cuts
 together-rearrange nothing a b f g = g
 together-rearrange (clear x y r) a b f g = g
 together-rearrange (replace x y t o) a b f g = g
-together-rearrange (insert-left p w t) a b f g = g
-together-rearrange (insert-right p w t) a b f g = g
-together-rearrange (insert-head w t) a b f g = g
-together-rearrange (insert-tail w t) a b f g = g
+together-rearrange (insert-piece p t left front) a b f g = g
+together-rearrange (insert-whole t left front) a b f g = g
 together-rearrange (move s e to) a b (cons fs (cons fe (cons ft nil))) g = together-move s e to a b fs fe ft g

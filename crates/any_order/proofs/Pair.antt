@@ -9,13 +9,13 @@ use Rattle.utf8.specs.Chars.{All, nil, cons}
 use Rattle.model.specs.Text.{Text}
 use Rattle.model.specs.Chunk.{Chunk, is-filled}
 use Rattle.model.specs.MagicString.{MagicString}
-use Rattle.model.proofs.Lists.{all-map₂, map-keeps}
-use Rattle.model_closed_forms.specs.Plan.{Plan, nothing, clear, replace, insert-left, insert-right, insert-head, insert-tail, move, cuts, cut-all, act, acted, rearrange, on-head}
+use Rattle.model.proofs.Lists.{clash, all-map₂, map-keeps}
+use Rattle.model_closed_forms.specs.Plan.{Plan, nothing, clear, replace, insert-piece, insert-whole, move, cuts, cut-all, act, acted, rearrange, on-head}
 use Rattle.model_closed_forms.specs.Plan.{on-tail, new-chunks, apply, in-order}
 use Rattle.model_closed_forms.proofs.Cuts.{Contains, ends-by, Aligned, aligned-halves, cut-all-keeps, cut-all-aligned, cut-all-cut-all, Splittable, splittable-halves}
 use Rattle.model_closed_forms.specs.Spans.{Proper}
 use Rattle.model_closed_forms.proofs.Together.{Together, together-of, together-true}
-use Rattle.any_order.proofs.Acts.{Touch, dec-touch, act-out, act-clear, act-left, act-right, OutsideReplaced, PlanByte, BothAligned, cut-all-acted, acted-acted}
+use Rattle.any_order.proofs.Acts.{Touch, dec-touch, act-out, act-clear, act-insert, OutsideReplaced, PlanByte, BothAligned, cut-all-acted, acted-acted}
 use Rattle.any_order.proofs.Moves.{rearrange-acted, rearrange-keeps, rearrange-cut-all, together-cut-all, together-acted, together-rearrange}
 
 -- ── plans that are apart ──
@@ -23,30 +23,24 @@ abbrev pub PlanHead : Plan → Type 0
 PlanHead nothing = ⊥
 PlanHead (clear a b r) = ⊥
 PlanHead (replace a b t o) = ⊥
-PlanHead (insert-left p w t) = ⊥
-PlanHead (insert-right p w t) = ⊥
-PlanHead (insert-head w t) = Unit {0}
-PlanHead (insert-tail w t) = ⊥
+PlanHead (insert-piece p t left front) = ⊥
+PlanHead (insert-whole t left front) = left ≡ true
 PlanHead (move a b to) = ⊥
 
 abbrev pub PlanTail : Plan → Type 0
 PlanTail nothing = ⊥
 PlanTail (clear a b r) = ⊥
 PlanTail (replace a b t o) = ⊥
-PlanTail (insert-left p w t) = ⊥
-PlanTail (insert-right p w t) = ⊥
-PlanTail (insert-head w t) = ⊥
-PlanTail (insert-tail w t) = Unit {0}
+PlanTail (insert-piece p t left front) = ⊥
+PlanTail (insert-whole t left front) = left ≡ false
 PlanTail (move a b to) = ⊥
 
 abbrev pub PlanMove : Plan → Type 0
 PlanMove nothing = ⊥
 PlanMove (clear a b r) = ⊥
 PlanMove (replace a b t o) = ⊥
-PlanMove (insert-left p w t) = ⊥
-PlanMove (insert-right p w t) = ⊥
-PlanMove (insert-head w t) = ⊥
-PlanMove (insert-tail w t) = ⊥
+PlanMove (insert-piece p t left front) = ⊥
+PlanMove (insert-whole t left front) = ⊥
 PlanMove (move a b to) = Unit {0}
 
 pub record PlansApart (P Q : Plan) : Type 0 where
@@ -63,20 +57,16 @@ unfolding rearrange
 order-kept nothing n cs = refl
 order-kept (clear a b r) n cs = refl
 order-kept (replace a b t o) n cs = refl
-order-kept (insert-left p w t) n cs = refl
-order-kept (insert-right p w t) n cs = refl
-order-kept (insert-head w t) n cs = refl
-order-kept (insert-tail w t) n cs = refl
+order-kept (insert-piece p t left front) n cs = refl
+order-kept (insert-whole t left front) n cs = refl
 order-kept (move a b to) n cs = absurd (n tt)
 
 moves-or-not : (P : Plan) → PlanMove P ⊎ (PlanMove P → ⊥)
 moves-or-not nothing = inr (λ h. h)
 moves-or-not (clear a b r) = inr (λ h. h)
 moves-or-not (replace a b t o) = inr (λ h. h)
-moves-or-not (insert-left p w t) = inr (λ h. h)
-moves-or-not (insert-right p w t) = inr (λ h. h)
-moves-or-not (insert-head w t) = inr (λ h. h)
-moves-or-not (insert-tail w t) = inr (λ h. h)
+moves-or-not (insert-piece p t left front) = inr (λ h. h)
+moves-or-not (insert-whole t left front) = inr (λ h. h)
 moves-or-not (move a b to) = inl tt
 
 rearrange-rearrange : (P Q : Plan) → (PlanMove P → PlanMove Q → ⊥) → (cs : List Chunk) → rearrange P (rearrange Q cs) ≡ rearrange Q (rearrange P cs)
@@ -91,20 +81,18 @@ unfolding on-head
 head-kept nothing n l = refl
 head-kept (clear a b r) n l = refl
 head-kept (replace a b t o) n l = refl
-head-kept (insert-left p w t) n l = refl
-head-kept (insert-right p w t) n l = refl
-head-kept (insert-head w t) n l = absurd (n tt)
-head-kept (insert-tail w t) n l = refl
+head-kept (insert-piece p t left front) n l = refl
+head-kept (insert-whole t true front) n l = absurd (n refl)
+head-kept (insert-whole t false front) n l = refl
 head-kept (move a b to) n l = refl
 
 head-or-not : (P : Plan) → PlanHead P ⊎ (PlanHead P → ⊥)
 head-or-not nothing = inr (λ h. h)
 head-or-not (clear a b r) = inr (λ h. h)
 head-or-not (replace a b t o) = inr (λ h. h)
-head-or-not (insert-left p w t) = inr (λ h. h)
-head-or-not (insert-right p w t) = inr (λ h. h)
-head-or-not (insert-head w t) = inl tt
-head-or-not (insert-tail w t) = inr (λ h. h)
+head-or-not (insert-piece p t left front) = inr (λ h. h)
+head-or-not (insert-whole t true front) = inl refl
+head-or-not (insert-whole t false front) = inr (λ h. clash h refl)
 head-or-not (move a b to) = inr (λ h. h)
 
 head-head : (P Q : Plan) → (PlanHead P → PlanHead Q → ⊥) → (l : List Text) → on-head P (on-head Q l) ≡ on-head Q (on-head P l)
@@ -119,20 +107,18 @@ unfolding on-tail
 tail-kept nothing n l = refl
 tail-kept (clear a b r) n l = refl
 tail-kept (replace a b t o) n l = refl
-tail-kept (insert-left p w t) n l = refl
-tail-kept (insert-right p w t) n l = refl
-tail-kept (insert-head w t) n l = refl
-tail-kept (insert-tail w t) n l = absurd (n tt)
+tail-kept (insert-piece p t left front) n l = refl
+tail-kept (insert-whole t true front) n l = refl
+tail-kept (insert-whole t false front) n l = absurd (n refl)
 tail-kept (move a b to) n l = refl
 
 tail-or-not : (P : Plan) → PlanTail P ⊎ (PlanTail P → ⊥)
 tail-or-not nothing = inr (λ h. h)
 tail-or-not (clear a b r) = inr (λ h. h)
 tail-or-not (replace a b t o) = inr (λ h. h)
-tail-or-not (insert-left p w t) = inr (λ h. h)
-tail-or-not (insert-right p w t) = inr (λ h. h)
-tail-or-not (insert-head w t) = inr (λ h. h)
-tail-or-not (insert-tail w t) = inl tt
+tail-or-not (insert-piece p t left front) = inr (λ h. h)
+tail-or-not (insert-whole t true front) = inr (λ h. clash refl h)
+tail-or-not (insert-whole t false front) = inl refl
 tail-or-not (move a b to) = inr (λ h. h)
 
 tail-tail : (P Q : Plan) → (PlanTail P → PlanTail Q → ⊥) → (l : List Text) → on-tail P (on-tail Q l) ≡ on-tail Q (on-tail P l)
@@ -187,10 +173,9 @@ abbrev pub WellPlanned : ℕ → Plan → Type 0
 WellPlanned n nothing = Unit {0}
 WellPlanned n (clear a b r) = (a < b) × (b ≤ n) × (is-filled r ≡ false)
 WellPlanned n (replace a b t o) = (a < b) × (b ≤ n)
-WellPlanned n (insert-left p w t) = (0 < p) × (p ≤ n)
-WellPlanned n (insert-right p w t) = p < n
-WellPlanned n (insert-head w t) = Unit {0}
-WellPlanned n (insert-tail w t) = Unit {0}
+WellPlanned n (insert-piece p t true front) = (0 < p) × (p ≤ n)
+WellPlanned n (insert-piece p t false front) = p < n
+WellPlanned n (insert-whole t left front) = Unit {0}
 WellPlanned n (move a b to) = (a ≤ n) × (b ≤ n) × (to ≤ n)
 
 splittable-acted : (n : ℕ) (P : Plan) → WellPlanned n P → (q : ℕ) (c : Chunk) → Aligned (cuts P) c → OutsideReplaced P q →
@@ -202,10 +187,8 @@ splittable-acted n P w q c al ns k i = go (dec-touch P (c .span))
     touched nothing w al ns t = absurd t
     touched (clear a b r) w al ns t = rw (act-clear a b r (c .span) (c .texts) t) (w .2)
     touched (replace a b x o) w (cons na (cons nb nil)) ns t = absurd (ns (omega arith) (omega (arith, ends-by b c nb (t .1))))
-    touched (insert-left p v x) w al ns t = rw (act-left p v x (c .span) (c .texts) t) (k i)
-    touched (insert-right p v x) w al ns t = rw (act-right p v x (c .span) (c .texts) t) (k i)
-    touched (insert-head v x) w al ns t = absurd t
-    touched (insert-tail v x) w al ns t = absurd t
+    touched (insert-piece p x left front) w al ns t = rw (act-insert p x left front (c .span) (c .texts) t) (k i)
+    touched (insert-whole x left front) w al ns t = absurd t
     touched (move a b to) w al ns t = absurd t
 
     go : Dec (Touch P (c .span)) → is-filled (act P (c .span) (c .texts) .edited-content) ≡ false
@@ -230,10 +213,8 @@ order-after P (replace a b t o) d cs pr h =
     together-true a b
     (together-new-chunks P a b (d .first-outside) (λ l g. together-rearrange P a b (d .second-outside) g) cs
     (together-of a b (cut-all (cuts (replace a b t o)) cs) (proper-cut-all (cuts (replace a b t o)) pr) h))
-order-after P (insert-left p w t) d cs pr h = refl
-order-after P (insert-right p w t) d cs pr h = refl
-order-after P (insert-head w t) d cs pr h = refl
-order-after P (insert-tail w t) d cs pr h = refl
+order-after P (insert-piece p t left front) d cs pr h = refl
+order-after P (insert-whole t left front) d cs pr h = refl
 order-after P (move a b to) d cs pr h =
     together-true a b
     (together-new-chunks P a b (d .first-outside) (λ l g. rw (order-kept P (λ m. d .moves m tt) l) g) cs

@@ -3,7 +3,7 @@ use Prim.Native.Nat.{ℕ, zero, suc, _+_, _*_, _-_, _≤_}
 use native.Mathlib.Omega.{arith}
 use native.Mathlib.Decide.{ℕ-discrete}
 use mathlib.Core.Path.{_≡_, refl, sym, _∙_}
-use mathlib.Core.Bool.{Bool, true, false}
+use mathlib.Core.Bool.{Bool, true, false, cond}
 use mathlib.Core.List.{List, [], _∷_, map}
 use mathlib.Core.Option.{Option, none, some}
 use lib.ListN.{length, length-append, length-map}
@@ -16,12 +16,13 @@ use Rattle.model.specs.Limits.{chunk-pieces, chunk-bytes, replacement-bytes, pi
 use Rattle.model.specs.WellFormed.{covers}
 use Rattle.model.proofs.Lists.{clash, first-of, rest-of, all-of, all-map}
 use Rattle.model.proofs.Spans.{covers-in}
-use Rattle.model_closed_forms.specs.Plan.{End, front, back, Plan, nothing, clear, replace, insert-left, insert-right, insert-head, insert-tail, move, cuts, split, cut, cut-all, add}
+use Rattle.model.proofs.Insert.{push-length, push-sum}
+use Rattle.model_closed_forms.specs.Plan.{Plan, nothing, clear, replace, insert-piece, insert-whole, move, cuts, split, cut, cut-all}
 use Rattle.model_closed_forms.specs.Plan.{acted, rearrange, on-head, on-tail, new-chunks, apply}
 use Rattle.model_closed_forms.proofs.Cuts.{Contains, dec-contains, split-in, split-out, cut-keeps, Splittable, splittable-halves}
 use Rattle.model_closed_forms.proofs.Spans.{Inside, sum-cut, covers-cut, covers-cut-all, Once}
 use Rattle.model_closed_forms.specs.Spans.{Proper}
-use Rattle.any_order.proofs.Acts.{Touch, dec-touch, act-out, act-clear, act-replace, act-left, act-right}
+use Rattle.any_order.proofs.Acts.{Touch, dec-touch, act-out, act-clear, act-replace, act-insert}
 use Rattle.any_order.proofs.Moves.{sum-rearrange}
 use Rattle.any_order.proofs.Pair.{WellPlanned, proper-cut-all}
 
@@ -63,10 +64,8 @@ unfolding cuts
 three-cuts nothing = omega arith
 three-cuts (clear a b r) = omega arith
 three-cuts (replace a b t o) = omega arith
-three-cuts (insert-left p w t) = omega arith
-three-cuts (insert-right p w t) = omega arith
-three-cuts (insert-head w t) = omega arith
-three-cuts (insert-tail w t) = omega arith
+three-cuts (insert-piece p t left front) = omega arith
+three-cuts (insert-whole t left front) = omega arith
 three-cuts (move a b to) = omega arith
 
 pub more-chunks : (P : Plan) (cs : List Chunk) → Once cs → length (new-chunks P cs) ≤ length cs + 3
@@ -84,41 +83,25 @@ abbrev witness : Plan → ℕ
 witness nothing = 0
 witness (clear a b r) = 0
 witness (replace a b t o) = a
-witness (insert-left p w t) = p - 1
-witness (insert-right p w t) = p
-witness (insert-head w t) = 0
-witness (insert-tail w t) = 0
+witness (insert-piece p t left front) = cond left (p - 1) p
+witness (insert-whole t left front) = 0
 witness (move a b to) = 0
 
 abbrev chunk-adds : Plan → ℕ
 chunk-adds nothing = 0
 chunk-adds (clear a b r) = 0
 chunk-adds (replace a b t o) = 0
-chunk-adds (insert-left p w t) = 1
-chunk-adds (insert-right p w t) = 1
-chunk-adds (insert-head w t) = 0
-chunk-adds (insert-tail w t) = 0
+chunk-adds (insert-piece p t left front) = 1
+chunk-adds (insert-whole t left front) = 0
 chunk-adds (move a b to) = 0
 
 abbrev byte-adds : Plan → ℕ
 byte-adds nothing = 0
 byte-adds (clear a b r) = 0
 byte-adds (replace a b t o) = length t
-byte-adds (insert-left p w t) = length t
-byte-adds (insert-right p w t) = length t
-byte-adds (insert-head w t) = 0
-byte-adds (insert-tail w t) = 0
+byte-adds (insert-piece p t left front) = length t
+byte-adds (insert-whole t left front) = 0
 byte-adds (move a b to) = 0
-
-sum-add : (w : End) (t : Text) (l : List Text) → sum length (add w t l) ≡ length t + sum length l
-sum-add front t l = refl
-sum-add back t [] = refl
-sum-add back t (x ∷ l) = omega (arith, sum-add back t l)
-
-length-add : (w : End) (t : Text) (l : List Text) → length (add w t l) ≡ 1 + length l
-length-add front t l = omega arith
-length-add back t [] = refl
-length-add back t (x ∷ l) = omega (arith, length-add back t l)
 
 no-bytes : (r : Option Text) → is-filled r ≡ false → replacement-bytes r ≡ 0
 no-bytes none h = refl
@@ -156,16 +139,15 @@ adds n P wl c pr = go (dec-touch P (c .span))
       bytes = rw (act-clear a b r (c .span) (c .texts) t) (omega (arith, no-bytes r (wl .2)));
     }
     touched (replace a b x y) wl t = replace-adds a b x y c pr t
-    touched (insert-left p y x) wl t = record {
-      pieces = rw (act-left p y x (c .span) (c .texts) t, covers-in (p - 1) c (omega arith)) (omega (arith, length-add y x (c .texts .outro)));
-      bytes = rw (act-left p y x (c .span) (c .texts) t, covers-in (p - 1) c (omega arith)) (omega (arith, sum-add y x (c .texts .outro)));
+    touched (insert-piece p x true y) wl t = record {
+      pieces = rw (act-insert p x true y (c .span) (c .texts) t, covers-in (p - 1) c (omega arith)) (omega (arith, push-length y x (c .texts .outro)));
+      bytes = rw (act-insert p x true y (c .span) (c .texts) t, covers-in (p - 1) c (omega arith)) (omega (arith, push-sum y x (c .texts .outro)));
     }
-    touched (insert-right p y x) wl t = record {
-      pieces = rw (act-right p y x (c .span) (c .texts) t, covers-in p c (omega arith)) (omega (arith, length-add y x (c .texts .intro)));
-      bytes = rw (act-right p y x (c .span) (c .texts) t, covers-in p c (omega arith)) (omega (arith, sum-add y x (c .texts .intro)));
+    touched (insert-piece p x false y) wl t = record {
+      pieces = rw (act-insert p x false y (c .span) (c .texts) t, covers-in p c (omega arith)) (omega (arith, push-length y x (c .texts .intro)));
+      bytes = rw (act-insert p x false y (c .span) (c .texts) t, covers-in p c (omega arith)) (omega (arith, push-sum y x (c .texts .intro)));
     }
-    touched (insert-head w t) wl x = absurd x
-    touched (insert-tail w t) wl x = absurd x
+    touched (insert-whole t left front) wl x = absurd x
     touched (move a b to) wl t = absurd t
 
     go : Dec (Touch P (c .span)) → Adds P c
@@ -227,20 +209,16 @@ abbrev pub plan-pieces : Plan → ℕ
 plan-pieces nothing = 0
 plan-pieces (clear a b r) = 0
 plan-pieces (replace a b t o) = 0
-plan-pieces (insert-left p w t) = 1
-plan-pieces (insert-right p w t) = 1
-plan-pieces (insert-head w t) = 1
-plan-pieces (insert-tail w t) = 1
+plan-pieces (insert-piece p t left front) = 1
+plan-pieces (insert-whole t left front) = 1
 plan-pieces (move a b to) = 0
 
 abbrev pub plan-bytes : Plan → ℕ
 plan-bytes nothing = 0
 plan-bytes (clear a b r) = 0
 plan-bytes (replace a b t o) = length t
-plan-bytes (insert-left p w t) = length t
-plan-bytes (insert-right p w t) = length t
-plan-bytes (insert-head w t) = length t
-plan-bytes (insert-tail w t) = length t
+plan-bytes (insert-piece p t left front) = length t
+plan-bytes (insert-whole t left front) = length t
 plan-bytes (move a b to) = 0
 
 ends-pieces : (P : Plan) (h t : List Text) → (length (on-head P h) + length (on-tail P t)) + chunk-adds P ≤ (length h + length t) + plan-pieces P
@@ -248,10 +226,9 @@ unfolding on-head on-tail
 ends-pieces nothing h t = omega arith
 ends-pieces (clear a b r) h t = omega arith
 ends-pieces (replace a b x o) h t = omega arith
-ends-pieces (insert-left p w x) h t = omega arith
-ends-pieces (insert-right p w x) h t = omega arith
-ends-pieces (insert-head w x) h t = omega (arith, length-add w x h)
-ends-pieces (insert-tail w x) h t = omega (arith, length-add w x t)
+ends-pieces (insert-piece p x left front) h t = omega arith
+ends-pieces (insert-whole x true front) h t = omega (arith, push-length front x h)
+ends-pieces (insert-whole x false front) h t = omega (arith, push-length front x t)
 ends-pieces (move a b to) h t = omega arith
 
 ends-bytes : (P : Plan) (h t : List Text) → (sum length (on-head P h) + sum length (on-tail P t)) + byte-adds P ≤ (sum length h + sum length t) + plan-bytes P
@@ -259,10 +236,9 @@ unfolding on-head on-tail
 ends-bytes nothing h t = omega arith
 ends-bytes (clear a b r) h t = omega arith
 ends-bytes (replace a b x o) h t = omega arith
-ends-bytes (insert-left p w x) h t = omega arith
-ends-bytes (insert-right p w x) h t = omega arith
-ends-bytes (insert-head w x) h t = omega (arith, sum-add w x h)
-ends-bytes (insert-tail w x) h t = omega (arith, sum-add w x t)
+ends-bytes (insert-piece p x left front) h t = omega arith
+ends-bytes (insert-whole x true front) h t = omega (arith, push-sum front x h)
+ends-bytes (insert-whole x false front) h t = omega (arith, push-sum front x t)
 ends-bytes (move a b to) h t = omega arith
 
 pub more-pieces : (n : ℕ) (P : Plan) → WellPlanned n P → (m : MagicString) → Once (m .chunks) → All Proper (m .chunks) → piece-count (apply P m) ≤ piece-count m + plan-pieces P

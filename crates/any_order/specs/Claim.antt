@@ -1,7 +1,7 @@
 -- Document 01, "Any order: the reckoning": what edits reach, the premises on a list L of edits, the orders of L, and the claim.
 use Prim.Native.Nat.{ℕ, zero, suc, _+_, _*_, _≤_, _<_}
 use mathlib.Core.Path.{_≡_}
-use mathlib.Core.Bool.{true, cond}
+use mathlib.Core.Bool.{Bool, true, cond}
 use mathlib.Core.List.{List, [], _∷_}
 use lib.Dec.{ltb}
 use lib.ListN.{length}
@@ -9,7 +9,7 @@ use Rattle.utf8.specs.Chars.{All}
 use Rattle.model.specs.Text.{sum}
 use Rattle.model.specs.MagicString.{MagicString, to-string}
 use Rattle.model.specs.Limits.{Limits, piece-count, byte-count}
-use Rattle.model.specs.Call.{Edit, remove, update-with, reset, append-left, append-right, prepend-left, prepend-right, append, prepend, relocate, trim, trim-start, trim-end}
+use Rattle.model.specs.Call.{Edit, remove, update-with, reset, insert, append, prepend, relocate, trim, trim-start, trim-end}
 use Rattle.model.specs.Call.{trim-lines, indent-with, texts, positions, run, after, Call, Shown, perform, listed}
 use Rattle.model.specs.WellFormed.{WellFormed}
 
@@ -42,6 +42,10 @@ left-of (suc p) = byte p
 unfoldable pub right-of : ℕ → ℕ → Spot
 right-of n p = cond (ltb p n) (byte p) tail
 
+-- what an insertion at p reaches, left or right
+abbrev pub beside : ℕ → ℕ → Bool → Spot
+beside n p left = cond left (left-of p) (right-of n p)
+
 -- the bytes from a up to but without b
 abbrev pub Bytes : ℕ → ℕ → Spot → Type 0
 Bytes a b (byte x) = (a ≤ x) × (x < b)
@@ -53,10 +57,7 @@ abbrev pub Reach : ℕ → Edit → Spot → Type 0
 Reach n (remove a b) z = Bytes a b z
 Reach n (update-with a b t o) z = Bytes a b z
 Reach n (reset a b) z = Bytes a b z
-Reach n (append-left p t) z = z ≡ left-of p
-Reach n (append-right p t) z = z ≡ right-of n p
-Reach n (prepend-left p t) z = z ≡ left-of p
-Reach n (prepend-right p t) z = z ≡ right-of n p
+Reach n (insert p t left front) z = z ≡ beside n p left
 Reach n (append t) z = z ≡ tail
 Reach n (prepend t) z = z ≡ head
 Reach n (relocate a b to) z = ⊥
@@ -70,10 +71,7 @@ abbrev pub IsMove : Edit → Type 0
 IsMove (remove a b) = ⊥
 IsMove (update-with a b t o) = ⊥
 IsMove (reset a b) = ⊥
-IsMove (append-left p t) = ⊥
-IsMove (append-right p t) = ⊥
-IsMove (prepend-left p t) = ⊥
-IsMove (prepend-right p t) = ⊥
+IsMove (insert p t left front) = ⊥
 IsMove (append t) = ⊥
 IsMove (prepend t) = ⊥
 IsMove (relocate a b to) = Unit {0}
@@ -88,10 +86,7 @@ abbrev pub InReplaced : Edit → ℕ → Type 0
 InReplaced (remove a b) p = ⊥
 InReplaced (update-with a b t o) p = (a < p) × (p < b)
 InReplaced (reset a b) p = ⊥
-InReplaced (append-left q t) p = ⊥
-InReplaced (append-right q t) p = ⊥
-InReplaced (prepend-left q t) p = ⊥
-InReplaced (prepend-right q t) p = ⊥
+InReplaced (insert q t left front) p = ⊥
 InReplaced (append t) p = ⊥
 InReplaced (prepend t) p = ⊥
 InReplaced (relocate a b to) p = ⊥
@@ -106,10 +101,7 @@ abbrev pub Wide : Edit → Type 0
 Wide (remove a b) = a < b
 Wide (update-with a b t o) = a < b
 Wide (reset a b) = a < b
-Wide (append-left p t) = Unit {0}
-Wide (append-right p t) = Unit {0}
-Wide (prepend-left p t) = Unit {0}
-Wide (prepend-right p t) = Unit {0}
+Wide (insert p t left front) = Unit {0}
 Wide (append t) = Unit {0}
 Wide (prepend t) = Unit {0}
 Wide (relocate a b to) = Unit {0}
@@ -129,10 +121,7 @@ abbrev pub new-pieces : Edit → ℕ
 new-pieces (remove a b) = 0
 new-pieces (update-with a b t o) = 0
 new-pieces (reset a b) = 0
-new-pieces (append-left p t) = 1
-new-pieces (append-right p t) = 1
-new-pieces (prepend-left p t) = 1
-new-pieces (prepend-right p t) = 1
+new-pieces (insert p t left front) = 1
 new-pieces (append t) = 1
 new-pieces (prepend t) = 1
 new-pieces (relocate a b to) = 0

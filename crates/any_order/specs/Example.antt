@@ -6,7 +6,8 @@ use mathlib.Core.Option.{none, some}
 use Rattle.model.specs.Text.{Text}
 use Rattle.model.specs.Chunk.{chunk-of, bare}
 use Rattle.model.specs.MagicString.{MagicString}
-use Rattle.model.specs.Call.{Edit, remove, update-with, reset, append-left, append-right, prepend-left, prepend-right, append, prepend, relocate}
+use Rattle.model.specs.Insert.{left, right, front, back}
+use Rattle.model.specs.Call.{Edit, remove, update-with, reset, insert, append, prepend, relocate}
 
 -- ── a desk in use ──
 -- "abcdefghi" and a character of two bytes
@@ -16,7 +17,7 @@ source = 97 ∷ 98 ∷ 99 ∷ 100 ∷ 101 ∷ 102 ∷ 103 ∷ 104 ∷ 105 ∷ 0x
 -- the edits made on it: the character is replaced by "E", gets the piece "i" before it and goes before "g"
 abbrev pub prepared : List Edit
 prepared =
-    prepend (104 ∷ []) ∷ append-right 2 (106 ∷ []) ∷ append-left 5 (107 ∷ []) ∷ update-with 9 11 (69 ∷ []) true ∷ append-right 9 (105 ∷ [])
+    prepend (104 ∷ []) ∷ insert 2 (106 ∷ []) right back ∷ insert 5 (107 ∷ []) left back ∷ update-with 9 11 (69 ∷ []) true ∷ insert 9 (105 ∷ []) right back
     ∷ relocate 9 11 6 ∷ []
 
 -- "habjcdekfiEghi"
@@ -38,7 +39,7 @@ desk =
 -- one replacement takes the piece "j" with it and the other leaves "i", the reset takes "k"; the move starts inside the removed range, and its range holds a replaced one
 abbrev pub edits : List Edit
 edits =
-    remove 0 2 ∷ update-with 2 4 (88 ∷ []) true ∷ reset 4 5 ∷ append-left 6 (112 ∷ []) ∷ append-right 6 (113 ∷ []) ∷ prepend-left 8 [] ∷ prepend-right 8 (115 ∷ [])
+    remove 0 2 ∷ update-with 2 4 (88 ∷ []) true ∷ reset 4 5 ∷ insert 6 (112 ∷ []) left back ∷ insert 6 (113 ∷ []) right back ∷ insert 8 [] left front ∷ insert 8 (115 ∷ []) right front
     ∷ update-with 9 11 (89 ∷ []) false ∷ append (116 ∷ []) ∷ prepend (117 ∷ []) ∷ relocate 1 6 11 ∷ []
 
 -- "uhiYqghsiXefpt"

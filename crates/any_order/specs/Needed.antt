@@ -7,7 +7,8 @@ use lib.ListN.{length, replicate}
 use Rattle.model.specs.Text.{Text, all}
 use Rattle.model.specs.MagicString.{MagicString, new, to-string}
 use Rattle.model.specs.Limits.{full}
-use Rattle.model.specs.Call.{Edit, remove, update-with, append-left, append-right, append, prepend, relocate, trim, listed, after, answers}
+use Rattle.model.specs.Insert.{left, right, back}
+use Rattle.model.specs.Call.{Edit, remove, update-with, insert, append, prepend, relocate, trim, listed, after, answers}
 use Rattle.any_order.specs.Tests.{is-wide, all-within, all-apart, one-move, moves-free, each-alone, has-space}
 
 -- the tests of the premises, in the checklist's order
@@ -26,11 +27,11 @@ pub record Left : Type 0 where
   pub numbers : List ℕ
   pub text : Text
 
-abbrev pub left : List ℕ → Text → Left
-left numbers text = record { numbers = numbers; text = text }
+abbrev pub leaving : List ℕ → Text → Left
+leaving numbers text = record { numbers = numbers; text = text }
 
 abbrev pub left-by : List Edit → MagicString → Left
-left-by L m = left (answers full L m) (to-string (after full L m))
+left-by L m = leaving (answers full L m) (to-string (after full L m))
 
 -- a source, the edits that were made on it, the list, the premises that it breaks, and what it leaves in this order and in the other
 pub record Row : Type 0 where
@@ -77,41 +78,41 @@ many = replicate (suc (full .most-source)) x
 unfoldable pub rows : List Row
 rows =
     -- 1 an empty source: its one chunk starts and ends at 0, so that "x" goes behind it and "y" before it, neither to the head nor to the tail
-    row [] [] (append-left 0 (x ∷ []) ∷ append-right 0 (y ∷ []) ∷ []) (1 ∷ [])
-    (left (0 ∷ 0 ∷ []) (y ∷ x ∷ []))
-    (left (0 ∷ 0 ∷ []) (y ∷ x ∷ [])) ∷
+    row [] [] (insert 0 (x ∷ []) left back ∷ insert 0 (y ∷ []) right back ∷ []) (1 ∷ [])
+    (leaving (0 ∷ 0 ∷ []) (y ∷ x ∷ []))
+    (leaving (0 ∷ 0 ∷ []) (y ∷ x ∷ [])) ∷
     -- 2 another edit than those of L
-    row (a ∷ []) [] (trim 0 ∷ append-left 1 (space ∷ []) ∷ []) (2 ∷ [])
-    (left (0 ∷ 0 ∷ []) (a ∷ space ∷ []))
-    (left (0 ∷ 0 ∷ []) (a ∷ [])) ∷
+    row (a ∷ []) [] (trim 0 ∷ insert 1 (space ∷ []) left back ∷ []) (2 ∷ [])
+    (leaving (0 ∷ 0 ∷ []) (a ∷ space ∷ []))
+    (leaving (0 ∷ 0 ∷ []) (a ∷ [])) ∷
     -- 3 zero width: a removal changes nothing, and a replacement is refused, alone too
-    row (a ∷ []) [] (remove 1 1 ∷ append-left 1 (x ∷ []) ∷ []) (3 ∷ [])
-    (left (0 ∷ 0 ∷ []) (a ∷ x ∷ []))
-    (left (0 ∷ 0 ∷ []) (a ∷ x ∷ [])) ∷
-    row (a ∷ []) [] (update-with 1 1 (X ∷ []) true ∷ append-left 1 (x ∷ []) ∷ []) (3 ∷ 8 ∷ [])
-    (left (5 ∷ 0 ∷ []) (a ∷ x ∷ []))
-    (left (0 ∷ 5 ∷ []) (a ∷ x ∷ [])) ∷
+    row (a ∷ []) [] (remove 1 1 ∷ insert 1 (x ∷ []) left back ∷ []) (3 ∷ [])
+    (leaving (0 ∷ 0 ∷ []) (a ∷ x ∷ []))
+    (leaving (0 ∷ 0 ∷ []) (a ∷ x ∷ [])) ∷
+    row (a ∷ []) [] (update-with 1 1 (X ∷ []) true ∷ insert 1 (x ∷ []) left back ∷ []) (3 ∷ 8 ∷ [])
+    (leaving (5 ∷ 0 ∷ []) (a ∷ x ∷ []))
+    (leaving (0 ∷ 5 ∷ []) (a ∷ x ∷ [])) ∷
     -- 4 positions past the source's end: both go to the head
-    row (a ∷ []) [] (append-left 2 (x ∷ []) ∷ append-left 3 (y ∷ []) ∷ []) (4 ∷ [])
-    (left (0 ∷ 0 ∷ []) (x ∷ y ∷ a ∷ []))
-    (left (0 ∷ 0 ∷ []) (y ∷ x ∷ a ∷ [])) ∷
+    row (a ∷ []) [] (insert 2 (x ∷ []) left back ∷ insert 3 (y ∷ []) left back ∷ []) (4 ∷ [])
+    (leaving (0 ∷ 0 ∷ []) (x ∷ y ∷ a ∷ []))
+    (leaving (0 ∷ 0 ∷ []) (y ∷ x ∷ a ∷ [])) ∷
     -- 5 the same byte
-    row (a ∷ []) [] (append-left 1 (x ∷ []) ∷ append-left 1 (y ∷ []) ∷ []) (5 ∷ [])
-    (left (0 ∷ 0 ∷ []) (a ∷ x ∷ y ∷ []))
-    (left (0 ∷ 0 ∷ []) (a ∷ y ∷ x ∷ [])) ∷
+    row (a ∷ []) [] (insert 1 (x ∷ []) left back ∷ insert 1 (y ∷ []) left back ∷ []) (5 ∷ [])
+    (leaving (0 ∷ 0 ∷ []) (a ∷ x ∷ y ∷ []))
+    (leaving (0 ∷ 0 ∷ []) (a ∷ y ∷ x ∷ [])) ∷
     -- 6 two moves
     row (a ∷ b ∷ c ∷ []) [] (relocate 0 1 3 ∷ relocate 1 2 0 ∷ []) (6 ∷ [])
-    (left (0 ∷ 0 ∷ []) (c ∷ b ∷ a ∷ []))
-    (left (0 ∷ 0 ∷ []) (b ∷ c ∷ a ∷ [])) ∷
+    (leaving (0 ∷ 0 ∷ []) (c ∷ b ∷ a ∷ []))
+    (leaving (0 ∷ 0 ∷ []) (b ∷ c ∷ a ∷ [])) ∷
     -- 7 a move's position inside a replaced range
     row (a ∷ b ∷ []) [] (update-with 0 2 (X ∷ []) true ∷ relocate 0 1 2 ∷ []) (7 ∷ [])
-    (left (0 ∷ 6 ∷ []) (X ∷ []))
-    (left (0 ∷ 7 ∷ []) (b ∷ a ∷ [])) ∷
+    (leaving (0 ∷ 6 ∷ []) (X ∷ []))
+    (leaving (0 ∷ 7 ∷ []) (b ∷ a ∷ [])) ∷
     -- 8 an edit that is refused alone, on the desk "acb"
     row (a ∷ b ∷ c ∷ []) (relocate 1 2 3 ∷ []) (update-with 0 2 (X ∷ []) true ∷ relocate 2 3 0 ∷ []) (8 ∷ [])
-    (left (7 ∷ 0 ∷ []) (c ∷ a ∷ b ∷ []))
-    (left (0 ∷ 0 ∷ []) (c ∷ X ∷ [])) ∷
+    (leaving (7 ∷ 0 ∷ []) (c ∷ a ∷ b ∷ []))
+    (leaving (0 ∷ 0 ∷ []) (c ∷ X ∷ [])) ∷
     -- 9 no space for both texts
     row (a ∷ []) [] (prepend many ∷ append many ∷ []) (9 ∷ [])
-    (left (0 ∷ 13 ∷ []) (many ++ (a ∷ [])))
-    (left (0 ∷ 13 ∷ []) (a ∷ many)) ∷ []
+    (leaving (0 ∷ 13 ∷ []) (many ++ (a ∷ [])))
+    (leaving (0 ∷ 13 ∷ []) (a ∷ many)) ∷ []

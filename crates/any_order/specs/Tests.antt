@@ -7,7 +7,7 @@ use lib.ListN.{length}
 use Rattle.model.specs.Text.{all, sum}
 use Rattle.model.specs.MagicString.{MagicString}
 use Rattle.model.specs.Limits.{Limits, piece-count, byte-count}
-use Rattle.model.specs.Call.{Edit, remove, update-with, reset, append-left, append-right, prepend-left, prepend-right, append, prepend, relocate, trim, trim-start, trim-end}
+use Rattle.model.specs.Call.{Edit, remove, update-with, reset, insert, append, prepend, relocate, trim, trim-start, trim-end}
 use Rattle.model.specs.Call.{trim-lines, indent-with, positions, run, listed}
 use Rattle.any_order.specs.Claim.{most-cuts, new-pieces, new-bytes}
 
@@ -33,10 +33,7 @@ abbrev pub zone : ℕ → Edit → Zone
 zone n (remove a b) = bytes a b
 zone n (update-with a b t o) = bytes a b
 zone n (reset a b) = bytes a b
-zone n (append-left p t) = left-zone p
-zone n (append-right p t) = right-zone n p
-zone n (prepend-left p t) = left-zone p
-zone n (prepend-right p t) = right-zone n p
+zone n (insert p t left front) = cond left (left-zone p) (right-zone n p)
 zone n (append t) = tail-zone
 zone n (prepend t) = head-zone
 zone n (relocate a b to) = no-zone
@@ -67,10 +64,7 @@ abbrev pub is-move : Edit → Bool
 is-move (remove a b) = false
 is-move (update-with a b t o) = false
 is-move (reset a b) = false
-is-move (append-left p t) = false
-is-move (append-right p t) = false
-is-move (prepend-left p t) = false
-is-move (prepend-right p t) = false
+is-move (insert p t left front) = false
 is-move (append t) = false
 is-move (prepend t) = false
 is-move (relocate a b to) = true
@@ -84,10 +78,7 @@ abbrev pub in-replaced : Edit → ℕ → Bool
 in-replaced (remove a b) p = false
 in-replaced (update-with a b t o) p = ltb a p && ltb p b
 in-replaced (reset a b) p = false
-in-replaced (append-left q t) p = false
-in-replaced (append-right q t) p = false
-in-replaced (prepend-left q t) p = false
-in-replaced (prepend-right q t) p = false
+in-replaced (insert q t left front) p = false
 in-replaced (append t) p = false
 in-replaced (prepend t) p = false
 in-replaced (relocate a b to) p = false
@@ -106,10 +97,7 @@ abbrev pub is-wide : Edit → Bool
 is-wide (remove a b) = ltb a b
 is-wide (update-with a b t o) = ltb a b
 is-wide (reset a b) = ltb a b
-is-wide (append-left p t) = true
-is-wide (append-right p t) = true
-is-wide (prepend-left p t) = true
-is-wide (prepend-right p t) = true
+is-wide (insert p t left front) = true
 is-wide (append t) = true
 is-wide (prepend t) = true
 is-wide (relocate a b to) = true

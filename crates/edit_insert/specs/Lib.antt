@@ -1,1 +1,1 @@
-pub mod Insertions
+pub mod Addition

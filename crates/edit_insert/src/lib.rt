@@ -1,11 +1,12 @@
-// What append.rs and prepend.rs share as calls: the tests of the text and the position, then the insertion.
+// The insertions as calls: the tests of the text and the position, then the piece.
+ghost use Rattle.model.specs.Call.{insert};
 ghost use Rattle.memory_used.specs.Above.{Desk, Leaves};
-ghost use Rattle.edit_insert.specs.Insertions.{insertion, addition};
+ghost use Rattle.edit_insert.specs.Addition.{addition};
 use memory_layout::numbers;
 use memory_used::Outcome;
 use memory_used::Used;
 
-// `append_left`, `append_right`, `prepend_left`, `prepend_right`: 1, 3, then the cut and the piece, left or right of the position, at the front or the back of the list.
+// 1, 3, then the cut and the piece: left of the position or right, at the front of the piece list or the back.
 pub fn insert(
     source: &[u8],
     chunks: &mut [u32],
@@ -18,7 +19,7 @@ pub fn insert(
     used: Used,
 ) -> Outcome
     requires { ⌜ Desk (now source) (now chunks) (now pieces) (now store) used ⌝ }
-    ensures { λ o. ⌜ Leaves (insertion left front at (now (text .entry))) (now (source .entry)) (now (chunks .entry)) (now (pieces .entry)) (now (store .entry))
+    ensures { λ o. ⌜ Leaves (insert at (now (text .entry)) left front) (now (source .entry)) (now (chunks .entry)) (now (pieces .entry)) (now (store .entry))
         (now (chunks .exit)) (now (pieces .exit)) (now (store .exit)) o ⌝ }
 {
     if utf8::valid(text) {

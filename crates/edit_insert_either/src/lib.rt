@@ -1,7 +1,8 @@
-// What append.rs and prepend.rs share: a piece more at the front or the back of a chunk's intro or outro, or of the head or the tail.
+// A piece more at the front or the back of a chunk's intro or outro, or of the head or the tail.
 ghost use Prim.Native.Nat.{_+_};
 ghost use Rattle.memory_used.specs.Above.{Above, Desk};
 ghost use Rattle.edit_insert_side.specs.Calls.{InsertRan, WholeRan};
+use memory_layout::numbers;
 use memory_used::Outcome;
 use memory_used::Used;
 
@@ -34,7 +35,7 @@ fn insert_anew(
         front,
         used,
     );
-    if o.number != 13 {
+    if o.number != numbers::LIMIT {
         return o;
     }
     edit_insert_scratch::insert_scratch(source, chunks, pieces, store, text, q, left, front)
@@ -68,14 +69,13 @@ fn whole_anew(
         front,
         used,
     );
-    if o.number != 13 {
+    if o.number != numbers::LIMIT {
         return o;
     }
     edit_insert_scratch::whole_scratch(source, chunks, pieces, store, text, outro, front)
 }
 
-// An insertion past its tests: `append_left`, `append_right`, `prepend_left`, `prepend_right`. On the lent tables themselves where 13 cannot arise and there is room
-// above all that the desk uses; else laid out anew.
+// An insertion past its tests: on the lent tables themselves where 13 cannot arise and there is room above all that the desk uses; else laid out anew.
 pub fn insert_either(
     source: &[u8],
     chunks: &mut [u32],

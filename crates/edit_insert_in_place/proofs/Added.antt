@@ -1,26 +1,27 @@
 -- Laws of what `Added` in specs/ defines.
 use mathlib.Core.Path.{_≡_, refl, sym, ap, ap₂, _∙_, subst}
 use mathlib.Core.Bool.{Bool, true, false}
-use mathlib.Core.List.{List, _∷_, _++_, map, map-append}
-use Prim.Native.Nat.{ℕ, suc, _+_, _*_, _-_, _≤_}
+use mathlib.Core.List.{List, [], _∷_, _++_, map, map-append, append-nil}
+use Prim.Native.Nat.{ℕ, suc, _+_, _*_, _-_, _≤_, _<_}
 use native.Mathlib.Omega.{arith}
-use native.Mathlib.Numerals.{add-one}
 use lib.ListN.{length, take, drop, take-append-drop}
 use lib.Seq.{length-take-le, take-append-add}
 use Rattle.utf8.specs.Chars.{All}
 use Rattle.utf8.proofs.CharLaws.{all-front, all-back}
 use Rattle.memory_table.specs.declared.Row.{Row}
-use Rattle.memory_table.specs.declared.Piece.{Piece}
-use Rattle.memory_table.specs.Table.{rowAt, Put}
+use Rattle.memory_table.specs.Table.{rowAt}
 use Rattle.memory_table.specs.Order.{Entry, entryOf, entryAt, entries, order, countOf}
 use Rattle.memory_table.proofs.Order.{write-keeps}
-use Rattle.model.specs.Text.{sum}
+use Rattle.model.specs.Text.{Text, sum}
 use Rattle.model.specs.Limits.{chunk-pieces}
 use Rattle.model.proofs.Lists.{sum-append, first-of, rest-of}
-use Rattle.memory.specs.Layout.{Place, runOf, chunkOf, magicStringOf}
+use Rattle.memory.specs.Layout.{Place, bytesAt, pieceAt, runOf, chunkOf, magicStringOf}
 use Rattle.memory.specs.WellFormed.{RunIn, RunsIn, EntryIn, Readable, HoldsEach, Disjoint, among, pieceUses, runUses, listUses, byteUses, times}
-use Rattle.memory_texts.proofs.Over.{length-over}
+use Rattle.memory_texts.specs.Over.{over}
+use Rattle.model.specs.Insert.{push}
+use Rattle.memory_texts.proofs.Over.{length-over, over-part}
 use Rattle.memory_texts.proofs.Texts.{run-length, run-piece}
+use Rattle.memory.proofs.Desks.{piece-front}
 use Rattle.memory_list.specs.Find.{First}
 use Rattle.memory_list.specs.Insert.{runsOf}
 use Rattle.memory_list.specs.Split.{RowSet, DeskSet}
@@ -29,9 +30,9 @@ use Rattle.edit_scratch.proofs.Front.{run-front}
 use Rattle.memory_used.specs.declared.Used.{Used}
 use Rattle.memory_used.specs.Below.{Below}
 use Rattle.memory_used.proofs.Below.{run-below}
-use Rattle.edit_room_above.specs.Run.{TopRoom, Lengthened}
 use Rattle.edit_room_above.proofs.Apart.{rowUses, storeUses, apart-after, run-uses-front, list-uses-front, sum-uses-front}
-use Rattle.edit_room_above.proofs.Longer.{longer-rows, longer-bytes, longer-texts, longer-below, longer-among, longer-uses}
+use Rattle.edit_room_above.proofs.Longer.{longer-rows, longer-texts, longer-below, longer-among, longer-uses}
+use Rattle.edit_insert_row.specs.Added.{TextRoom, TextAdded}
 use Rattle.memory_table.specs.Sides.{side, with-side}
 use Rattle.edit_insert_side.specs.Piece.{Longer, PieceAdded}
 use Rattle.edit_insert_side.proofs.Piece.{side-in}
@@ -41,42 +42,71 @@ below-in : (p s : List ℕ) (row byte : ℕ) (x : Place) → Below p byte row x 
 unfolding RunIn
 below-in p s row byte x b hr hb k g = record { row = omega (arith, b k g .0); text = omega (arith, b k g .1) }
 
--- the row read, its run lengthened, and the row written
-pub added-on-top : (outro front : Bool) (text : List ℕ) (i row byte : ℕ) {P S P' S' t t' : List ℕ} (r : Row) (run : Piece) (first row' : ℕ) {x : Row}
-    → r ≡ rowAt t i → (run .at, run .n) ≡ side outro (entryOf r) → TopRoom (side outro (entryAt t i)) text P S row byte → RunIn (take (row * 2) P) (take byte S) (side outro (entryAt t i))
-    → Lengthened front text (run .at, run .n) row byte P S P' S' first → x ≡ with-side outro (first, run .n + 1) r → Put t t' i x → row' ≡ first + run .n + 1
-    → AddedOnTop outro front text row byte P S t t' P' S' i row'
-added-on-top outro front text i row byte {P} {S} {P'} {S'} {t} {t'} r run first row' er eu room h d ex pt ew =
-    let z : _≡_ {A = Place} (run .at, run .n) (side outro (entryAt t i)) = eu ∙ ap (λ (y : Row). side outro (entryOf y)) er in
-    let v = side outro (entryAt t i) in
-    let d' : Lengthened front text (side outro (entryAt t i)) row byte P S P' S' first = subst (λ (y : Place). Lengthened front text y row byte P S P' S' first) z d in
-    let e : _≡_ {A = Place} (first, run .n + 1) (first, suc (v .1)) = ap (λ (n : ℕ). (first, n)) (add-one (run .n)) ∙ ap (λ (y : Place). (first, suc (y .1))) z in
-    let ev : row' ≡ first + v .1 + 1 = ew ∙ ap (λ (y : Place). first + y .1 + 1) z in
-    let fits : byte + length text ≤ length S' = omega (arith, ap length (d .store-is), length-over S byte text (room .bytes-in), room .bytes-in) in
-    let to : row' * 2 ≤ length P' = omega (arith, room .rows-in, d' .to, d' .length-is) in
-    let below : Below P' (byte + length text) row' (first, suc (v .1)) = rw ev (longer-below room d' h) in
-    record {
-      added =
-          record {
-            run = (first, suc (v .1));
-            longer =
-                record {
-                  behind = drop (row * 2) P';
-                  after = text ++ drop (byte + length text) S;
-                  pieces = longer-rows room d' h;
-                  store = longer-bytes room d' h;
-                  texts = longer-texts room d' h;
-                  run-in = below-in P' S' row' (byte + length text) (first, suc (v .1)) below to fits;
-                };
-            put = subst (Put t t' i) (ex ∙ ap (with-side outro (first, run .n + 1)) er ∙ ap (λ (y : Place). with-side outro y (rowAt t i)) e) pt;
-          };
-      below = below;
-      from = omega (arith, d' .from);
-      to = to;
-      bytes-to = fits;
-      rows = longer-among room d' h;
-      uses = longer-uses room d' h;
-    }
+-- the text where it was put
+over-text : (s : List ℕ) (byte : ℕ) (text : List ℕ) → byte ≤ length s → bytesAt (over s byte text) (byte, length text) ≡ text
+over-text s byte text h = let z : byte + 0 ≡ byte = omega arith in rw (z, append-nil text) at (over-part s byte [] text [] h)
+
+-- a text put above a byte, and named by a run that is longer above a row
+module _ {outro front : Bool} {text : List ℕ} {row byte : ℕ} {P S t t' P' S' : List ℕ} {i row' : ℕ} (room : TextRoom (side outro (entryAt t i)) text P S row byte)
+    (h : RunIn (take (row * 2) P) (take byte S) (side outro (entryAt t i))) (d : TextAdded outro front text row byte t P S t' P' S' i row') where
+  abbrev x : Place
+  x = side outro (entryAt t i)
+
+  store-after : S' ≡ take byte S ++ (text ++ drop (byte + length text) S)
+  unfolding over
+  store-after = d .store-is
+
+  rows-front : P ≡ take (row * 2) P ++ drop (row * 2) P
+  rows-front = sym (take-append-drop (row * 2) P)
+
+  -- the run's texts lie below
+  old-texts : runOf P S' x ≡ runOf (take (row * 2) P) (take byte S) x
+  old-texts =
+      ap₂ (λ (a b : List ℕ). runOf a b x) rows-front store-after
+      ∙ run-front (take (row * 2) P) (take byte S) (drop (row * 2) P) (text ++ drop (byte + length text) S) x h
+
+  new-text : bytesAt S' (byte, length text) ≡ text
+  new-text = ap (λ (l : List ℕ). bytesAt l (byte, length text)) (d .store-is) ∙ over-text S byte text (omega (arith, room .bytes-in))
+
+  old-end : (k : ℕ) → k < x .1 → pieceAt P (x .0 + k) .0 + pieceAt P (x .0 + k) .1 ≤ byte + length text
+  unfolding RunIn
+  old-end k g =
+      let e : pieceAt P (x .0 + k) ≡ pieceAt (take (row * 2) P) (x .0 + k) =
+      ap (λ (l : List ℕ). pieceAt l (x .0 + k)) rows-front ∙ piece-front (take (row * 2) P) (drop (row * 2) P) (x .0 + k) (h k g .row) in
+      omega (arith, ap (λ (z : Place). z .0 + z .1) e, h k g .text, length-take-le byte S (omega (arith, room .bytes-in)))
+
+  old-uses : (b : ℕ) → runUses P b x ≡ runUses (take (row * 2) P) b x
+  old-uses b = ap (λ (l : List ℕ). runUses l b x) rows-front ∙ run-uses-front (take (row * 2) P) (take byte S) (drop (row * 2) P) b x h
+
+  pub added-on-top : AddedOnTop outro front text row byte P S t t' P' S' i row'
+  added-on-top =
+      let first = d .added .first in
+      let z = d .added .longer in
+      let fits : byte + length text ≤ length S' = omega (arith, ap length (d .store-is), length-over S byte text (room .bytes-in), room .bytes-in) in
+      let to : row' * 2 ≤ length P' = omega (arith, room .rows .rows-in, z .to, z .length-is, d .added .above-is) in
+      let below : Below P' (byte + length text) row' (first, suc (x .1)) = rw (d .added .above-is) (longer-below z (byte + length text) (omega arith) old-end) in
+      record {
+        added =
+            record {
+              run = (first, suc (x .1));
+              longer =
+                  record {
+                    behind = drop (row * 2) P';
+                    after = text ++ drop (byte + length text) S;
+                    pieces = longer-rows z;
+                    store = store-after;
+                    texts = longer-texts z S' ∙ ap₂ (λ (u : Text) (l : List Text). push front u l) new-text old-texts;
+                    run-in = below-in P' S' row' (byte + length text) (first, suc (x .1)) below to fits;
+                  };
+              put = d .added .put;
+            };
+        below = below;
+        from = omega (arith, z .from, d .added .above-is);
+        to = to;
+        bytes-to = fits;
+        rows = longer-among z;
+        uses = λ b. longer-uses z b ∙ ap (λ (n : ℕ). n + among (byte, length text) b) (old-uses b);
+      }
 
 -- what lies below a row and a byte that a run is below is longer by it too
 longer-cut : {p s : List ℕ} {front : Bool} {text : List ℕ} {x : Place} {p' s' : List ℕ} {y : Place} (row byte : ℕ) → Longer p s front text x p' s' y → Below p' byte row y
@@ -242,12 +272,15 @@ module _ (outro front : Bool) (text : List ℕ) (row byte : ℕ) (P S t t' P' S'
       }
 
 -- ── room for it ──
-room-of : (t P S text : List ℕ) (l : Used) (x : Place) → TopReady t P S text l → RunIn (take (l .row * 2) P) (take (l .byte) S) x → x .1 ≤ l .pieces → TopRoom x text P S (l .row) (l .byte)
+room-of : (t P S text : List ℕ) (l : Used) (x : Place) → TopReady t P S text l → RunIn (take (l .row * 2) P) (take (l .byte) S) x → x .1 ≤ l .pieces → TextRoom x text P S (l .row) (l .byte)
 room-of t P S text l x k h f =
     let lp = length-take-le (l .row * 2) P (omega (arith, k .rows)) in
     record {
-      under = λ g. let q = run-piece (take (l .row * 2) P) (take (l .byte) S) (x .0) (x .1) (x .1 - 1) h (omega arith) .row in omega arith;
-      rows-in = omega (arith, k .rows);
+      rows =
+          record {
+            under = λ g. let q = run-piece (take (l .row * 2) P) (take (l .byte) S) (x .0) (x .1) (x .1 - 1) h (omega arith) .row in omega arith;
+            rows-in = omega (arith, k .rows);
+          };
       bytes-in = omega (arith, k .bytes);
       narrow = omega (arith, k .lent-store);
     }
@@ -257,14 +290,14 @@ side-few true p s e n h = omega (arith, run-length p s (e .outro .0) (e .outro .
 side-few false p s e n h = omega (arith, run-length p s (e .intro .0) (e .intro .1))
 
 pub whole-ready : (outro : Bool) (t P S text : List ℕ) (l : Used) → TopReady t P S text l
-    → TopRoom (side outro (entryAt t 0)) text P S (l .row) (l .byte) × RunIn (take (l .row * 2) P) (take (l .byte) S) (side outro (entryAt t 0))
+    → TextRoom (side outro (entryAt t 0)) text P S (l .row) (l .byte) × RunIn (take (l .row * 2) P) (take (l .byte) S) (side outro (entryAt t 0))
 unfolding magicStringOf
 whole-ready outro t P S text l k =
     let h = side-in outro (entryAt t 0) (k .readable .desk) in
     (room-of t P S text l (side outro (entryAt t 0)) k h (side-few outro (take (l .row * 2) P) (take (l .byte) S) (entryAt t 0) (l .pieces) (omega (arith, k .pieces))), h)
 
 pub found-ready : (outro : Bool) (f : Entry → Bool) (t P S text : List ℕ) (i : ℕ) (l : Used) → First f t i → TopReady t P S text l
-    → TopRoom (side outro (entryAt t i)) text P S (l .row) (l .byte) × RunIn (take (l .row * 2) P) (take (l .byte) S) (side outro (entryAt t i))
+    → TextRoom (side outro (entryAt t i)) text P S (l .row) (l .byte) × RunIn (take (l .row * 2) P) (take (l .byte) S) (side outro (entryAt t i))
 unfolding magicStringOf
 found-ready outro f t P S text i l w k =
     let p = take (l .row * 2) P in

@@ -11,14 +11,15 @@ use Rattle.memory_layout.specs.Layout.{ROW}
 use Rattle.memory_table.specs.Ring.{Each}
 use Rattle.memory_table.specs.Order.{entryAt, order, countOf}
 use Rattle.model.specs.Text.{Text, sum}
-use Rattle.model.specs.Chunk.{Chunk, Texts, with-texts, start-of, end-of}
-use Rattle.model.specs.MagicString.{MagicString, Result, ok, err, and-then, with-chunks, with-intro, with-outro, by-start, by-end, at-start, at-end}
+use Rattle.model.specs.Chunk.{Chunk, Texts, with-texts}
+use Rattle.model.specs.MagicString.{MagicString, Result, ok, err, and-then, with-chunks, with-whole, edge, by-edge, at-edge, by-edge-mut}
+use Rattle.model.specs.Insert.{push, push-to, insert, insert-step}
+use Rattle.model.proofs.Insert.{push-length, push-sum}
 use Rattle.model.specs.Limits.{within, chunk-pieces, chunk-bytes, byte-count, piece-count}
 use Rattle.memory.specs.Layout.{magicStringOf}
 use Rattle.memory.specs.WellFormed.{limitsOf, Readable}
 use Rattle.memory.specs.Calls.{Ran}
 use Rattle.memory.proofs.Desks.{chunk-count, source-of, keeps-within}
-use Rattle.memory_texts.specs.Carry.{withText}
 use Rattle.memory_list.specs.Find.{meets, First}
 use Rattle.edit_row_laws.specs.Kept.{Kept}
 use Rattle.edit_row_laws.proofs.Kept.{kept-same, kept-apart, fewer-pieces, fewer-bytes}
@@ -32,11 +33,9 @@ use Rattle.memory_used.specs.Above.{Above, Desk}
 use Rattle.edit_room_above.specs.Live.{Room}
 use Rattle.edit_room_above.proofs.Bounds.{read-below}
 use Rattle.edit_room_above.proofs.Finishing.{bytes-below}
-use Rattle.edit_insert_side.proofs.Piece.{with-length}
-use Rattle.edit_insert_side.specs.Insertion.{add-to, whole-add, insert-step, insert-at, key-of}
+use Rattle.edit_insert_side.specs.Insertion.{whole-add, key-of}
 use Rattle.edit_insert_side.proofs.Insertion.{inserted-found, inserted-whole, whole-added}
 use Rattle.edit_insert_side.specs.Calls.{InsertRan, WholeRan}
-use Rattle.edit_insert_side.proofs.Calls.{with-sum}
 use Rattle.edit_insert_in_place.specs.Added.{AddedOnTop, TopReady}
 use Rattle.edit_insert_in_place.proofs.Added.{cut, found-on-top, whole-on-top}
 use Rattle.edit_insert_in_place.specs.Calls.{grown, InsertedTop}
@@ -48,87 +47,49 @@ pub record OneMore (t : Text) (m m' : MagicString) : Type 0 where
   pub bytes : byte-count m' ≤ byte-count m + length t
   pub chunks : length (m' .chunks) ≡ length (m .chunks)
 
-module _ (q : ℕ) (f : Texts → Texts) where
-  module _ (w : Chunk → ℕ) (n : ℕ) (more : (c : Chunk) → w (with-texts f c) ≤ w c + n) where
-    end-more : (cs : List Chunk) → sum w (at-end q f cs) ≤ sum w cs + n
-    end-more [] = omega arith
-    end-more (c ∷ cs) = go (end-more cs) (eqb (end-of c) q)
-      where
-        go : sum w (at-end q f cs) ≤ sum w cs + n → (b : Bool) → sum w (cond b (with-texts f c ∷ cs) (c ∷ at-end q f cs)) ≤ w c + sum w cs + n
-        go ih true = omega (arith, more c)
-        go ih false = omega arith
-
-    start-more : (cs : List Chunk) → sum w (at-start q f cs) ≤ sum w cs + n
-    start-more [] = omega arith
-    start-more (c ∷ cs) = go (start-more cs) (eqb (start-of c) q)
-      where
-        go : sum w (at-start q f cs) ≤ sum w cs + n → (b : Bool) → sum w (cond b (with-texts f c ∷ cs) (c ∷ at-start q f cs)) ≤ w c + sum w cs + n
-        go ih true = omega (arith, more c)
-        go ih false = omega arith
-
-  end-length : (cs : List Chunk) → length (at-end q f cs) ≡ length cs
-  end-length [] = refl
-  end-length (c ∷ cs) = go (end-length cs) (eqb (end-of c) q)
+module _ (left : Bool) (q : ℕ) (f : Texts → Texts) where
+  edge-more : (w : Chunk → ℕ) (n : ℕ) → ((c : Chunk) → w (with-texts f c) ≤ w c + n) → (cs : List Chunk) → sum w (at-edge left q f cs) ≤ sum w cs + n
+  edge-more w n more [] = omega arith
+  edge-more w n more (c ∷ cs) = go (edge-more w n more cs) (eqb (edge left (c .span)) q)
     where
-      go : length (at-end q f cs) ≡ length cs → (b : Bool) → length (cond b (with-texts f c ∷ cs) (c ∷ at-end q f cs)) ≡ suc (length cs)
+      go : sum w (at-edge left q f cs) ≤ sum w cs + n → (b : Bool) → sum w (cond b (with-texts f c ∷ cs) (c ∷ at-edge left q f cs)) ≤ w c + sum w cs + n
+      go ih true = omega (arith, more c)
+      go ih false = omega arith
+
+  edge-length : (cs : List Chunk) → length (at-edge left q f cs) ≡ length cs
+  edge-length [] = refl
+  edge-length (c ∷ cs) = go (edge-length cs) (eqb (edge left (c .span)) q)
+    where
+      go : length (at-edge left q f cs) ≡ length cs → (b : Bool) → length (cond b (with-texts f c ∷ cs) (c ∷ at-edge left q f cs)) ≡ suc (length cs)
       go ih true = refl
       go ih false = ap suc ih
 
-  start-length : (cs : List Chunk) → length (at-start q f cs) ≡ length cs
-  start-length [] = refl
-  start-length (c ∷ cs) = go (start-length cs) (eqb (start-of c) q)
-    where
-      go : length (at-start q f cs) ≡ length cs → (b : Bool) → length (cond b (with-texts f c ∷ cs) (c ∷ at-start q f cs)) ≡ suc (length cs)
-      go ih true = refl
-      go ih false = ap suc ih
+push-pieces : (left front : Bool) (t : Text) (c : Chunk) → chunk-pieces (with-texts (push-to left front t) c) ≤ chunk-pieces c + 1
+push-pieces true front t c = omega (arith, push-length front t (c .texts .outro))
+push-pieces false front t c = omega (arith, push-length front t (c .texts .intro))
 
-add-pieces : (outro front : Bool) (t : Text) (c : Chunk) → chunk-pieces (with-texts (add-to outro front t) c) ≤ chunk-pieces c + 1
-add-pieces true front t c = omega (arith, with-length front t (c .texts .outro))
-add-pieces false front t c = omega (arith, with-length front t (c .texts .intro))
+push-bytes : (left front : Bool) (t : Text) (c : Chunk) → chunk-bytes (with-texts (push-to left front t) c) ≤ chunk-bytes c + length t
+push-bytes true front t c = omega (arith, push-sum front t (c .texts .outro))
+push-bytes false front t c = omega (arith, push-sum front t (c .texts .intro))
 
-add-bytes : (outro front : Bool) (t : Text) (c : Chunk) → chunk-bytes (with-texts (add-to outro front t) c) ≤ chunk-bytes c + length t
-add-bytes true front t c = omega (arith, with-sum front t (c .texts .outro))
-add-bytes false front t c = omega (arith, with-sum front t (c .texts .intro))
+pub whole-more : (left front : Bool) (t : Text) (m : MagicString) → OneMore t m (with-whole left m (push front t))
+whole-more true front t m = record { pieces = omega (arith, push-length front t (m .intro)); bytes = omega (arith, push-sum front t (m .intro)); chunks = refl }
+whole-more false front t m = record { pieces = omega (arith, push-length front t (m .outro)); bytes = omega (arith, push-sum front t (m .outro)); chunks = refl }
 
-pub whole-more : (outro front : Bool) (t : Text) (m : MagicString) → OneMore t m (whole-add outro front t m)
-whole-more true front t m = record { pieces = omega (arith, with-length front t (m .outro)); bytes = omega (arith, with-sum front t (m .outro)); chunks = refl }
-whole-more false front t m = record { pieces = omega (arith, with-length front t (m .intro)); bytes = omega (arith, with-sum front t (m .intro)); chunks = refl }
-
-pub step-more : (left front : Bool) (q : ℕ) (t : Text) (m : MagicString) → OneMore t m (insert-step left front q t m .desk)
-step-more true front q t m = go (by-end q (m .chunks))
+pub step-more : (left front : Bool) (q : ℕ) (t : Text) (m : MagicString) → OneMore t m (insert-step q t left front m .desk)
+step-more left front q t m = go (by-edge left q (m .chunks))
   where
-    here : OneMore t m (with-chunks m (at-end q (add-to true front t) (m .chunks)))
-    here =
-        record {
-          pieces = omega (arith, end-more q (add-to true front t) chunk-pieces 1 (add-pieces true front t) (m .chunks));
-          bytes = omega (arith, end-more q (add-to true front t) chunk-bytes (length t) (add-bytes true front t) (m .chunks));
-          chunks = end-length q (add-to true front t) (m .chunks);
-        }
+    f : Texts → Texts
+    f = push-to left front t
 
-    go : (o : Option Chunk) → OneMore t m (elim o as (λ _. Result) [
-      | none ↦ ok (with-intro m (withText front t (m .intro)))
-      | some c ↦
-          ok (with-chunks m (at-end q (add-to true front t) (m .chunks)))
-    ] .desk)
-    go none = whole-more false front t m
-    go (some c) = here
-step-more false front q t m = go (by-start q (m .chunks))
-  where
-    here : OneMore t m (with-chunks m (at-start q (add-to false front t) (m .chunks)))
-    here =
+    go : (o : Option Chunk) → OneMore t m (elim o as (λ _. Result) [ none ↦ ok (with-whole left m (push front t)) | some c ↦ ok (with-chunks m (at-edge left q f (m .chunks))) ] .desk)
+    go none = whole-more left front t m
+    go (some c) =
         record {
-          pieces = omega (arith, start-more q (add-to false front t) chunk-pieces 1 (add-pieces false front t) (m .chunks));
-          bytes = omega (arith, start-more q (add-to false front t) chunk-bytes (length t) (add-bytes false front t) (m .chunks));
-          chunks = start-length q (add-to false front t) (m .chunks);
+          pieces = omega (arith, edge-more left q f chunk-pieces 1 (push-pieces left front t) (m .chunks));
+          bytes = omega (arith, edge-more left q f chunk-bytes (length t) (push-bytes left front t) (m .chunks));
+          chunks = edge-length left q f (m .chunks);
         }
-
-    go : (o : Option Chunk) → OneMore t m (elim o as (λ _. Result) [
-      | none ↦ ok (with-outro m (withText front t (m .outro)))
-      | some c ↦
-          ok (with-chunks m (at-start q (add-to false front t) (m .chunks)))
-    ] .desk)
-    go none = whole-more true front t m
-    go (some c) = here
 
 -- the rows and the bytes below a bound
 abbrev rowsBelow : Used → List ℕ → List ℕ
@@ -212,7 +173,7 @@ module _ (left front : Bool) (q : ℕ) (text P S t t' P' S' : List ℕ) (l : Use
         to = a .to;
       }
 
--- ── the call, for any of the four ──
+-- ── the call ──
 module _ (left front : Bool) (q : ℕ) (text : List ℕ) {source t P S t1 : List ℕ} {l : Used} {r : ℕ} (w : Desk source t P S l)
     (rm : Room (length t) (length P) (length S) l (countOf t + 1) (length text)) (c : CutsDone (q ∷ []) t t1 r) where
   cut-low : Readable t1 (rowsBelow l P) (bytesBelow l S)
@@ -228,10 +189,11 @@ module _ (left front : Bool) (q : ℕ) (text : List ℕ) {source t P S t1 : List
   leave = c .leave source P S (w .well-formed .readable) (formed-spans (w .well-formed))
 
   pub top-refused : length t1 ≡ length t → (r ≡ 0 → ⊥) → InsertRan left front q text source t P S t1 P S r × Above t1 P S l
+  unfolding by-edge-mut
   top-refused len n = (
     λ e h q' i.
         let z : t1 ≡ t = c .alone refl n in
-        let step = insert-step left front q text in
+        let step = insert-step q text left front in
         subst (λ (u : List ℕ). Ran e source t P S u P S r) (sym z)
         (ran-same e source t P S r (w .well-formed) h
         (q' (magicStringOf source t P S) ∙ leave .result step ∙ stop r (magicStringOf source t1 P S) step n ∙ ap (λ (u : List ℕ). err r (magicStringOf source u P S)) z)),
@@ -245,8 +207,9 @@ module _ (left front : Bool) (q : ℕ) (text : List ℕ) {source t P S t1 : List
         let m = magicStringOf [] t1 (rowsBelow l P) (bytesBelow l S) in
         subst (OneMore text m) (ap (λ (y : Result). y .desk) (x .did [] .result)) (step-more left front q text m)
 
-    cut-made : insert-at left front q text (magicStringOf source t P S) ≡ insert-step left front q text (magicStringOf source t1 P S)
-    cut-made = leave .result (insert-step left front q text) ∙ ap (λ (n : ℕ). and-then (err n (magicStringOf source t1 P S)) (insert-step left front q text)) z
+    cut-made : insert q text left front (magicStringOf source t P S) ≡ insert-step q text left front (magicStringOf source t1 P S)
+    unfolding by-edge-mut
+    cut-made = leave .result (insert-step q text left front) ∙ ap (λ (n : ℕ). and-then (err n (magicStringOf source t1 P S)) (insert-step q text left front)) z
 
     top-inserted : InsertRan left front q text source t P S t' P' S' 0
     top-inserted e h q' i =
@@ -255,7 +218,7 @@ module _ (left front : Bool) (q : ℕ) (text : List ℕ) {source t P S t1 : List
           readable = x .did source .readable;
           result =
               q' (magicStringOf source t P S) ∙ cut-made
-              ∙ ap (insert-step left front q text) (read-below t1 P S (l .row) (l .byte) cut-low source)
+              ∙ ap (insert-step q text left front) (read-below t1 P S (l .row) (l .byte) cut-low source)
               ∙ x .did source .result;
         })
         (may-write-0 e i)
@@ -284,7 +247,7 @@ module _ (outro front : Bool) (text : List ℕ) {source t P S : List ℕ} {l : U
     whole-one-more : OneMore text (magicStringOf [] t (rowsBelow l P) (bytesBelow l S)) (magicStringOf [] t' P' S')
     whole-one-more =
         let m = magicStringOf [] t (rowsBelow l P) (bytesBelow l S) in
-        subst (OneMore text m) (ap (λ (y : Result). y .desk) (did [] .result)) (whole-more outro front text m)
+        subst (OneMore text m) (ap (λ (y : Result). y .desk) (did [] .result)) (whole-more (not outro) front text m)
 
     whole-top-ran : WholeRan outro front text source t P S t' P' S' 0
     whole-top-ran e h q i =

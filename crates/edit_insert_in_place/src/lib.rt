@@ -9,7 +9,7 @@ ghost use Rattle.memory_used.specs.Above.{Above, Desk};
 ghost use Rattle.memory_table.specs.Sides.{side};
 ghost use Rattle.edit_insert_side.specs.Calls.{InsertRan, WholeRan};
 ghost use Rattle.edit_room_above.specs.Live.{Room};
-ghost use Rattle.edit_room_above.specs.Run.{TopRoom};
+ghost use Rattle.edit_insert_row.specs.Added.{TextRoom};
 ghost use Rattle.edit_insert_in_place.specs.Added.{AddedOnTop, TopReady};
 ghost use Rattle.edit_insert_in_place.specs.Calls.{InsertedTop, grown};
 use memory_list::Found;
@@ -31,20 +31,12 @@ fn add_in_place(
 ) -> usize
     requires { ⌜ i * ROW + ROW ≤ length (now chunks) ⌝ }
     requires { ⌜ length (now pieces) ≤ PIECES-LEN ⌝ }
-    requires { ⌜ TopRoom (side outro (entryAt (now chunks) i)) (now text) (now pieces) (now store) row byte ⌝ }
+    requires { ⌜ TextRoom (side outro (entryAt (now chunks) i)) (now text) (now pieces) (now store) row byte ⌝ }
     requires { ⌜ RunIn (take (row * 2) (now pieces)) (take byte (now store)) (side outro (entryAt (now chunks) i)) ⌝ }
     ensures { λ above. ⌜ AddedOnTop outro front (now (text .entry)) row byte (now (pieces .entry)) (now (store .entry)) (now (chunks .entry))
         (now (chunks .exit)) (now (pieces .exit)) (now (store .exit)) i above ⌝ }
 {
-    let r = memory_table::get_row(chunks, i);
-    let run = memory_table::side(r, outro);
-    let first = edit_room_above::lengthen(pieces, store, text, front, run.at, run.n, row, byte);
-    memory_table::put_row(
-        chunks,
-        i,
-        memory_table::with_side(r, outro, first as u32, run.n + 1),
-    );
-    first + run.n as usize + 1
+    edit_insert_row::add_text(chunks, pieces, store, text, i, outro, front, row, byte)
 }
 
 // As `insert_rows`, on top of the lent tables.

@@ -1,23 +1,20 @@
 -- A run lengthened behind the lent tables: what stands at the front of the scratch tables is read as in the lent ones.
-use mathlib.Core.Path.{_≡_, refl, ap, ap₂, _∙_, subst}
+use mathlib.Core.Path.{_≡_, ap, ap₂, _∙_, subst}
 use mathlib.Core.Bool.{Bool}
 use mathlib.Core.List.{List, _++_, append-assoc}
 use Prim.Native.Nat.{ℕ, _+_, _*_, _-_, _≤_}
 use native.Mathlib.Omega.{arith}
 use lib.ListN.{length, take}
 use lib.Seq.{take-append-add}
-use Rattle.memory_table.specs.declared.Row.{Row}
-use Rattle.memory_table.specs.declared.Piece.{Piece}
-use Rattle.memory_table.specs.Table.{rowAt, Put}
-use Rattle.memory_table.specs.Order.{entryOf, entryAt}
+use Rattle.memory_table.specs.Order.{entryAt}
 use Rattle.memory.specs.Layout.{Place}
 use Rattle.memory.specs.WellFormed.{RunIn}
-use Rattle.memory_texts.specs.Carry.{withText}
+use Rattle.model.specs.Insert.{push}
 use Rattle.memory_texts.proofs.Texts.{run-length, run-piece}
 use Rattle.edit_scratch.proofs.Front.{run-in-front, run-front}
 use Rattle.edit_split_at.specs.Lift.{RunSmall}
-use Rattle.edit_room_above.specs.Run.{TopRoom, Lengthened}
-use Rattle.memory_table.specs.Sides.{side, with-side}
+use Rattle.memory_table.specs.Sides.{side}
+use Rattle.edit_insert_row.specs.Added.{TextRoom, TextAdded}
 use Rattle.edit_insert_side.specs.Piece.{Spare, Longer, PieceAdded}
 use Rattle.edit_insert_in_place.proofs.Added.{added-on-top}
 use Rattle.memory_layout.specs.Layout.{PIECE-ROWS, PIECES-LEN, STORE-LEN}
@@ -35,7 +32,7 @@ longer-front p y s z {front} {text} {x} h l =
       after = z ++ l .after;
       pieces = l .pieces ∙ append-assoc p y (l .behind);
       store = l .store ∙ append-assoc s z (l .after);
-      texts = l .texts ∙ ap (withText front text) (run-front p s y z x h);
+      texts = l .texts ∙ ap (push front text) (run-front p s y z x h);
       run-in = l .run-in;
     }
 
@@ -57,24 +54,24 @@ module _ {p s p1 s1 : List ℕ} (h : Spare p s p1 s1) (x : Place) (k : RunIn p s
   front-in = rw (rows-front, bytes-front) (run-in-front p s y z x k)
 
   -- with room behind it
-  pub behind-room : (text : List ℕ) → RunSmall p s x → length text ≤ STORE-LEN → TopRoom x text p1 s1 PIECE-ROWS STORE-LEN
+  pub behind-room : (text : List ℕ) → RunSmall p s x → length text ≤ STORE-LEN → TextRoom x text p1 s1 PIECE-ROWS STORE-LEN
   behind-room text f l =
       record {
-        under = λ g. let q = run-piece p s (x .0) (x .1) (x .1 - 1) k (omega arith) .row in omega (arith, h .lent-pieces);
-        rows-in = omega (arith, h .rows-room, f .pieces, run-length p s (x .0) (x .1));
+        rows =
+            record {
+              under = λ g. let q = run-piece p s (x .0) (x .1) (x .1 - 1) k (omega arith) .row in omega (arith, h .lent-pieces);
+              rows-in = omega (arith, h .rows-room, f .pieces, run-length p s (x .0) (x .1));
+            };
         bytes-in = omega (arith, h .bytes-room);
         narrow = h .narrow;
       }
 
--- the row read, its run lengthened, and the row written
-pub piece-added : (outro front : Bool) (text : List ℕ) {p s p1 s1 p' s' t t' : List ℕ} (i : ℕ) (r : Row) (run : Piece) (first : ℕ) {x : Row}
-    → r ≡ rowAt t i → (run .at, run .n) ≡ side outro (entryOf r) → RunIn p s (side outro (entryAt t i)) → RunSmall p s (side outro (entryAt t i)) → Spare p s p1 s1
-    → length text ≤ STORE-LEN → Lengthened front text (run .at, run .n) PIECE-ROWS STORE-LEN p1 s1 p' s' first → x ≡ with-side outro (first, run .n + 1) r → Put t t' i x
-    → PieceAdded outro front text p s t t' p' s' i
-piece-added outro front text {p} {s} {p1} {s1} {p'} {s'} {t} {t'} i r run first er eu k f h l d ex pt =
+-- the text put behind the lent store, and named by the row
+pub piece-added : {outro front : Bool} {text p s p1 s1 p' s' t t' : List ℕ} {i above : ℕ} → RunIn p s (side outro (entryAt t i)) → RunSmall p s (side outro (entryAt t i)) → Spare p s p1 s1
+    → length text ≤ STORE-LEN → TextAdded outro front text PIECE-ROWS STORE-LEN t p1 s1 t' p' s' i above → PieceAdded outro front text p s t t' p' s' i
+piece-added {outro} {front} {text} {p} {s} {p1} {s1} {p'} {s'} {t} {t'} {i} k f h l d =
     let v = side outro (entryAt t i) in
-    let room = behind-room h v k text f l in
-    let a = added-on-top outro front text i PIECE-ROWS STORE-LEN r run first (first + run .n + 1) er eu room (front-in h v k) d ex pt refl .added in
+    let a = added-on-top (behind-room h v k text f l) (front-in h v k) d .added in
     record {
       run = a .run;
       longer =

@@ -34,22 +34,16 @@ fn add_piece(
     requires { ⌜ length (now text) ≤ STORE-LEN ⌝ }
     ensures { λ _. ⌜ PieceAdded outro front (now (text .entry)) (now (pieces .entry)) (now (store .entry)) (now (t .entry)) (now (t .exit)) (now (p .exit)) (now (s .exit)) i ⌝ }
 {
-    let r = memory_table::get_row(t, i);
-    let run = memory_table::side(r, outro);
-    let first = edit_room_above::lengthen(
+    edit_insert_row::add_text(
+        t,
         p,
         s,
         text,
+        i,
+        outro,
         front,
-        run.at,
-        run.n,
         memory_layout::PIECE_ROWS,
         memory_layout::STORE_LEN,
-    );
-    memory_table::put_row(
-        t,
-        i,
-        memory_table::with_side(r, outro, first as u32, run.n + 1),
     );
 }
 
@@ -214,7 +208,7 @@ pub fn whole_scratch(
         × Above (now (chunks .exit)) (now (pieces .exit)) (now (store .exit)) (o .used) ⌝ }
 {
     if text.len() > memory_layout::STORE_LEN {
-        return edit_room_above::counted(chunks, pieces, store, 13);
+        return edit_room_above::counted(chunks, pieces, store, numbers::LIMIT);
     }
     let rows = memory_layout::SCRATCH_LEN;
     let words = memory_layout::INSERT_PIECES_LEN;

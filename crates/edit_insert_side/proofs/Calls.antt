@@ -1,25 +1,25 @@
 -- Laws of what `Calls` in specs/ defines.
 use mathlib.Core.Path.{_≡_, refl, sym, ap, _∙_}
-use mathlib.Core.Bool.{Bool, true, false, _||_, cond}
+use mathlib.Core.Bool.{Bool, true, false, _||_, not, cond}
 use mathlib.Core.List.{List, [], _∷_}
 use mathlib.Core.Option.{Option, none, some}
 use mathlib.Core.Logic.{_⊎_, inl, inr}
-use Prim.Native.Nat.{ℕ, _+_, _≤_, _<_}
+use Prim.Native.Nat.{ℕ, _≤_, _<_}
 use native.Mathlib.Omega.{arith}
 use lib.Dec.{leb, eqb}
 use lib.ListN.{length}
 use Rattle.model.specs.Text.{Text, sum, is-some}
-use Rattle.model.specs.Chunk.{Chunk, Texts, with-texts, start-of, end-of}
-use Rattle.model.specs.MagicString.{MagicString, Result, ok, err, and-then, with-chunks, with-intro, with-outro, by-start, by-end, at-start, at-end, holder, refuses-split}
-use Rattle.model.specs.MagicString.{split-holder, split-at}
+use Rattle.model.specs.Chunk.{Chunk, Texts, with-texts}
+use Rattle.model.specs.MagicString.{MagicString, Result, ok, err, and-then, with-chunks, with-whole, edge, by-edge, by-end, at-edge, holder, refuses-split, split-holder}
+use Rattle.model.specs.MagicString.{split-at, by-edge-mut}
+use Rattle.model.specs.Insert.{push, push-to, insert, insert-step}
 use Rattle.model.specs.Limits.{full, within, chunk-bytes, byte-count}
 use Rattle.model.specs.Call.{Edit, steps}
-use Rattle.model.proofs.Lists.{sum-append}
+use Rattle.model.proofs.Insert.{push-sum}
 use Rattle.memory.specs.Layout.{magicStringOf}
 use Rattle.memory.specs.WellFormed.{Readable, WellFormed}
 use Rattle.memory.proofs.Desks.{desk-full}
 use Rattle.memory.specs.Calls.{Ran}
-use Rattle.memory_texts.specs.Carry.{withText}
 use Rattle.edit_rebuild.specs.Rebuilt.{Finished}
 use Rattle.edit_scratch.specs.Loaded.{Loaded}
 use Rattle.edit_scratch.proofs.Tables.{past-bytes, loaded-desk, ran-finished, ran-same, ran-past-limits, may-write-0}
@@ -29,52 +29,34 @@ use Rattle.edit_split_at.proofs.Lift.{desk-small}
 use Rattle.edit_split_at.specs.Cuts.{Spans, CutsDone}
 use Rattle.edit_split_at.proofs.Cuts.{loaded-spans}
 use Rattle.edit_insert_side.specs.Piece.{LongScratch}
-use Rattle.edit_insert_side.specs.Insertion.{add-to, whole-add, insert-step, insert-at}
+use Rattle.edit_insert_side.specs.Insertion.{whole-add}
 use Rattle.edit_insert_side.specs.Calls.{Inserted, InsertSteps, InsertRan, WholeRan}
 
 -- ── a text longer than the store ──
-pub with-sum : (front : Bool) (t : Text) (ts : List Text) → sum length (withText front t ts) ≡ length t + sum length ts
-with-sum true t ts = refl
-with-sum false t ts = sum-append length ts (t ∷ []) ∙ omega arith
-
-module _ (q n : ℕ) (f : Texts → Texts) (big : (c : Chunk) → n ≤ chunk-bytes (with-texts f c)) where
-  end-big : (cs : List Chunk) (d : Chunk) → by-end q cs ≡ some d → n ≤ sum chunk-bytes (at-end q f cs)
-  end-big [] d e = let z : _≡_ {A = ℕ} 0 1 = cc in absurd (omega arith)
-  end-big (c ∷ cs) d e = go (end-big cs d) (eqb (end-of c) q) refl
+module _ (left : Bool) (q n : ℕ) (f : Texts → Texts) (big : (c : Chunk) → n ≤ chunk-bytes (with-texts f c)) where
+  edge-big : (cs : List Chunk) (d : Chunk) → by-edge left q cs ≡ some d → n ≤ sum chunk-bytes (at-edge left q f cs)
+  edge-big [] d e = let z : _≡_ {A = ℕ} 0 1 = cc in absurd (omega arith)
+  edge-big (c ∷ cs) d e = go (edge-big cs d) (eqb (edge left (c .span)) q) refl
     where
-      go : (by-end q cs ≡ some d → n ≤ sum chunk-bytes (at-end q f cs)) → (b : Bool) → eqb (end-of c) q ≡ b → n ≤ sum chunk-bytes (at-end q f (c ∷ cs))
+      go : (by-edge left q cs ≡ some d → n ≤ sum chunk-bytes (at-edge left q f cs)) → (b : Bool) → eqb (edge left (c .span)) q ≡ b → n ≤ sum chunk-bytes (at-edge left q f (c ∷ cs))
       go ih true k = rw k (omega (arith, big c))
       go ih false k = rw k (omega (arith, ih (rw k at e)))
 
-  start-big : (cs : List Chunk) (d : Chunk) → by-start q cs ≡ some d → n ≤ sum chunk-bytes (at-start q f cs)
-  start-big [] d e = let z : _≡_ {A = ℕ} 0 1 = cc in absurd (omega arith)
-  start-big (c ∷ cs) d e = go (start-big cs d) (eqb (start-of c) q) refl
-    where
-      go : (by-start q cs ≡ some d → n ≤ sum chunk-bytes (at-start q f cs)) → (b : Bool) → eqb (start-of c) q ≡ b → n ≤ sum chunk-bytes (at-start q f (c ∷ cs))
-      go ih true k = rw k (omega (arith, big c))
-      go ih false k = rw k (omega (arith, ih (rw k at e)))
+push-big : (left front : Bool) (t : Text) (c : Chunk) → length t ≤ chunk-bytes (with-texts (push-to left front t) c)
+push-big true front t c = omega (arith, push-sum front t (c .texts .outro))
+push-big false front t c = omega (arith, push-sum front t (c .texts .intro))
 
-add-big : (outro front : Bool) (t : Text) (c : Chunk) → length t ≤ chunk-bytes (with-texts (add-to outro front t) c)
-add-big true front t c = omega (arith, with-sum front t (c .texts .outro))
-add-big false front t c = omega (arith, with-sum front t (c .texts .intro))
+whole-big : (left front : Bool) (t : Text) (m : MagicString) → length t ≤ byte-count (with-whole left m (push front t))
+whole-big true front t m = omega (arith, push-sum front t (m .intro))
+whole-big false front t m = omega (arith, push-sum front t (m .outro))
 
-pub whole-big : (outro front : Bool) (t : Text) (m : MagicString) → length t ≤ byte-count (whole-add outro front t m)
-whole-big true front t m = omega (arith, with-sum front t (m .outro))
-whole-big false front t m = omega (arith, with-sum front t (m .intro))
-
-step-big : (left front : Bool) (q : ℕ) (t : Text) (m : MagicString) → length t ≤ byte-count (insert-step left front q t m .desk)
-step-big true front q t m = go (by-end q (m .chunks)) refl
+step-big : (left front : Bool) (q : ℕ) (t : Text) (m : MagicString) → length t ≤ byte-count (insert-step q t left front m .desk)
+step-big left front q t m = go (by-edge left q (m .chunks)) refl
   where
-    go : (o : Option Chunk) → by-end q (m .chunks) ≡ o
-        → length t ≤ byte-count (elim o as (λ _. Result) [ none ↦ ok (with-intro m (withText front t (m .intro))) | some c ↦ ok (with-chunks m (at-end q (add-to true front t) (m .chunks))) ] .desk)
-    go none e = whole-big false front t m
-    go (some d) e = omega (arith, end-big q (length t) (add-to true front t) (add-big true front t) (m .chunks) d e)
-step-big false front q t m = go (by-start q (m .chunks)) refl
-  where
-    go : (o : Option Chunk) → by-start q (m .chunks) ≡ o
-        → length t ≤ byte-count (elim o as (λ _. Result) [ none ↦ ok (with-outro m (withText front t (m .outro))) | some c ↦ ok (with-chunks m (at-start q (add-to false front t) (m .chunks))) ] .desk)
-    go none e = whole-big true front t m
-    go (some d) e = omega (arith, start-big q (length t) (add-to false front t) (add-big false front t) (m .chunks) d e)
+    go : (o : Option Chunk) → by-edge left q (m .chunks) ≡ o
+        → length t ≤ byte-count (elim o as (λ _. Result) [ none ↦ ok (with-whole left m (push front t)) | some c ↦ ok (with-chunks m (at-edge left q (push-to left front t) (m .chunks))) ] .desk)
+    go none e = whole-big left front t m
+    go (some d) e = omega (arith, edge-big left q (length t) (push-to left front t) (push-big left front t) (m .chunks) d e)
 
 -- ── the three ends of the steps ──
 pub six : {r : ℕ} → (r ≡ 0) ⊎ (r ≡ 6) → (r ≡ 0 → ⊥) → r ≡ 6
@@ -94,6 +76,7 @@ cut-refused q m n = go (eqb q 0 || (leb (length (m .source)) q || is-some (by-en
 
 module _ (left front : Bool) (q : ℕ) (text p s t t1 p1 s1 : List ℕ) (r : ℕ) (h : Readable t p s) (c : CutsDone (q ∷ []) t t1 r) where
   pub steps-refused : (r ≡ 0 → ⊥) → InsertSteps left front q text p s t t1 p1 s1 r
+  unfolding by-edge-mut
   steps-refused n =
       let six-is = six (c .number) n in
       record {
@@ -101,16 +84,17 @@ module _ (left front : Bool) (q : ℕ) (text p s t t1 p1 s1 : List ℕ) (r : ℕ
         refused = λ _ source v.
             let m = magicStringOf source t p s in
             let k = c .leave source p s h v .result in
-            ap (λ (x : Result). and-then x (insert-step left front q text))
+            ap (λ (x : Result). and-then x (insert-step q text left front))
             (cut-refused q m (magicStringOf source t1 p s) (λ step. k step ∙ ap (λ (y : ℕ). and-then (err y (magicStringOf source t1 p s)) step) six-is));
         long = λ z. absurd (omega (arith, six-is));
         number = inr (inl six-is);
       }
 
   module _ (z : r ≡ 0) where
-    cut-made : (source : List ℕ) → Spans source t p s → insert-at left front q text (magicStringOf source t p s) ≡ insert-step left front q text (magicStringOf source t1 p s)
+    cut-made : (source : List ℕ) → Spans source t p s → insert q text left front (magicStringOf source t p s) ≡ insert-step q text left front (magicStringOf source t1 p s)
+    unfolding by-edge-mut
     cut-made source v =
-        c .leave source p s h v .result (insert-step left front q text) ∙ ap (λ (n : ℕ). and-then (err n (magicStringOf source t1 p s)) (insert-step left front q text)) z
+        c .leave source p s h v .result (insert-step q text left front) ∙ ap (λ (n : ℕ). and-then (err n (magicStringOf source t1 p s)) (insert-step q text left front)) z
 
     pub steps-long : full .most-bytes < length text → InsertSteps left front q text p s t t1 p1 s1 13
     steps-long l =
@@ -119,7 +103,7 @@ module _ (left front : Bool) (q : ℕ) (text p s t t1 p1 s1 : List ℕ) (r : ℕ
           refused = λ z. absurd (omega arith);
           long = λ _ source v.
               ap (λ (x : Result). within full (x .desk)) (cut-made source v)
-              ∙ past-bytes (insert-step left front q text (magicStringOf source t1 p s) .desk) (omega (arith, step-big left front q text (magicStringOf source t1 p s)));
+              ∙ past-bytes (insert-step q text left front (magicStringOf source t1 p s) .desk) (omega (arith, step-big left front q text (magicStringOf source t1 p s)));
           number = inr (inr refl);
         }
 
@@ -132,7 +116,7 @@ module _ (left front : Bool) (q : ℕ) (text p s t t1 p1 s1 : List ℕ) (r : ℕ
           number = inl refl;
         }
 
--- ── the call, for any of the four ──
+-- ── the call ──
 module _ {left front : Bool} {q : ℕ} {text source t p s t₀ p₀ s₀ t1 p1 s1 t2 p2 s2 : List ℕ} {r : ℕ} (w : WellFormed source t p s) (f : LongScratch t₀ p₀ s₀)
     (d : Loaded t p s t₀ p₀ s₀ t1 p1 s1) (x : InsertSteps left front q text p s t1 t2 p2 s2 r) where
   spans : Spans source t1 p s
@@ -142,9 +126,9 @@ module _ {left front : Bool} {q : ℕ} {text source t p s t₀ p₀ s₀ t1 p1 s
   insert-readable z = x .leave z source spans .readable
 
   -- the model's steps on the lent desk are those on the loaded one
-  loaded-steps : (e : Edit) → ((m : MagicString) → steps e m ≡ insert-at left front q text m)
-      → steps e (magicStringOf source t p s) ≡ insert-at left front q text (magicStringOf source t1 p s)
-  loaded-steps e q' = q' (magicStringOf source t p s) ∙ ap (insert-at left front q text) (sym (loaded-desk w (f .scratch) d))
+  loaded-steps : (e : Edit) → ((m : MagicString) → steps e m ≡ insert q text left front m)
+      → steps e (magicStringOf source t p s) ≡ insert q text left front (magicStringOf source t1 p s)
+  loaded-steps e q' = q' (magicStringOf source t p s) ∙ ap (insert q text left front) (sym (loaded-desk w (f .scratch) d))
 
   -- 6 and 13: the lent tables are as they were
   pub insert-refused : (r ≡ 0 → ⊥) → InsertRan left front q text source t p s t p s r
@@ -165,7 +149,7 @@ module _ (outro front : Bool) (text : List ℕ) {source t p s : List ℕ} (w : W
   pub whole-long : full .most-bytes < length text → WholeRan outro front text source t p s t p s 13
   whole-long l e h q i =
       let m = magicStringOf source t p s in
-      ran-past-limits e source t p s w h (ap (λ (y : Result). within full (y .desk)) (q m) ∙ past-bytes (whole-add outro front text m) (omega (arith, whole-big outro front text m)))
+      ran-past-limits e source t p s w h (ap (λ (y : Result). within full (y .desk)) (q m) ∙ past-bytes (whole-add outro front text m) (omega (arith, whole-big (not outro) front text m)))
 
   pub whole-ran : {t₀ p₀ s₀ t1 p1 s1 t2 p2 s2 t' p' s' : List ℕ} {r' : ℕ} → LongScratch t₀ p₀ s₀ → Loaded t p s t₀ p₀ s₀ t1 p1 s1
       → ((source : List ℕ) → Did (λ m. ok (whole-add outro front text m)) source t1 p s t2 p2 s2 0) → Finished t2 p2 s2 t p s t' p' s' 0 r'

@@ -15,13 +15,13 @@ use Rattle.memory_table.specs.Table.{rowAt, Put}
 use Rattle.memory_table.specs.Order.{Entry, entryOf, entryAt, entries, order, Linked}
 use Rattle.memory_table.proofs.Order.{inside-at}
 use Rattle.model.specs.Text.{Text}
-use Rattle.model.specs.Chunk.{Chunk, with-texts, start-of, end-of}
-use Rattle.model.specs.MagicString.{MagicString, ok, with-chunks, with-intro, with-outro, by-start, by-end, at-start, at-end}
+use Rattle.model.specs.Chunk.{Chunk, with-texts}
+use Rattle.model.specs.MagicString.{MagicString, Result, ok, with-chunks, with-whole, edge, by-edge, at-edge}
+use Rattle.model.specs.Insert.{push, push-to, insert-step}
 use Rattle.model.proofs.Lists.{first-of, rest-of, all-append, same-around}
 use Rattle.memory.specs.Layout.{Place, runOf, chunkOf, magicStringOf}
 use Rattle.memory.specs.WellFormed.{RunIn, EntryIn, Readable}
 use Rattle.memory.proofs.Desks.{chunks-of, desk-same}
-use Rattle.memory_texts.specs.Carry.{withText}
 use Rattle.memory_list.specs.Find.{meets, First}
 use Rattle.memory_list.specs.Insert.{runsOf}
 use Rattle.memory_list.specs.Split.{RowSet, DeskSet}
@@ -29,31 +29,35 @@ use Rattle.memory_list.proofs.Split.{row-set, desk-set, entries-at}
 use Rattle.edit_scratch.proofs.Front.{run-in-front, run-front, text-in-front, text-front, entries-front, chunks-front}
 use Rattle.edit_scratch.specs.Tables.{Did}
 use Rattle.edit_split_at.specs.Lift.{RunSmall, EntrySmall, DeskSmall}
-use Rattle.model_closed_forms.proofs.Found.{start-at, start-none, start-set, end-at, end-none, end-set, some-is, none-is}
+use Rattle.model_closed_forms.proofs.Found.{edge-at, edge-none, edge-set, some-is, none-is}
 use Rattle.memory_table.specs.Sides.{side, with-side}
 use Rattle.edit_insert_side.specs.Piece.{PieceAdded}
 use Rattle.edit_insert_side.proofs.Piece.{side-in}
-use Rattle.edit_insert_side.specs.Insertion.{add-to, whole-add, insert-step, key-of}
+use Rattle.edit_insert_side.specs.Insertion.{whole-add, key-of}
 
 -- ── the step where the chunk is known ──
 abbrev keyed : Bool → ℕ → Chunk → Bool
-keyed true q c = eqb (end-of c) q
-keyed false q c = eqb (start-of c) q
+keyed left q c = eqb (edge left (c .span)) q
 
-step-found : (left front : Bool) (q : ℕ) (t : Text) (m : MagicString) (xs : List Chunk) (c : Chunk) (ys : List Chunk) → m .chunks ≡ xs ++ c ∷ ys
-    → All (λ d. keyed left q d ≡ false) xs → keyed left q c ≡ true → insert-step left front q t m ≡ ok (with-chunks m (xs ++ with-texts (add-to left front t) c ∷ ys))
-step-found true front q t m xs c ys e n h =
-    some-is (by-end q (m .chunks)) c (ok (with-intro m (withText front t (m .intro)))) (ok (with-chunks m (at-end q (add-to true front t) (m .chunks)))) (ap (by-end q) e ∙ end-at q c ys n h)
-    ∙ ap (λ (l : List Chunk). ok (with-chunks m l)) (ap (at-end q (add-to true front t)) e ∙ end-set q (add-to true front t) c ys n h)
-step-found false front q t m xs c ys e n h =
-    some-is (by-start q (m .chunks)) c (ok (with-outro m (withText front t (m .outro)))) (ok (with-chunks m (at-start q (add-to false front t) (m .chunks)))) (ap (by-start q) e ∙ start-at q c ys n h)
-    ∙ ap (λ (l : List Chunk). ok (with-chunks m l)) (ap (at-start q (add-to false front t)) e ∙ start-set q (add-to false front t) c ys n h)
+module _ (left front : Bool) (q : ℕ) (t : Text) (m : MagicString) where
+  abbrev in-whole : Result
+  in-whole = ok (with-whole left m (push front t))
 
-step-whole : (left front : Bool) (q : ℕ) (t : Text) (m : MagicString) → All (λ d. keyed left q d ≡ false) (m .chunks) → insert-step left front q t m ≡ ok (whole-add (not left) front t m)
-step-whole true front q t m n =
-    none-is (by-end q (m .chunks)) (ok (with-intro m (withText front t (m .intro)))) (ok (with-chunks m (at-end q (add-to true front t) (m .chunks)))) (end-none q n)
-step-whole false front q t m n =
-    none-is (by-start q (m .chunks)) (ok (with-outro m (withText front t (m .outro)))) (ok (with-chunks m (at-start q (add-to false front t) (m .chunks)))) (start-none q n)
+  abbrev in-chunk : Result
+  in-chunk = ok (with-chunks m (at-edge left q (push-to left front t) (m .chunks)))
+
+  step-found : (xs : List Chunk) (c : Chunk) (ys : List Chunk) → m .chunks ≡ xs ++ c ∷ ys → All (λ d. keyed left q d ≡ false) xs → keyed left q c ≡ true
+      → insert-step q t left front m ≡ ok (with-chunks m (xs ++ with-texts (push-to left front t) c ∷ ys))
+  step-found xs c ys e n h =
+      some-is (by-edge left q (m .chunks)) c in-whole in-chunk (ap (by-edge left q) e ∙ edge-at left q c ys n h)
+      ∙ ap (λ (l : List Chunk). ok (with-chunks m l)) (ap (at-edge left q (push-to left front t)) e ∙ edge-set left q (push-to left front t) c ys n h)
+
+  step-whole : All (λ d. keyed left q d ≡ false) (m .chunks) → insert-step q t left front m ≡ in-whole
+  step-whole n = none-is (by-edge left q (m .chunks)) in-whole in-chunk (edge-none left q n)
+
+not-not : (b : Bool) → not (not b) ≡ b
+not-not true = refl
+not-not false = refl
 
 -- ── from rows ──
 none-keyed : (left : Bool) (p s : List ℕ) (q : ℕ) (t xs : List ℕ) → Each (λ x. meets (key-of left) q (entryAt t x) ≡ false) xs →
@@ -68,8 +72,8 @@ here-keyed false p s q e h = h
 
 -- an entry with a longer outro, or intro
 module _ (p s y z : List ℕ) (front : Bool) (text : List ℕ) (run : Place) where
-  lift-piece : (outro : Bool) (r : Row) → runOf (p ++ y) (s ++ z) run ≡ withText front text (runOf p s (side outro (entryOf r))) → EntryIn p s (entryOf r)
-      → chunkOf (p ++ y) (s ++ z) (entryOf (with-side outro run r)) ≡ with-texts (add-to outro front text) (chunkOf p s (entryOf r))
+  lift-piece : (outro : Bool) (r : Row) → runOf (p ++ y) (s ++ z) run ≡ push front text (runOf p s (side outro (entryOf r))) → EntryIn p s (entryOf r)
+      → chunkOf (p ++ y) (s ++ z) (entryOf (with-side outro run r)) ≡ with-texts (push-to outro front text) (chunkOf p s (entryOf r))
   lift-piece true r e h = rw (e, run-front p s y z (entryOf r .intro) (h .runs .intro), text-front p s y z (entryOf r .text) (h .replacement))
   lift-piece false r e h = rw (e, run-front p s y z (entryOf r .outro) (h .runs .outro), text-front p s y z (entryOf r .text) (h .replacement))
 
@@ -77,7 +81,7 @@ module _ (p s y z : List ℕ) (front : Bool) (text : List ℕ) (run : Place) whe
   piece-in true r e h = record { runs = record { intro = run-in-front p s y z _ (h .runs .intro); outro = e }; replacement = text-in-front p s y z (entryOf r .text) (h .replacement) }
   piece-in false r e h = record { runs = record { intro = e; outro = run-in-front p s y z _ (h .runs .outro) }; replacement = text-in-front p s y z (entryOf r .text) (h .replacement) }
 
-  lift-whole : (outro : Bool) (source t t' : List ℕ) → runOf (p ++ y) (s ++ z) run ≡ withText front text (runOf p s (side outro (entryAt t 0))) → Readable t p s
+  lift-whole : (outro : Bool) (source t t' : List ℕ) → runOf (p ++ y) (s ++ z) run ≡ push front text (runOf p s (side outro (entryAt t 0))) → Readable t p s
       → DeskSet t t' (runsOf (with-side outro run (rowAt t 0))) → magicStringOf source t' (p ++ y) (s ++ z) ≡ whole-add outro front text (magicStringOf source t p s)
   unfolding magicStringOf
   lift-whole true source t t' e h d =
@@ -114,7 +118,7 @@ module _ (p s y z : List ℕ) (front : Bool) (text : List ℕ) (run : Place) whe
 -- a piece in a chunk of the list
 module _ (outro front : Bool) (text p s y z t t' : List ℕ) (i : ℕ) (run : Place) (us bs : List ℕ) (o : order t ≡ us ++ i ∷ bs) (h : Readable t p s)
     (pt : Put t t' i (with-side outro run (rowAt t i))) (len : length t' ≡ length t)
-    (tx : runOf (p ++ y) (s ++ z) run ≡ withText front text (runOf p s (side outro (entryAt t i)))) (ri : RunIn (p ++ y) (s ++ z) run) where
+    (tx : runOf (p ++ y) (s ++ z) run ≡ push front text (runOf p s (side outro (entryAt t i)))) (ri : RunIn (p ++ y) (s ++ z) run) where
   abbrev e' : Entry
   e' = entryOf (with-side outro run (rowAt t i))
 
@@ -149,7 +153,7 @@ module _ (outro front : Bool) (text p s y z t t' : List ℕ) (i : ℕ) (run : Pl
       }
 
   piece-desk : (source : List ℕ) → magicStringOf source t' (p ++ y) (s ++ z)
-      ≡ with-chunks (magicStringOf source t p s) (map (chunkOf p s) (map (entryAt t) us) ++ with-texts (add-to outro front text) (chunkOf p s (entryAt t i)) ∷ map (chunkOf p s) (map (entryAt t) bs))
+      ≡ with-chunks (magicStringOf source t p s) (map (chunkOf p s) (map (entryAt t) us) ++ with-texts (push-to outro front text) (chunkOf p s (entryAt t i)) ∷ map (chunkOf p s) (map (entryAt t) bs))
   unfolding magicStringOf
   piece-desk source =
       desk-same source (ap (λ (x : (ℕ × ℕ) × (ℕ × ℕ)). runOf (p ++ y) (s ++ z) (x .0)) (set .desk) ∙ run-front p s y z _ (h .desk .intro))
@@ -160,7 +164,7 @@ module _ (outro front : Bool) (text p s y z t t' : List ℕ) (i : ℕ) (run : Pl
 
 -- ── the two ends of the search ──
 pub inserted-found : (left front : Bool) (q : ℕ) (text p s t t' p' s' : List ℕ) (i : ℕ) → Readable t p s → First (meets (key-of left) q) t i
-    → PieceAdded left front text p s t t' p' s' i → length t' ≡ length t → (source : List ℕ) → Did (insert-step left front q text) source t p s t' p' s' 0
+    → PieceAdded left front text p s t t' p' s' i → length t' ≡ length t → (source : List ℕ) → Did (insert-step q text left front) source t p s t' p' s' 0
 inserted-found left front q text p s t t' p' s' i h w d len source =
     let l = d .longer in
     let y = l .behind in
@@ -194,13 +198,15 @@ whole-added outro front text p s t t' p' s' h d len source =
     })
 
 pub inserted-whole : (left front : Bool) (q : ℕ) (text p s t t' p' s' : List ℕ) → Readable t p s → Each (λ x. meets (key-of left) q (entryAt t x) ≡ false) (order t)
-    → PieceAdded (not left) front text p s t t' p' s' 0 → length t' ≡ length t → (source : List ℕ) → Did (insert-step left front q text) source t p s t' p' s' 0
+    → PieceAdded (not left) front text p s t t' p' s' 0 → length t' ≡ length t → (source : List ℕ) → Did (insert-step q text left front) source t p s t' p' s' 0
 inserted-whole left front q text p s t t' p' s' h n d len source =
     let g = whole-added (not left) front text p s t t' p' s' h d len source in
     let m = magicStringOf source t p s in
     record {
       readable = g .readable;
-      result = step-whole left front q text m (subst (All (λ c. keyed left q c ≡ false)) (sym (chunks-of source t p s)) (none-keyed left p s q t (order t) n)) ∙ g .result;
+      result =
+          step-whole left front q text m (subst (All (λ c. keyed left q c ≡ false)) (sym (chunks-of source t p s)) (none-keyed left p s q t (order t) n))
+          ∙ ap (λ (b : Bool). ok (with-whole b m (push front text))) (sym (not-not left)) ∙ g .result;
     }
 
 -- ── the run of the row that was found, and of row 0 ──

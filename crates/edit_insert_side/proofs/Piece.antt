@@ -1,26 +1,20 @@
 -- Laws of what `Piece` in specs/ defines.
-use mathlib.Core.Path.{_≡_, refl, ap, _∙_}
+use mathlib.Core.Path.{_≡_, ap, _∙_}
 use mathlib.Core.Bool.{Bool, true, false}
-use mathlib.Core.List.{List, [], _∷_}
-use Prim.Native.Nat.{ℕ, suc}
+use mathlib.Core.List.{List}
+use Prim.Native.Nat.{ℕ}
 use native.Mathlib.Omega.{arith}
 use lib.ListN.{length, drop, length-append, length-drop}
 use Rattle.memory_layout.specs.Layout.{INSERT-PIECES-LEN, INSERT-STORE-LEN}
 use Rattle.memory_table.specs.Order.{Entry}
 use Rattle.memory_table.specs.Sides.{side}
-use Rattle.model.specs.Text.{Text}
 use Rattle.memory.specs.WellFormed.{RunIn, WellFormed, RunsIn}
-use Rattle.memory_texts.specs.Carry.{withText}
 use Rattle.edit_scratch.specs.Loaded.{Loaded}
 use Rattle.edit_insert_side.specs.Piece.{Spare, LongScratch}
 
 pub side-in : (outro : Bool) {p s : List ℕ} (e : Entry) → RunsIn p s e → RunIn p s (side outro e)
 side-in true e h = h .outro
 side-in false e h = h .intro
-
-pub with-length : (front : Bool) (text : Text) (ts : List Text) → length (withText front text ts) ≡ suc (length ts)
-with-length true text ts = refl
-with-length false text ts = length-append ts (text ∷ []) ∙ omega arith
 
 pub loaded-spare : {source t p s t₀ p₀ s₀ t1 p1 s1 : List ℕ} → WellFormed source t p s → LongScratch t₀ p₀ s₀ → Loaded t p s t₀ p₀ s₀ t1 p1 s1 → Spare p s p1 s1
 loaded-spare {p = p} {s = s} {p₀ = p₀} {s₀ = s₀} {p1 = p1} {s1 = s1} w f d =

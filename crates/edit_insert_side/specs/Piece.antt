@@ -10,7 +10,7 @@ use Rattle.memory_table.specs.Order.{entryAt}
 use Rattle.memory_table.specs.Sides.{side, with-side}
 use Rattle.memory.specs.Layout.{Place, runOf}
 use Rattle.memory.specs.WellFormed.{RunIn}
-use Rattle.memory_texts.specs.Carry.{withText}
+use Rattle.model.specs.Insert.{push}
 use Rattle.edit_scratch.specs.Tables.{Scratch}
 
 -- the lent pieces and store stand at the front of the scratch ones, with room behind for the rows of any run and one more, and for a text
@@ -32,7 +32,7 @@ pub record Longer (p s : List ℕ) (front : Bool) (text : List ℕ) (x : Place) 
   pub after : List ℕ
   pub pieces : p' ≡ p ++ behind
   pub store : s' ≡ s ++ after
-  pub texts : runOf p' s' y ≡ withText front text (runOf p s x)
+  pub texts : runOf p' s' y ≡ push front text (runOf p s x)
   pub run-in : RunIn p' s' y
 
 pub record PieceAdded (outro front : Bool) (text p s t t' p' s' : List ℕ) (i : ℕ) : Type 0 where

@@ -183,31 +183,30 @@ fn ends_at(front: bool, at: u32, n: u32, row: usize) -> bool
     wide(at) + wide(n) == row
 }
 
-// A run with a text more in front of it or behind, on top of the tables: the text goes to `byte`; the rows of the run are copied to `row`, or stay where they end there.
+// A run with a text more in front of it or behind: the text lies in the store already; the rows of the run are copied to `row`, or stay where they end there.
 // Hands back the run's first row.
 pub fn lengthen(
     p: &mut [u32],
-    s: &mut [u8],
-    text: &[u8],
     front: bool,
     at: u32,
     n: u32,
+    text_at: u32,
+    text_n: u32,
     row: usize,
-    byte: usize,
 ) -> usize
-    requires { ⌜ TopRoom (at, n) (now text) (now p) (now s) row byte ⌝ }
-    ensures { λ first. ⌜ Lengthened front (now (text .entry)) (at, n) row byte (now (p .entry)) (now (s .entry)) (now (p .exit)) (now (s .exit)) first ⌝ }
+    requires { ⌜ TopRoom (at, n) (now p) row ⌝ }
+    ensures { λ first. ⌜ Lengthened front («text_at», «text_n») (at, n) row (now (p .entry)) (now (p .exit)) first ⌝ }
 {
     if ends_at(front, at, n, row) {
-        memory_copy::push_piece(p, s, text, byte, row);
+        memory_table::set_piece(p, row, text_at, text_n);
         return wide(at);
     }
     if front {
-        memory_copy::push_piece(p, s, text, byte, row);
+        memory_table::set_piece(p, row, text_at, text_n);
         memory_copy::copy_rows(p, at, n, row + 1);
         return row;
     }
     memory_copy::copy_rows(p, at, n, row);
-    memory_copy::push_piece(p, s, text, byte, row + n as usize);
+    memory_table::set_piece(p, row + n as usize, text_at, text_n);
     row
 }

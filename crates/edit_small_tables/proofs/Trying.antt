@@ -19,10 +19,10 @@ use Rattle.memory_used.specs.declared.Outcome.{Outcome}
 use Rattle.memory_used.specs.Above.{Above, Desk}
 use Rattle.edit_rebuild.specs.Rebuilt.{Rebuilt}
 use Rattle.edit_scratch.proofs.Front.{desk-front}
-use Rattle.edit_scratch.specs.Tables.{Did}
+use Rattle.edit_scratch.specs.Tables.{Did, StepsRan}
 use Rattle.edit_scratch.proofs.Tables.{within-any, ran-finished, ran-same, may-write-0}
 use Rattle.edit_room_above.specs.Live.{Usable}
-use Rattle.edit_small_tables.specs.Small.{Fits, LaidIn, Ended, StepsRan, Attempted, Tried}
+use Rattle.edit_small_tables.specs.Small.{Fits, LaidIn, Ended, Attempted, Tried}
 use Rattle.edit_small_tables.proofs.Small.{Stays}
 
 -- tables as long fit too

@@ -1,18 +1,18 @@
 -- What an edit on small tables promises of the lent ones. The small tables' own limits never show: where they are passed, 13 only says that this way is not open.
 use mathlib.Core.Path.{_≡_}
-use mathlib.Core.Bool.{true, false}
+use mathlib.Core.Bool.{true}
 use mathlib.Core.List.{List, []}
 use Prim.Native.Nat.{ℕ}
 use Rattle.model.specs.MagicString.{MagicString, Result}
 use Rattle.model.specs.Limits.{within}
-use Rattle.model.specs.Call.{Edit, idle, steps, refused-before}
 use Rattle.memory.specs.Layout.{magicStringOf}
 use Rattle.memory.specs.WellFormed.{limitsOf, Sized, Readable}
-use Rattle.memory.specs.Calls.{Same, Ran}
+use Rattle.memory.specs.Calls.{Same}
 use Rattle.memory_used.specs.declared.Used.{Used}
 use Rattle.memory_used.specs.declared.Outcome.{Outcome}
 use Rattle.memory_used.specs.Above.{Above}
 use Rattle.edit_rebuild.specs.Rebuilt.{Rebuilt, Finished}
+use Rattle.edit_scratch.specs.Tables.{StepsRan}
 
 -- the desk of t p s keeps the limits of the tables t₀ p₀ s₀
 pub record Fits (t p s t₀ p₀ s₀ : List ℕ) : Type 0 where
@@ -30,14 +30,7 @@ pub record Ended (t p s t₀ p₀ s₀ t' p' s' : List ℕ) (r r' : ℕ) : Type 
   pub made : r ≡ 0 → Finished t p s t₀ p₀ s₀ t' p' s' 0 r'
   pub refused : (r ≡ 0 → ⊥) → (r' ≡ r) × Same t₀ p₀ s₀ t' p' s'
 
--- a call whose steps are f, past its tests
-abbrev pub StepsRan : (MagicString → Result) → List ℕ → List ℕ → List ℕ → List ℕ → List ℕ → List ℕ → List ℕ → ℕ → Type 0
-StepsRan f source t p s t' p' s' r =
-    (e : Edit) → refused-before (magicStringOf source t p s) e ≡ 0
-    → ((m : MagicString) → steps e m ≡ f m) → idle e ≡ false
-    → Ran e source t p s t' p' s' r
-
--- the same on the small tables, but where it answers 13
+-- a call whose steps are f, on the small tables, but where it answers 13
 pub record Attempted (f : MagicString → Result) (source t p s t' p' s' : List ℕ) (r : ℕ) : Type 0 where
   pub ran : (r ≡ 13 → ⊥) → StepsRan f source t p s t' p' s' r
   pub readable : r ≡ 0 → Readable t' p' s'

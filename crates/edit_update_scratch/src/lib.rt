@@ -6,6 +6,7 @@ ghost use Rattle.memory.specs.Layout.{magicStringOf};
 ghost use Rattle.memory.specs.WellFormed.{WellFormed};
 ghost use Rattle.memory_used.specs.Above.{Leaves};
 ghost use Rattle.edit_update_scratch.specs.Tables.{UpdateScratch};
+use memory_layout::numbers;
 use memory_used::Outcome;
 
 // `update_with` past 5 and 4, with scratch tables lent.
@@ -40,7 +41,7 @@ fn update_by(
         overwrite,
         store.len(),
     );
-    if r == 13 {
+    if r == numbers::LIMIT {
         return edit_room_above::counted(chunks, pieces, store, r);
     }
     edit_room_above::finish(t, p, s, chunks, pieces, store, r)

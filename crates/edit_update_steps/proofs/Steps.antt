@@ -27,7 +27,8 @@ use Rattle.model.proofs.Lists.{sum-append, first-of, rest-of, all-append, same-
 use Rattle.memory.specs.Layout.{runOf, replacementOf, chunkOf, magicStringOf}
 use Rattle.memory.specs.WellFormed.{RunIn, ReplacementIn, EntryIn, Readable}
 use Rattle.memory.proofs.Desks.{chunks-of, no-run, no-run-in, desk-same}
-use Rattle.model_closed_forms.proofs.Found.{start-set}
+use Rattle.model.specs.Insert.{right}
+use Rattle.model_closed_forms.proofs.Found.{edge-set}
 use Rattle.memory_list.specs.declared.Key.the-variants.{Start}
 use Rattle.memory_list.specs.Find.{meets, First}
 use Rattle.memory_list.specs.Split.{RowSet}
@@ -189,7 +190,7 @@ module _ (a : ℕ) (o : Bool) (at : ℕ) (text p s y z t t' : List ℕ) (i : ℕ
       (ap (map (chunkOf (p ++ y) (s ++ (text ++ z)))) list
       ∙ map-append (chunkOf (p ++ y) (s ++ (text ++ z))) (map (entryAt t) (w .us)) (editedEntry o at (length text) (entryAt t i) ∷ map (entryAt t) (w .bs))
       ∙ same-around (chunks-front p s y (text ++ z) front-in) (lift-edit o at text p s y z few ls (entryAt t i) (first-of mid)) (chunks-front p s y (text ++ z) (rest-of mid))
-      ∙ sym (start-set a (edit text o) (chunkOf p s (entryAt t i)) (map (chunkOf p s) (map (entryAt t) (w .bs))) (none-start p s a t (w .us) (w .none)) (w .here))
+      ∙ sym (edge-set right a (edit text o) (chunkOf p s (entryAt t i)) (map (chunkOf p s) (map (entryAt t) (w .bs))) (none-start p s a t (w .us) (w .none)) (w .here))
       ∙ ap (at-start a (edit text o)) (sym (ap (map (chunkOf p s)) (entries-at t (w .us) i (w .bs) (w .place)) ∙ map-append (chunkOf p s)
       (map (entryAt t) (w .us)) (entryAt t i ∷ map (entryAt t) (w .bs)))))
 
@@ -205,7 +206,7 @@ edited-big a o text p s t i w source =
     let q : at-start a (edit text o) (map (chunkOf p s) (entries t)) ≡ map (chunkOf p s) (map (entryAt t) (w .us)) ++ with-texts (edit text o)
     (chunkOf p s (entryAt t i)) ∷ map (chunkOf p s) (map (entryAt t) (w .bs)) =
     ap (at-start a (edit text o)) (ap (map (chunkOf p s)) (entries-at t (w .us) i (w .bs) (w .place)) ∙ map-append (chunkOf p s) (map (entryAt t) (w .us)) (entryAt t i ∷ map (entryAt t) (w .bs)))
-    ∙ start-set a (edit text o) (chunkOf p s (entryAt t i)) (map (chunkOf p s) (map (entryAt t) (w .bs))) (none-start p s a t (w .us) (w .none)) (w .here) in
+    ∙ edge-set right a (edit text o) (chunkOf p s (entryAt t i)) (map (chunkOf p s) (map (entryAt t) (w .bs))) (none-start p s a t (w .us) (w .none)) (w .here) in
     omega (
       arith,
       ap (sum chunk-bytes) q,

@@ -6,7 +6,7 @@ use mathlib.Core.Logic.{inl, inr, ⊎-elim}
 use Prim.Native.Nat.{ℕ, suc, _+_, _*_, _-_, _≤_, _<_}
 use native.Mathlib.Omega.{arith}
 use lib.ListN.{length, length-append, length-map}
-use Rattle.memory_layout.specs.Layout.{ROW}
+use Rattle.memory_layout.specs.Layout.{ROW, CHUNKS}
 use Rattle.utf8.specs.Chars.{All, nil, cons}
 use Rattle.memory_table.specs.declared.Row.{Row}
 use Rattle.memory_table.specs.Ring.{Edge, Links}
@@ -79,9 +79,9 @@ walk-start {source} {store} {t} {p} {s} {top} {byte} indentor exclude mark z h e
       byte-in = h .byte-in;
       low = nil;
       todo = rest-rows source store p s top byte (h .formed .source) (h .low) (h .texts-low) (spans-inside source (chunksOf t p s) (h .formed .covered)) (h .formed .texts);
-      indentor-row = λ g. absurd (omega arith);
+      indentor-at = λ g. absurd (omega arith);
       result = refl;
-      rows-used = omega (arith, order-length t);
+      rows-used = omega (arith, order-length t, h .few);
       bytes-used = omega arith;
     }
 
@@ -134,10 +134,10 @@ module _ {indentor exclude source store t₀ p₀ s₀ : List ℕ} {mark₀ : Bo
     rest-here : All (RestRow source store p s top byte) (entryAt t cur ∷ map (entryAt t) bs)
     rest-here = subst (λ (l : List ℕ). All (RestRow source store p s top byte) (map (entryAt t) l)) (next .rest-is) (w .todo)
 
-    rows-here : top + (1 - laid) + ((chunk-pieces (chunkOf p s (entryAt t cur)) + sum chunk-pieces (chunksAt t p s bs)) + suc (length bs))
-        ≤ top₀ + 1 + (sum chunk-pieces (chunksOf t₀ p₀ s₀) + countOf t₀)
+    rows-here : top + (CHUNKS - countOf t) + ((chunk-pieces (chunkOf p s (entryAt t cur)) + sum chunk-pieces (chunksAt t p s bs)) + suc (length bs))
+        ≤ top₀ + (sum chunk-pieces (chunksOf t₀ p₀ s₀) + CHUNKS)
     rows-here =
-        subst (λ (l : List ℕ). top + (1 - laid) + (sum chunk-pieces (chunksAt t p s l) + length l) ≤ top₀ + 1 + (sum chunk-pieces (chunksOf t₀ p₀ s₀) + countOf t₀)) (next .rest-is)
+        subst (λ (l : List ℕ). top + (CHUNKS - countOf t) + (sum chunk-pieces (chunksAt t p s l) + length l) ≤ top₀ + (sum chunk-pieces (chunksOf t₀ p₀ s₀) + CHUNKS)) (next .rest-is)
         (w .rows-used)
 
     result-here : closedOf indentor exclude source t₀ p₀ s₀ mark₀ ≡ then-chunks (chunksAt t p s us) (indented-chunks indentor exclude source mark (chunkOf p s (entryAt t cur) ∷ chunksAt t p s bs))
@@ -159,8 +159,7 @@ module _ {indentor exclude source store t₀ p₀ s₀ : List ℕ} {mark₀ : Bo
                 span = r .span;
                 valid = r .valid;
                 low = r .low;
-                above = omega (arith, h .above, w .top-up);
-                indentor-row = w .indentor-row;
+                indentor-at = w .indentor-at;
                 chunk-rows = omega (arith, h .chunk-rows, w .len);
                 narrow-chunks = omega (arith, h .narrow-chunks, w .len);
                 rows = omega (arith, h .rows, rows-here, w .rows .len, run-length p s (e .intro .0) (e .intro .1));
@@ -254,7 +253,7 @@ module _ {indentor exclude source store t₀ p₀ s₀ : List ℕ} {mark₀ : Bo
             byte-in = d .byte-in;
             low = subst (All (EntryLow p' top' byte')) (sym done-entries) (all-append (entries-still top byte p p' (d .rows) top' byte' (d .top-up) (d .byte-up) (w .low)) (d .low));
             todo = subst (All (RestRow source store p' s' top' byte')) (sym rest-entries) (rest-still top' byte' (d .rows) (d .bytes) (d .top-up) (d .byte-up) (rest-of rest-here));
-            indentor-row = d .indentor-row;
+            indentor-at = d .indentor-at;
             result =
                 let D : IndentedChunks = indented-chunks indentor exclude source (C .mark) (chunksAt t p s bs) in
                 result-here

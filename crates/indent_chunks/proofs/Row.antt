@@ -30,10 +30,9 @@ use Rattle.indent_mark.specs.Bytes.{NextStart}
 use Rattle.indent_mark.proofs.ByCharacters.{line-starts-is}
 use Rattle.indent_cuts.specs.Splice.{withText}
 use Rattle.indent_cuts.proofs.Splice.{spliced-same, spliced-set}
-use Rattle.indent_cuts.specs.Lines.{linesFrom}
+use Rattle.indent_cuts.specs.Lines.{linesFrom, PartsDone}
 use Rattle.indent_cuts.proofs.Lines.{lines-parts}
-use Rattle.indent_head_tail.specs.Own.{LayRoom, LaidRow, Laid}
-use Rattle.indent_source_chunk.specs.Parts.{IndentorRow, PartsDone}
+use Rattle.indent_head_tail.specs.Own.{LaidText, Laid}
 use Rattle.indent_source_chunk.specs.Source.{SourceReady}
 use Rattle.indent_replaced_chunk.specs.Replacement.{ReplacementReady, Replaced, ReplacementDone}
 use Rattle.indent_chunks.specs.Row.{RowAt, RowReady, closedRow, RowIndented, RowDone}
@@ -62,7 +61,7 @@ row-stays {indentor} {source} {t} {p} {s} {i} {top} {byte} exclude mark h m q =
             chunks = sym (ap (λ (y : IndentedChunks). y .chunks) q);
             mark-is = sym (ap (λ (y : IndentedChunks). y .mark) q);
             low = cons (h .low) nil;
-            indentor-row = h .indentor-row;
+            indentor-at = h .indentor-at;
             rows-used = omega arith;
             bytes-used = omega arith;
           };
@@ -84,7 +83,7 @@ module _ {indentor source t p s : List ℕ} {i top byte laid : ℕ} (exclude : L
   edited-none = none-text s (e₁ .text) none-is
 
   module _ {start end : ℕ} (es : start ≡ e₁ .start) (ee : end ≡ e₁ .end) where
-    pub lines-span : (start ≤ end) × (end ≤ length source)
+    lines-span : (start ≤ end) × (end ≤ length source)
     lines-span = (omega (arith, h .span .ordered), omega (arith, h .span .inside))
 
     abbrev W : Starts
@@ -122,43 +121,34 @@ module _ {indentor source t p s : List ℕ} {i top byte laid : ℕ} (exclude : L
         lines-bytes : length indentor ≤ sum chunk-bytes (closedRow indentor exclude source t p s i mark .chunks)
         lines-bytes = omega (arith, ap (sum chunk-bytes) chunks-then, lines-indentor indentor c₁ x (linesFrom exclude source false (x + 1) end .starts) edited-none)
 
-        pub lay-room : LayRoom p s top byte laid
-        lay-room = record { above = h .above; rows = omega (arith, h .rows); rows-narrow = h .narrow-pieces; byte-in = h .byte-in; narrow = omega (arith, h .narrow) }
-
         -- the indentor does not fit
-        pub lines-short : {p1 s1 : List ℕ} {fits : Bool} {top1 byte1 laid1 : ℕ} → Laid indentor p s top byte laid p1 s1 fits top1 byte1 laid1 → fits ≡ false
+        pub lines-short : {s1 : List ℕ} {fits : Bool} {byte1 laid1 : ℕ} → Laid indentor s byte s1 fits byte1 laid1 → fits ≡ false
             → (t' p' s' : List ℕ) (mark' : Bool) (top' byte' laid' : ℕ) → RowDone indentor exclude source t p s i mark top byte laid t' p' s' 13 mark' top' byte' laid'
         lines-short d f t' p' s' mark' top' byte' laid' =
             record { zero-or = inr refl; done = λ z. absurd (omega arith); past = λ _. inr (omega (arith, d .short f, lines-bytes)) }
 
-        module _ {p1 s1 : List ℕ} {top1 byte1 laid1 : ℕ} (d : LaidRow indentor p s top byte laid p1 s1 top1 byte1 laid1) where
-          laid-row : IndentorRow indentor p1 s1 top1 byte1 laid1
-          laid-row = record { text = d .text (λ g. h .indentor-row g .text); low = d .low (λ g. h .indentor-row g .low) }
+        pub source-ready : SourceReady exclude source t p i start x end top
+        source-ready =
+            record {
+              linked = h .linked;
+              placed = h .placed;
+              at-start = es;
+              from-on = n .from-on;
+              below = lines-below;
+              inside = lines-span .1;
+              begins = n .again lines-below;
+              under = λ k g. h .low .runs .intro k g .0;
+              chunk-rows = h .chunk-rows;
+              narrow-chunks = h .narrow-chunks;
+              piece-rows = h .rows;
+              narrow-pieces = omega (arith, h .narrow-pieces);
+            }
 
-          entry-low : EntryLow p1 top1 byte1 e₁
-          entry-low = entry-still top byte p p1 (d .rows) top1 byte1 (d .top-up) (d .byte-up) e₁ (h .low)
+        module _ {s1 : List ℕ} {byte1 laid1 : ℕ} (d : LaidText indentor s byte s1 byte1 laid1) where
+          entry-low : EntryLow p top byte1 e₁
+          entry-low = entry-still top byte p p (rows-same top p) top byte1 (omega arith) (d .byte-up) e₁ (h .low)
 
-          pub source-ready : SourceReady source t p1 i start x end top1 laid1
-          source-ready =
-              record {
-                own =
-                    record {
-                      linked = h .linked;
-                      placed = h .placed;
-                      below = λ k g. entry-low .runs .intro k g .0;
-                      indentor = omega (arith, laid-row .low 0 (omega arith) .0);
-                      room = omega (arith, h .rows, d .rows-used, d .rows .len);
-                      narrow = omega (arith, h .narrow-pieces, d .rows .len);
-                    };
-                at-start = es;
-                from-on = n .from-on;
-                below = lines-below;
-                inside = lines-span .1;
-                chunk-rows = h .chunk-rows;
-                narrow-chunks = h .narrow-chunks;
-              }
-
-          pub lines-done : {t2 p2 : List ℕ} {number top2 : ℕ} {mark2 : Bool} → PartsDone t p1 i top1 laid1 W₁ t2 p2 number mark2 top2
+          pub lines-done : {t2 p2 : List ℕ} {number top2 : ℕ} {mark2 : Bool} → PartsDone (e₁ .intro .1 + 1) t p i top (laid1, length indentor) W₁ t2 p2 number mark2 top2
               → RowDone indentor exclude source t p s i mark top byte laid t2 p2 s1 number mark2 top2 byte1 laid1
           lines-done {t2} {p2} {number} {top2} {mark2} y =
               record {
@@ -168,22 +158,19 @@ module _ {indentor source t p s : List ℕ} {i top byte laid : ℕ} (exclude : L
                     record {
                       es = k .es;
                       spliced = k .spliced;
-                      rows = record { len = k .rows .len ∙ d .rows .len; rows = λ j g. k .rows .rows j (omega (arith, d .top-up)) ∙ d .rows .rows j g };
+                      rows = k .rows;
                       bytes = d .bytes;
-                      top-up = omega (arith, d .top-up, k .up);
+                      top-up = k .up;
                       byte-up = d .byte-up;
                       byte-in = d .byte-in;
                       chunks =
-                          k .chunks s1 indentor byte1 laid-row entry-low
-                          ∙ ap (λ (c : Chunk). split-lines indentor c (W₁ .starts)) (entry-same top byte p s p1 s1 (d .rows) (d .bytes) e₁ (h .low)) ∙ sym chunks-then;
+                          k .chunks s1 byte1 (d .at .low) entry-low
+                          ∙ ap₂ (λ (l : Text) (c : Chunk). split-lines l c (W₁ .starts)) (d .at .text) (entry-same top byte p s p s1 (rows-same top p) (d .bytes) e₁ (h .low))
+                          ∙ sym chunks-then;
                       mark-is = y .mark-is z ∙ sym (ap (λ (c : IndentedChunks). c .mark) closed-then);
-                      low = k .low byte1 (laid-row .low) entry-low;
-                      indentor-row = λ _.
-                          record {
-                            text = run-same top1 byte1 p1 s1 p2 s1 (k .rows) (bytes-same byte1 s1) (laid1, 1) (laid-row .low) ∙ laid-row .text;
-                            low = run-still top1 byte1 p1 p2 (k .rows) top2 byte1 (k .up) (omega arith) (laid1, 1) (laid-row .low);
-                          };
-                      rows-used = omega (arith, k .used, d .rows-used, d .some, pieces-are);
+                      low = k .low byte1 (d .at .low) entry-low;
+                      indentor-at = λ _. d .at;
+                      rows-used = omega (arith, k .used, pieces-are);
                       bytes-used = omega (arith, d .bytes-used, lines-bytes);
                     };
                 past = λ z. inl (omega (arith, y .past z, ap length chunks-then, lines-parts indentor c₁ (W₁ .starts)));
@@ -266,13 +253,10 @@ module _ {indentor source store t p s : List ℕ} {i top byte laid : ℕ} (exclu
                   text = λ _. omega (arith, d .end-is);
                 })
                 nil;
-            indentor-row = λ g.
-                let x = h .row .indentor-row g in
-                record {
-                  text = run-same top byte p s p s' (rows-same top p) ks (laid, 1) (x .low) ∙ x .text;
-                  low = run-still top byte p p (rows-same top p) top byte' (omega arith) (omega (arith, d .end-is)) (laid, 1) (x .low);
-                };
-            rows-used = omega arith;
+            indentor-at = λ g.
+                let x = h .row .indentor-at g in
+                record { text = part-kept (length indentor) laid byte s s' (ks .bytes) (x .low) ∙ x .text; low = omega (arith, x .low, d .end-is) };
+            rows-used = omega (arith, d .set .count);
             bytes-used = omega (arith, d .end-is, more-bytes);
           }
 

@@ -8,7 +8,7 @@ use lib.ListN.{length}
 use Rattle.memory_layout.specs.Layout.{CHUNKS}
 use Rattle.utf8.specs.Chars.{All}
 use Rattle.memory_table.specs.Table.{rowAt}
-use Rattle.memory_table.specs.Order.{entries, countOf, Linked}
+use Rattle.memory_table.specs.Order.{entries, Linked}
 use Rattle.model.specs.Text.{sum}
 use Rattle.model.specs.Chunk.{Chunk}
 use Rattle.model.specs.Limits.{chunk-pieces, chunk-bytes}
@@ -28,7 +28,7 @@ pub record ChunksIndented (indentor exclude source t p s : List ℕ) (mark : Boo
   pub low : All (EntryLow p' top' byte') (entries t')
   pub chunks : chunksOf t' p' s' ≡ closedOf indentor exclude source t p s mark .chunks
   pub mark-is : mark' ≡ closedOf indentor exclude source t p s mark .mark
-  pub rows-used : top' ≤ top + 1 + (sum chunk-pieces (chunksOf t p s) + countOf t)
+  pub rows-used : top' ≤ top + (sum chunk-pieces (chunksOf t p s) + CHUNKS)
   pub bytes-used : byte' ≤ byte + sum chunk-bytes (closedOf indentor exclude source t p s mark .chunks)
 
 -- the model's chunks pass a limit: there are too many, or more new bytes than the scratch store has room for

@@ -4,6 +4,7 @@ use mathlib.Core.Bool.{Bool}
 use mathlib.Core.List.{List, [], _∷_, _++_, map}
 use Prim.Native.Nat.{ℕ, _+_, _-_, _≤_, _<_}
 use lib.ListN.{length}
+use Rattle.memory_layout.specs.Layout.{CHUNKS}
 use Rattle.utf8.specs.Chars.{All}
 use Rattle.memory_table.specs.Table.{rowAt}
 use Rattle.memory_table.specs.Order.{Entry, entryAt, order, countOf, Linked}
@@ -16,7 +17,7 @@ use Rattle.memory_texts.specs.Texts.{SpanIn}
 use Rattle.memory_list.specs.Insert.{runsOf}
 use Rattle.memory_texts.specs.Low.{RowsKept, BytesKept, TextLow, EntryLow}
 use Rattle.model_indent_closed.specs.Indent.{then-chunks, indented-chunks}
-use Rattle.indent_source_chunk.specs.Parts.{IndentorRow}
+use Rattle.indent_head_tail.specs.Own.{IndentorAt}
 use Rattle.indent_chunks.specs.Walk.{chunksOf, closedOf}
 
 -- a row that the walk has not come to
@@ -51,7 +52,7 @@ pub record WalkAt (indentor exclude source store t₀ p₀ s₀ : List ℕ) (mar
   pub byte-in : byte ≤ length s
   pub low : All (EntryLow p top byte) (map (entryAt t) us)
   pub todo : All (RestRow source store p s top byte) (map (entryAt t) rest)
-  pub indentor-row : 0 < laid → IndentorRow indentor p s top byte laid
+  pub indentor-at : 0 < laid → IndentorAt indentor s byte laid
   pub result : closedOf indentor exclude source t₀ p₀ s₀ mark₀ ≡ then-chunks (chunksAt t p s us) (indented-chunks indentor exclude source mark (chunksAt t p s rest))
-  pub rows-used : top + (1 - laid) + (sum chunk-pieces (chunksAt t p s rest) + length rest) ≤ top₀ + 1 + (sum chunk-pieces (chunksOf t₀ p₀ s₀) + countOf t₀)
+  pub rows-used : top + (CHUNKS - countOf t) + (sum chunk-pieces (chunksAt t p s rest) + length rest) ≤ top₀ + (sum chunk-pieces (chunksOf t₀ p₀ s₀) + CHUNKS)
   pub bytes-used : byte ≤ byte₀ + sum chunk-bytes (chunksAt t p s us)

@@ -18,22 +18,21 @@ use Rattle.memory_list.specs.Insert.{Placed}
 use Rattle.memory_texts.specs.Low.{RowsKept, BytesKept, TextLow, EntryLow}
 use Rattle.model_indent_closed.specs.Indent.{IndentedChunks, indented-chunk}
 use Rattle.indent_cuts.specs.Splice.{Spliced}
-use Rattle.indent_source_chunk.specs.Parts.{IndentorRow}
+use Rattle.indent_head_tail.specs.Own.{IndentorAt}
 
 -- ---- what a row asks
 
--- a row, and room for what may become of it. Row `laid` is the indentor's piece; where that is 0, it is none yet
+-- a row, and room for what may become of it. The indentor lies at byte `laid`; where that is 0, it is not laid yet
 pub record RowAt (indentor source t p s : List ℕ) (i top byte laid : ℕ) : Type 0 where
   pub linked : Linked t
   pub placed : Placed t i
   pub span : SpanIn source (entryAt t i)
   pub valid : Valid (content source (chunkOf p s (entryAt t i)))
   pub low : EntryLow p top byte (entryAt t i)
-  pub above : 0 < top
-  pub indentor-row : 0 < laid → IndentorRow indentor p s top byte laid
+  pub indentor-at : 0 < laid → IndentorAt indentor s byte laid
   pub chunk-rows : CHUNKS-LEN ≤ length t
   pub narrow-chunks : length t ≤ 4294967296
-  pub rows : (top + (1 - laid) + (entryAt t i .intro .1 + 1)) * 2 ≤ length p
+  pub rows : (top + (CHUNKS - countOf t) + (entryAt t i .intro .1 + 1)) * 2 ≤ length p
   pub narrow-pieces : length p < 4294967296
   pub byte-in : byte ≤ length s
   pub narrow : length s < 4294967295
@@ -58,8 +57,8 @@ pub record RowIndented (indentor exclude source t p s : List ℕ) (i : ℕ) (mar
   pub chunks : map (chunkOf p' s') es ≡ closedRow indentor exclude source t p s i mark .chunks
   pub mark-is : mark' ≡ closedRow indentor exclude source t p s i mark .mark
   pub low : All (EntryLow p' top' byte') es
-  pub indentor-row : 0 < laid' → IndentorRow indentor p' s' top' byte' laid'
-  pub rows-used : top' + (1 - laid') ≤ top + (1 - laid) + (chunk-pieces (chunkOf p s (entryAt t i)) + 1)
+  pub indentor-at : 0 < laid' → IndentorAt indentor s' byte' laid'
+  pub rows-used : top' + (CHUNKS - countOf t') ≤ top + (CHUNKS - countOf t) + (chunk-pieces (chunkOf p s (entryAt t i)) + 1)
   pub bytes-used : byte' ≤ byte + sum chunk-bytes (closedRow indentor exclude source t p s i mark .chunks)
 
 pub record RowDone (indentor exclude source t p s : List ℕ) (i : ℕ) (mark : Bool) (top byte laid : ℕ) (t' p' s' : List ℕ) (number : ℕ) (mark' : Bool) (top' byte' laid' : ℕ) : Type 0 where

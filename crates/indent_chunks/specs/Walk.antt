@@ -24,7 +24,7 @@ bodyOf source cs = record { source = source; intro = []; outro = []; chunks = cs
 abbrev pub chunksOf : List ℕ → List ℕ → List ℕ → List Chunk
 chunksOf t p s = map (chunkOf p s) (entries t)
 
--- the lent store is the front of the scratch one, and the chunks' texts lie there. The indentor is no piece yet: there is room for its row
+-- the lent store is the front of the scratch one, and the chunks' texts lie there. There is room for a row for each piece, and for each chunk that there may be
 pub record WalkReady (source store t p s : List ℕ) (top byte : ℕ) : Type 0 where
   pub linked : Linked t
   pub formed : Formed (bodyOf source (chunksOf t p s))
@@ -32,11 +32,10 @@ pub record WalkReady (source store t p s : List ℕ) (top byte : ℕ) : Type 0 w
   pub texts-low : All (λ e. TextLow (length store) (e .text)) (entries t)
   pub store-front : take (length store) s ≡ store
   pub store-low : length store ≤ byte
-  pub above : 0 < top
   pub few : countOf t ≤ CHUNKS
   pub chunk-rows : CHUNKS-LEN ≤ length t
   pub narrow-chunks : length t ≤ 4294967296
-  pub rows : (top + 1 + (sum chunk-pieces (chunksOf t p s) + countOf t)) * 2 ≤ length p
+  pub rows : (top + (sum chunk-pieces (chunksOf t p s) + CHUNKS)) * 2 ≤ length p
   pub narrow-pieces : length p < 4294967296
   pub byte-in : byte ≤ length s
   pub narrow : length s < 4294967295

@@ -6,7 +6,7 @@ ghost use Rattle.memory_table.specs.Order.{entryAt};
 ghost use Rattle.indent_chunks.specs.Row.{RowAt, RowReady, RowDone};
 use memory_layout::numbers;
 
-// What a chunk leaves: 0, or 13 where the chunks pass a limit; the mark behind it; the piece row and the byte behind those in use; the indentor's piece row.
+// What a chunk leaves: 0, or 13 where the chunks pass a limit; the mark behind it; the piece row and the byte behind those in use; the byte where the indentor lies.
 pub struct Walked {
     pub number: u32,
     pub mark: bool,
@@ -15,7 +15,7 @@ pub struct Walked {
     pub laid: u32,
 }
 
-// A chunk without a replacement. At the first line start of all, the indentor becomes a piece.
+// A chunk without a replacement. At the first line start of all, the indentor is laid in the store.
 fn indent_lines(
     source: &[u8],
     indentor: &[u8],
@@ -47,7 +47,7 @@ fn indent_lines(
             laid,
         };
     }
-    let o = indent_head_tail::lay_indentor(p, s, indentor, top, byte, laid);
+    let o = indent_head_tail::lay_indentor(s, indentor, byte, laid);
     if !o.fits {
         return Walked {
             number: numbers::LIMIT,
@@ -66,8 +66,9 @@ fn indent_lines(
         start,
         x,
         end,
-        o.top,
         o.laid,
+        indentor.len() as u32,
+        top,
     );
     Walked {
         number: c.number,

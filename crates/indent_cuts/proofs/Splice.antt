@@ -1,8 +1,8 @@
 -- Laws of what `Splice` in specs/ defines.
 use mathlib.Core.Path.{_≡_, refl, sym, ap, ap₂, _∙_, subst}
-use mathlib.Core.Bool.{false}
+use mathlib.Core.Bool.{true, false}
 use mathlib.Core.List.{List, [], _∷_, _++_, map, append-assoc, map-append}
-use Prim.Native.Nat.{ℕ, _+_, _≤_, _<_}
+use Prim.Native.Nat.{ℕ, suc, _+_, _*_, _≤_, _<_}
 use native.Mathlib.Omega.{arith}
 use lib.ListN.{length, length-append}
 use Rattle.memory_table.specs.declared.Row.{Row}
@@ -10,25 +10,22 @@ use Rattle.memory_table.specs.Ring.{Each, Not}
 use Rattle.memory_table.proofs.Ring.{each-map, each-both, map-same}
 use Rattle.memory_table.specs.Table.{rowAt, Put}
 use Rattle.memory_table.specs.Order.{Entry, entryOf, entryAt, order, countOf, Linked}
-use Rattle.memory_table.specs.Sides.{with-side}
+use Rattle.memory_table.specs.Sides.{side, with-side}
 use Rattle.memory_table.proofs.Order.{inside-at, others, ranges}
 use Rattle.memory.specs.Layout.{Place}
 use Rattle.memory_list.specs.Insert.{Placed, runsOf}
 use Rattle.memory_list.specs.Split.{first, RowSet, SplitRow}
 use Rattle.memory_list.proofs.Split.{row-set}
-use Rattle.indent_cuts.specs.Splice.{withIntro, begun, Rewritten, Spliced, CutPart}
+use Rattle.edit_room_above.specs.Run.{TopRoom}
+use Rattle.edit_room_above.proofs.Longer.{longer-kept, longer-texts, longer-below}
+use Rattle.edit_insert_row.specs.Added.{RowAdded}
+use Rattle.indent_cuts.specs.Splice.{withIntro, Rewritten, Spliced, CutPart, Begun, CutDone}
 
 -- written in its place
 pub rewritten-set : {t t' : List ℕ} {i : ℕ} {r q : Row} {e : Entry} → Linked t → Placed t i → r ≡ rowAt t i → Rewritten r q e → Put t t' i q → length t' ≡ length t → RowSet t t' i e
 rewritten-set {t} {t'} {i} {r} {q} l w er c u m =
     subst (RowSet t t' i) (c .entry-is)
     (row-set t t' i q l w u (c .next ∙ ap (λ (x : Row). x .next) er) (c .prev ∙ ap (λ (x : Row). x .prev) er) m)
-
--- with another intro
-pub intro-set : {t t' : List ℕ} {i : ℕ} {r q : Row} (run : Place) → Linked t → Placed t i → r ≡ rowAt t i → q ≡ with-side false run r → Put t t' i q → length t' ≡ length t
-    → RowSet t t' i (withIntro run (entryAt t i))
-intro-set {t} {t'} {i} {r} {q} run l w er e =
-    rewritten-set l w er (subst (λ (x : Row). Rewritten r x (withIntro run (entryAt t i))) (sym e) (record { entry-is = ap (λ (x : Row). withIntro run (entryOf x)) er; next = refl; prev = refl }))
 
 -- ---- the other rows
 
@@ -83,62 +80,66 @@ set-then {t} {t1} {t2} {i} r m d =
       len = d .len ∙ m;
     }
 
--- ---- the row cut at q: row n, behind it, begins with the indentor
+-- ---- the row cut at q: row n, behind it, has the intro `run`
 
-pub cut-part : {t t1 t2 : List ℕ} {i n q laid : ℕ} → Linked t → Placed t i → n ≡ countOf t + 1 → SplitRow t t1 i q → length t1 ≡ length t
-    → RowSet t1 t2 n (begun laid (entryAt t1 n)) → length t2 ≡ length t1 → CutPart t t2 i n q laid
-cut-part {t} {t1} {t2} {i} {n} {q} {laid} l w en d m r k =
+cut-part : {t t1 t2 : List ℕ} {i n q : ℕ} {run : Place} → Linked t → Placed t i → n ≡ countOf t + 1 → SplitRow t t1 i q → length t1 ≡ length t
+    → RowSet t1 t2 n (withIntro run (entryAt t1 n)) → length t2 ≡ length t1 → CutPart t t2 i n q run
+cut-part {t} {t1} {t2} {i} {n} {q} {run} l w en d m r k =
     let b = inside-at t (w .us) i (w .bs) l (w .place) in
     record {
       linked = r .linked;
       number = en;
       order-is = λ us bs o. r .order-is ∙ d .order-is us bs o ∙ ap (λ (x : ℕ). us ++ i ∷ x ∷ bs) (sym en);
       here = ap entryOf (r .off i (λ e. omega arith)) ∙ d .here;
-      new = r .here ∙ ap (begun laid) (ap (entryAt t1) en ∙ d .new);
+      new = r .here ∙ ap (withIntro run) (ap (entryAt t1) en ∙ d .new);
       off = λ a h c x. ap entryOf (r .off a (λ e. omega arith)) ∙ d .off a (λ e. omega arith) (λ e. omega arith) x;
       desk = r .desk ∙ d .desk;
       count = omega (arith, r .count, d .count);
       len = k ∙ m;
     }
 
--- the writes that cut it
-pub cut-made : {t t1 t2 : List ℕ} {i q laid : ℕ} {z r x : Row} → Linked t → Placed t i → z ≡ rowAt t 0 → SplitRow t t1 i q → length t1 ≡ length t →
-    r ≡ rowAt t1 (z .start + 1) → x ≡ with-side false (laid, 1) r
-    → Put t1 t2 (z .start + 1) x → length t2 ≡ length t1 → CutPart t t2 i (z .start + 1) q laid
-cut-made {t} {t1} {t2} {i} {q} {laid} {z} {r} {x} l w ez d m er c u k =
-    let en : z .start + 1 ≡ countOf t + 1 = ap (λ (y : Row). y .start + 1) ez in
-    let p : Placed t1 (z .start + 1) =
-    record {
-      us = w .us ++ i ∷ [];
-      bs = w .bs;
-      place = d .order-is (w .us) (w .bs) (w .place) ∙ ap (λ (y : ℕ). w .us ++ i ∷ y ∷ w .bs) (sym en) ∙ sym (append-assoc (w .us) (i ∷ []) ((z .start + 1) ∷ w .bs));
-    } in
-    cut-part l w en d m (intro-set (laid, 1) (d .linked) p er c u k) k
+-- ---- the indentor in front of an intro, by the insertion's step on a row
 
--- the new row stands in the list
-pub cut-placed : {t t' : List ℕ} {i n q laid : ℕ} → CutPart t t' i n q laid → Placed t i → Placed t' n
-cut-placed {t} {t'} {i} {n} c w =
-    record { us = w .us ++ i ∷ []; bs = w .bs; place = c .order-is (w .us) (w .bs) (w .place) ∙ sym (append-assoc (w .us) (i ∷ []) (n ∷ w .bs)) }
+module _ {y : Place} {top : ℕ} {t p t' p' : List ℕ} {i above : ℕ} (d : RowAdded false true y top t p t' p' i above) where
+  pub begun-set : Linked t → Placed t i → length t' ≡ length t → RowSet t t' i (withIntro (d .first, suc (entryAt t i .intro .1)) (entryAt t i))
+  begun-set l w m = row-set t t' i (with-side false (d .first, suc (entryAt t i .intro .1)) (rowAt t i)) l w (d .put) refl refl m
 
--- and then row n replaced
-pub cut-then : {t t1 t2 : List ℕ} {i n q laid : ℕ} {es : List Entry} → Linked t → Placed t i → CutPart t t1 i n q laid → Spliced t1 t2 n es → Spliced t t2 i (first q (entryAt t i) ∷ es)
-cut-then {t} {t1} {t2} {i} {n} {q} {laid} {es} l w c d =
-    let b = inside-at t (w .us) i (w .bs) l (w .place) in
-    let e : entryAt t2 i ≡ first q (entryAt t i) = d .off i (b .0) (omega (arith, c .count)) (λ z. omega (arith, c .number)) ∙ c .here in
-    record {
-      linked = d .linked;
-      place = λ us bs o.
-          let k = d .place (us ++ i ∷ []) bs (c .order-is us bs o ∙ sym (append-assoc us (i ∷ []) (n ∷ bs))) in
-          record {
-            vs = i ∷ k .vs;
-            order-is = k .order-is ∙ append-assoc us (i ∷ []) (k .vs ++ bs);
-            here = ap₂ (λ (x : Entry) (xs : List Entry). x ∷ xs) e (k .here);
-          };
-      off = λ a h x y. d .off a h (omega (arith, c .count)) (λ z. omega (arith, c .number)) ∙ c .off a h x y;
-      desk = d .desk ∙ c .desk;
-      count = omega (arith, d .count, c .count);
-      len = d .len ∙ c .len;
-    }
+  pub begun : Begun y (entryAt t i .intro) top p p' (d .first, suc (entryAt t i .intro .1)) above
+  begun =
+      record {
+        rows = longer-kept (d .longer);
+        texts = longer-texts (d .longer);
+        low = λ byte h b. rw (d .above-is) (longer-below (d .longer) byte h (λ k g. b k g .1));
+        up = omega (arith, d .longer .from, d .above-is);
+      }
+
+-- the cut row's second half has no intro
+module _ {t t1 : List ℕ} {i n q : ℕ} (l : Linked t) (w : Placed t i) (en : n ≡ countOf t + 1) (d : SplitRow t t1 i q) where
+  no-intro : entryAt t1 n .intro ≡ (0, 0)
+  no-intro = ap (λ (e : Entry). e .intro) (ap (entryAt t1) en ∙ d .new)
+
+  pub cut-top : {p : List ℕ} {top : ℕ} → (top + 1) * 2 ≤ length p → TopRoom (side false (entryAt t1 n)) p top
+  cut-top h = rw no-intro (record { under = λ k. absurd (omega arith); rows-in = omega arith })
+
+  new-placed : Placed t1 n
+  new-placed =
+      record {
+        us = w .us ++ i ∷ [];
+        bs = w .bs;
+        place = d .order-is (w .us) (w .bs) (w .place) ∙ ap (λ (x : ℕ). w .us ++ i ∷ x ∷ w .bs) (sym en) ∙ sym (append-assoc (w .us) (i ∷ []) (n ∷ w .bs));
+      }
+
+  pub cut-done : {y : Place} {top : ℕ} {p t2 p' : List ℕ} {above : ℕ} → length t1 ≡ length t → RowAdded false true y top t1 p t2 p' n above → length t2 ≡ length t1
+      → CutDone t p t2 p' i n q y top
+  cut-done {y} {top} {p} {t2} {p'} {above} m r k =
+      let z : entryAt t1 n .intro .1 ≡ 0 = ap (λ (x : Place). x .1) no-intro in
+      let e : above ≡ top + 1 = omega (arith, r .above-is, r .longer .to, r .longer .from) in
+      record {
+        run = (r .first, suc (entryAt t1 n .intro .1));
+        part = cut-part l w en d m (begun-set r (d .linked) new-placed k) k;
+        begun = subst (λ (a : ℕ). Begun y (0, 0) top p p' (r .first, suc (entryAt t1 n .intro .1)) a) e
+            (subst (λ (x : Place). Begun y x top p p' (r .first, suc (entryAt t1 n .intro .1)) above) no-intro (begun r));
+      }
 
 -- ---- cuts one after another: the parts ds are done, row cur is the last part
 
@@ -173,8 +174,8 @@ cutting-placed {t₀} {t} {i} {cur} c w =
     let k = c .place (w .us) (w .bs) (w .place) in
     record { us = w .us ++ k .ws; bs = w .bs; place = k .order-is ∙ sym (append-assoc (w .us) (k .ws) (cur ∷ w .bs)) }
 
-pub cutting-more : {t₀ t t' : List ℕ} {i cur n q laid : ℕ} {ds : List Entry} → Cutting t₀ t i cur ds → CutPart t t' cur n q laid → Cutting t₀ t' i n (ds ++ first q (entryAt t cur) ∷ [])
-cutting-more {t₀} {t} {t'} {i} {cur} {n} {q} {laid} {ds} c d =
+pub cutting-more : {t₀ t t' : List ℕ} {i cur n q : ℕ} {run : Place} {ds : List Entry} → Cutting t₀ t i cur ds → CutPart t t' cur n q run → Cutting t₀ t' i n (ds ++ first q (entryAt t cur) ∷ [])
+cutting-more {t₀} {t} {t'} {i} {cur} {n} {q} {run} {ds} c d =
     record {
       linked = d .linked;
       place = λ us bs o.

@@ -1,22 +1,21 @@
--- Row i of the list replaced by rows with other entries, at its place: a row written anew, a row cut in two, and cuts one after another.
+-- Row i of the list replaced by rows with other entries, at its place: a row written anew, a row cut in two, and the indentor put in front of the second.
 use mathlib.Core.Path.{_≡_}
 use mathlib.Core.List.{List, _∷_, _++_, map}
-use Prim.Native.Nat.{ℕ, _+_, _≤_, _<_}
+use Prim.Native.Nat.{ℕ, _+_, _*_, _≤_, _<_}
 use lib.ListN.{length}
 use Rattle.memory_table.specs.declared.Row.{Row}
 use Rattle.memory_table.specs.Ring.{Not}
 use Rattle.memory_table.specs.Table.{rowAt}
 use Rattle.memory_table.specs.Order.{Entry, entryOf, entryAt, order, countOf, Linked}
-use Rattle.memory.specs.Layout.{Place}
+use Rattle.memory_layout.specs.Layout.{ROW}
+use Rattle.memory.specs.Layout.{Place, bytesAt, runOf}
+use Rattle.memory_used.specs.Below.{Below}
+use Rattle.memory_texts.specs.Low.{RowsKept}
 use Rattle.memory_list.specs.Insert.{runsOf}
 use Rattle.memory_list.specs.Split.{first, second}
 
 abbrev pub withIntro : Place → Entry → Entry
 withIntro r e = record { start = e .start; end = e .end; intro = r; outro = e .outro; text = e .text }
-
--- the indentor alone as the intro: its piece row is `laid`
-abbrev pub begun : ℕ → Entry → Entry
-begun laid e = withIntro (laid, 1) e
 
 abbrev pub withText : Place → Entry → Entry
 withText r e = record { start = e .start; end = e .end; intro = e .intro; outro = e .outro; text = r }
@@ -41,15 +40,37 @@ pub record Spliced (t t' : List ℕ) (i : ℕ) (es : List Entry) : Type 0 where
   pub count : countOf t' + 1 ≡ countOf t + length es
   pub len : length t' ≡ length t
 
--- ---- the row cut at q: row n, behind it, begins with the indentor
+-- ---- the row cut at q: row n, behind it, has the intro `run`
 
-pub record CutPart (t t' : List ℕ) (i n q laid : ℕ) : Type 0 where
+pub record CutPart (t t' : List ℕ) (i n q : ℕ) (run : Place) : Type 0 where
   pub linked : Linked t'
   pub number : n ≡ countOf t + 1
   pub order-is : (us bs : List ℕ) → order t ≡ us ++ i ∷ bs → order t' ≡ us ++ i ∷ n ∷ bs
   pub here : entryAt t' i ≡ first q (entryAt t i)
-  pub new : entryAt t' n ≡ begun laid (second q (entryAt t i))
+  pub new : entryAt t' n ≡ withIntro run (second q (entryAt t i))
   pub off : (a : ℕ) → 0 < a → a ≤ countOf t → Not i a → entryAt t' a ≡ entryAt t a
   pub desk : runsOf (rowAt t' 0) ≡ runsOf (rowAt t 0)
   pub count : countOf t' ≡ countOf t + 1
   pub len : length t' ≡ length t
+
+-- ---- the indentor in front of an intro
+
+-- the run has the text at y in front of the run x; rows below top stay
+pub record Begun (y x : Place) (top : ℕ) (p p' : List ℕ) (run : Place) (top' : ℕ) : Type 0 where
+  pub rows : RowsKept top p p'
+  pub texts : (s : List ℕ) → runOf p' s run ≡ bytesAt s y ∷ runOf p s x
+  pub low : (byte : ℕ) → y .0 + y .1 ≤ byte → Below p byte top x → Below p' byte top' run
+  pub up : top ≤ top'
+
+-- room for a row more, and for a piece row
+pub record CutRoom (t p : List ℕ) (top : ℕ) : Type 0 where
+  pub chunk : (countOf t + 1) * ROW + ROW ≤ length t
+  pub narrow : length t ≤ 4294967296
+  pub piece : (top + 1) * 2 ≤ length p
+  pub narrow-pieces : length p ≤ 4294967296
+
+-- the row cut at q, and the text at y put in front of the new row's intro, which is empty
+pub record CutDone (t p t' p' : List ℕ) (i n q : ℕ) (y : Place) (top : ℕ) : Type 0 where
+  pub run : Place
+  pub part : CutPart t t' i n q run
+  pub begun : Begun y (0, 0) top p p' run (top + 1)

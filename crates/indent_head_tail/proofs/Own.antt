@@ -1,7 +1,7 @@
 -- Laws of what `Own` in specs/ defines.
 use mathlib.Core.Path.{_≡_, refl, sym, ap, _∙_, subst}
 use mathlib.Core.Bool.{Bool, true, false}
-use mathlib.Core.List.{List, [], _∷_, _++_, append-nil}
+use mathlib.Core.List.{List, [], _++_, append-nil}
 use Prim.Native.Nat.{ℕ, zero, suc, _+_, _-_, _≤_, _<_}
 use native.Mathlib.Omega.{arith}
 use native.Mathlib.Nat.{add-zero}
@@ -13,16 +13,16 @@ use Rattle.memory_table.specs.Sides.{side}
 use Rattle.model.specs.Text.{Text}
 use Rattle.model.specs.Indent.{indent-pieces}
 use Rattle.model.proofs.Lists.{clash}
-use Rattle.memory.specs.Layout.{Place, pieceAt, runOf}
-use Rattle.memory_texts.proofs.Over.{take-over}
-use Rattle.memory_texts.proofs.Texts.{concat-one}
-use Rattle.memory_texts.specs.Carry.{Pushed, Carried, RoomOf, RoomFor}
-use Rattle.memory_texts.proofs.Carry.{carried-one, carried-rows, carried-bytes, carried-run, carried-below, kept-piece}
+use Rattle.memory.specs.Layout.{Place, bytesAt, pieceAt, runOf}
+use Rattle.memory_texts.specs.Over.{over}
+use Rattle.memory_texts.proofs.Over.{length-over, take-over, over-part}
+use Rattle.memory_texts.specs.Carry.{Carried, RoomOf}
+use Rattle.memory_texts.proofs.Carry.{carried-rows, carried-bytes, carried-run, carried-below, kept-piece}
 use Rattle.memory_list.proofs.Split.{desk-set}
-use Rattle.memory_texts.proofs.Low.{rows-same, bytes-same}
+use Rattle.memory_texts.proofs.Low.{bytes-same}
 use Rattle.indent_head_tail.specs.Run.{RunReady}
 use Rattle.indent_head_tail.proofs.Run.{RunIndented}
-use Rattle.indent_head_tail.specs.Own.{RunPut, moved, OwnReady, OwnDone, LayRoom, Laid}
+use Rattle.indent_head_tail.specs.Own.{RunPut, moved, OwnReady, OwnDone, LayReady, Laid}
 
 -- ---- a run put into tables that only grow
 
@@ -87,24 +87,16 @@ module _ (outro : Bool) (indentor : Text) (mark : Bool) (pieces store t p s : Li
 
 -- ---- the indentor
 
-module _ (indentor p s : List ℕ) (top byte laid : ℕ) (w : LayRoom p s top byte laid) where
-  pub laid-before : (laid ≡ 0 → ⊥) → Laid indentor p s top byte laid p s true top byte laid
+-- a text where it was put
+over-text : (s : List ℕ) (byte : ℕ) (text : List ℕ) → byte ≤ length s → bytesAt (over s byte text) (byte, length text) ≡ text
+over-text s byte text h = let z : byte + 0 ≡ byte = omega arith in rw (z, append-nil text) at (over-part s byte [] text [] h)
+
+module _ {indentor s : List ℕ} {byte laid : ℕ} (w : LayReady indentor s byte laid) where
+  pub laid-before : (laid ≡ 0 → ⊥) → Laid indentor s byte s true byte laid
   laid-before n =
-      let g : 0 < laid = positive laid n in
       record {
         done = λ _.
-            record {
-              rows = rows-same top p;
-              bytes = bytes-same byte s;
-              top-up = omega arith;
-              byte-up = omega arith;
-              byte-in = w .byte-in;
-              some = g;
-              text = λ f. f g;
-              low = λ f. f g;
-              rows-used = omega arith;
-              bytes-used = omega arith;
-            };
+            record { bytes = bytes-same byte s; byte-up = omega arith; byte-in = w .byte-in; at = w .before (positive laid n); bytes-used = omega arith };
         short = λ k. clash refl k;
       }
     where
@@ -112,32 +104,20 @@ module _ (indentor p s : List ℕ) (top byte laid : ℕ) (w : LayRoom p s top by
       positive zero z = absurd (z refl)
       positive (suc n) z = omega arith
 
-  pub laid-short : length s - byte < length indentor → Laid indentor p s top byte laid p s false top byte laid
+  pub laid-short : length s - byte < length indentor → Laid indentor s byte s false byte laid
   laid-short l = record { done = λ k. clash k refl; short = λ _. omega (arith, w .byte-in) }
 
-  module _ (z : laid ≡ 0) (l : length indentor ≤ length s - byte) where
-    pub lay-room : RoomFor indentor p s byte top
-    lay-room = record { row-in = omega (arith, w .rows); bytes-in = omega (arith, w .byte-in); narrow = w .narrow }
-
-    pub laid-now : (p' s' : List ℕ) (byte' : ℕ) → Pushed indentor p s byte top p' s' byte' → Laid indentor p s top byte laid p' s' true (top + 1) byte' top
-    laid-now p' s' byte' x =
-        let one : List Text = indentor ∷ [] in
-        let e : length (concat one) ≡ length indentor = ap length (concat-one indentor) in
-        let r : RoomOf one p s byte top = record { rows-in = omega (arith, w .rows); bytes-in = omega (arith, w .byte-in); rows-narrow = w .rows-narrow; narrow = w .narrow } in
-        let k = run-put (carried-one x) r in
-        record {
-          done = λ _.
-              record {
-                rows = k .rows;
-                bytes = k .bytes;
-                top-up = omega arith;
-                byte-up = omega (arith, k .byte-is);
-                byte-in = k .byte-in;
-                some = w .above;
-                text = λ _. k .run;
-                low = λ _. k .low;
-                rows-used = omega arith;
-                bytes-used = omega (arith, k .byte-is);
-              };
-          short = λ k. clash refl k;
-        }
+  pub laid-now : length indentor ≤ length s - byte → {s' : List ℕ} → s' ≡ over s byte indentor → Laid indentor s byte s' true (byte + length indentor) byte
+  laid-now l {s'} x =
+      let len : length s' ≡ length s = ap length x ∙ length-over s byte indentor (omega (arith, w .byte-in)) in
+      record {
+        done = λ _.
+            record {
+              bytes = record { len = len; bytes = ap (take byte) x ∙ take-over s byte indentor (w .byte-in) };
+              byte-up = omega arith;
+              byte-in = omega (arith, w .byte-in);
+              at = record { text = ap (λ (y : List ℕ). bytesAt y (byte, length indentor)) x ∙ over-text s byte indentor (w .byte-in); low = omega arith };
+              bytes-used = omega arith;
+            };
+        short = λ k. clash refl k;
+      }

@@ -1,10 +1,9 @@
--- The head or the tail indented, with row 0 naming the new run; and the indentor as a piece of its own.
+-- The head or the tail indented, with row 0 naming the new run; and the indentor laid in the store.
 use mathlib.Core.Path.{_≡_}
 use mathlib.Core.Bool.{Bool, true, false}
-use mathlib.Core.List.{List, [], _∷_}
-use Prim.Native.Nat.{ℕ, _+_, _*_, _-_, _^_, _≤_, _<_}
+use mathlib.Core.List.{List}
+use Prim.Native.Nat.{ℕ, _+_, _^_, _≤_, _<_}
 use lib.ListN.{length}
-use Rattle.memory_layout.specs.Layout.{PIECE}
 use Rattle.utf8.specs.Chars.{concat}
 use Rattle.memory_table.specs.declared.Row.{Row}
 use Rattle.memory_table.specs.Table.{rowAt}
@@ -12,7 +11,7 @@ use Rattle.memory_table.specs.Order.{entryOf, entryAt, Linked}
 use Rattle.memory_table.specs.Sides.{side, with-side}
 use Rattle.model.specs.Text.{Text}
 use Rattle.model.specs.Indent.{indent-pieces}
-use Rattle.memory.specs.Layout.{runOf}
+use Rattle.memory.specs.Layout.{bytesAt, runOf}
 use Rattle.memory_used.specs.Below.{Below}
 use Rattle.memory_list.specs.Insert.{runsOf}
 use Rattle.memory_list.specs.Split.{DeskSet}
@@ -52,27 +51,24 @@ pub record OwnDone (outro : Bool) (indentor : Text) (mark : Bool) (ts : List Tex
 
 -- ---- the indentor
 
--- room for it as a piece, where it is none (`laid` is 0)
-pub record LayRoom (p s : List ℕ) (top byte laid : ℕ) : Type 0 where
-  pub above : 0 < top
-  pub rows : (top + (1 - laid)) * PIECE ≤ length p
-  pub rows-narrow : length p < 2 ^ 32
+-- it lies in the store from byte `laid` on, and ends at or before a byte
+pub record IndentorAt (indentor s : List ℕ) (byte laid : ℕ) : Type 0 where
+  pub text : bytesAt s (laid, length indentor) ≡ indentor
+  pub low : laid + length indentor ≤ byte
+
+-- it lies there, unless `laid` is 0
+pub record LayReady (indentor s : List ℕ) (byte laid : ℕ) : Type 0 where
+  pub before : 0 < laid → IndentorAt indentor s byte laid
   pub byte-in : byte ≤ length s
   pub narrow : length s < 2 ^ 32
 
--- its row is laid'
-pub record LaidRow (indentor p s : List ℕ) (top byte laid : ℕ) (p' s' : List ℕ) (top' byte' laid' : ℕ) : Type 0 where
-  pub rows : RowsKept top p p'
+pub record LaidText (indentor s : List ℕ) (byte : ℕ) (s' : List ℕ) (byte' laid' : ℕ) : Type 0 where
   pub bytes : BytesKept byte s s'
-  pub top-up : top ≤ top'
   pub byte-up : byte ≤ byte'
   pub byte-in : byte' ≤ length s'
-  pub some : 0 < laid'
-  pub text : (0 < laid → runOf p s (laid, 1) ≡ indentor ∷ []) → runOf p' s' (laid', 1) ≡ indentor ∷ []
-  pub low : (0 < laid → Below p byte top (laid, 1)) → Below p' byte' top' (laid', 1)
-  pub rows-used : top' ≤ top + (1 - laid)
+  pub at : IndentorAt indentor s' byte' laid'
   pub bytes-used : byte' ≤ byte + length indentor
 
-pub record Laid (indentor p s : List ℕ) (top byte laid : ℕ) (p' s' : List ℕ) (fits : Bool) (top' byte' laid' : ℕ) : Type 0 where
-  pub done : fits ≡ true → LaidRow indentor p s top byte laid p' s' top' byte' laid'
+pub record Laid (indentor s : List ℕ) (byte : ℕ) (s' : List ℕ) (fits : Bool) (byte' laid' : ℕ) : Type 0 where
+  pub done : fits ≡ true → LaidText indentor s byte s' byte' laid'
   pub short : fits ≡ false → length s < byte + length indentor

@@ -1,4 +1,4 @@
-// indent.rs on a piece of the head or the tail, written behind the texts in use with the indentor put in; and the indentor as a piece.
+// indent.rs on a piece of the head or the tail, written behind the texts in use with the indentor put in; and the indentor laid there.
 ghost use mathlib.Core.Path.{_≡_};
 ghost use mathlib.Core.Bool.{true};
 ghost use Rattle.utf8.specs.Rfc3629.{utf8 as isText};
@@ -6,7 +6,7 @@ ghost use Rattle.model.specs.Indent.{indent-frag};
 ghost use Rattle.indent_mark.specs.Bytes.{mark-behind};
 ghost use Rattle.memory.specs.Layout.{bytesAt, pieceAt};
 ghost use Rattle.indent_head_tail.specs.Run.{PieceRoom, PieceIndented, TextReady, TextIndented};
-ghost use Rattle.indent_head_tail.specs.Own.{LayRoom, Laid};
+ghost use Rattle.indent_head_tail.specs.Own.{LayReady, Laid};
 use indent_write::FilledText;
 
 // One text, with the indentor put in: its bytes at a byte of the store, its place at a row of the pieces.
@@ -73,48 +73,38 @@ pub fn indent_at(
     }
 }
 
-// Whether the indentor is a piece; then the piece row and the byte behind those in use, and its row.
+// Whether the indentor is laid in the store; then the byte behind the texts in use, and the byte where it begins.
 pub struct LaidAt {
     pub fits: bool,
-    pub top: u32,
     pub byte: u32,
     pub laid: u32,
 }
 
-// The indentor as a piece: as it is laid already, or (`laid` is 0) at row top, with its bytes from `byte` on.
-pub fn lay_indentor(
-    p: &mut [u32],
-    s: &mut [u8],
-    indentor: &[u8],
-    top: u32,
-    byte: u32,
-    laid: u32,
-) -> LaidAt
-    requires { ⌜ LayRoom (now p) (now s) top byte laid ⌝ }
-    ensures { λ r. ⌜ Laid (now (indentor .entry)) (now (p .entry)) (now (s .entry)) top byte laid (now (p .exit)) (now (s .exit)) (r .fits) (r .top) (r .byte) (r .laid) ⌝ }
+// The indentor in the store: as it is laid already, or (`laid` is 0) from `byte` on.
+pub fn lay_indentor(s: &mut [u8], indentor: &[u8], byte: u32, laid: u32) -> LaidAt
+    requires { ⌜ LayReady (now indentor) (now s) byte laid ⌝ }
+    ensures { λ r. ⌜ Laid (now (indentor .entry)) (now (s .entry)) byte (now (s .exit)) (r .fits) (r .byte) (r .laid) ⌝ }
 {
     if laid != 0 {
         return LaidAt {
             fits: true,
-            top,
             byte,
             laid,
         };
     }
     let at = byte as usize;
-    if s.len() - at < indentor.len() {
+    let n = indentor.len();
+    if s.len() - at < n {
         return LaidAt {
             fits: false,
-            top,
             byte,
             laid,
         };
     }
-    let end = memory_copy::push_piece(p, s, indentor, at, top as usize);
+    memory_texts::put(&mut s[at..], indentor);
     LaidAt {
         fits: true,
-        top: top + 1,
-        byte: end as u32,
-        laid: top,
+        byte: byte + n as u32,
+        laid: byte,
     }
 }

@@ -9,6 +9,7 @@ use lib.Dec.{eqb, leb, ltb}
 use lib.ListN.{length, getD, take, drop, length-drop}
 use lib.Seq.{drop-cons}
 use Rattle.model.specs.Text.{Text, LF, CR}
+use Rattle.model.proofs.Lists.{no-tf}
 use Rattle.model.specs.Indent.{excluded, Starts, then-start}
 use Rattle.indent_mark.specs.Bytes.{mark-on, begins-line, mark-past, starts-from, part, NextStart}
 
@@ -69,6 +70,11 @@ turn text exclude mark at end m i w s h k e =
     s .left ∙ ap (starts-from exclude m i) (part-cons text i end h k)
     ∙ ap (λ (j : ℕ). at-byte text exclude end i (mark-past exclude m i (getD text j 0)) (begins-line exclude m i (getD text j 0))) (sym e)
 
+-- a line begins where the mark is set
+set-begins : (m x y : Bool) → ((m && x) && y) ≡ true → (x && y) ≡ true
+set-begins true x y h = h
+set-begins false x y h = no-tf (sym h)
+
 pub seek-met : (text exclude : List ℕ) (mark : Bool) (at end : ℕ) (m : Bool) (i w : ℕ) (r : Bool) → Seeking text exclude mark at end m i → i < end → end ≤ length text → w ≡ i
     → r ≡ begins-line exclude m i (getD text w 0) → r ≡ true → NextStart text exclude mark at end i false
 seek-met text exclude mark at end m i w r s h k e b t =
@@ -76,7 +82,9 @@ seek-met text exclude mark at end m i w r s h k e b t =
       from-on = s .from-on;
       up-to = s .up-to;
       found = λ _. turn text exclude mark at end m i w s h k e ∙ ap (at-byte text exclude end i (mark-past exclude m i (getD text w 0))) (sym b ∙ t);
-      taken = λ _. refl;
+      again = λ _.
+          turn text exclude true i end true i w (seek-none text exclude true i end (omega arith)) h k e
+          ∙ ap (at-byte text exclude end i (mark-past exclude true i (getD text w 0))) (set-begins m _ _ (sym b ∙ t));
       none-left = λ n. absurd (omega arith);
     }
 
@@ -99,7 +107,7 @@ seek-all text exclude mark at end m i s h =
       from-on = omega (arith, s .from-on);
       up-to = omega arith;
       found = λ l. absurd (omega arith);
-      taken = λ l. absurd (omega arith);
+      again = λ l. absurd (omega arith);
       none-left = λ _. s .left ∙ ap (λ (j : ℕ). starts-from exclude m j (part text j end)) e ∙ ap (λ (j : ℕ). starts-from exclude m end (take j (drop end text))) n;
     }
 

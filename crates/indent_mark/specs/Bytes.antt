@@ -54,10 +54,10 @@ starts-from exclude mark i (b ∷ s) =
 abbrev pub part : Text → ℕ → ℕ → Text
 part text a b = take (b - a) (drop a text)
 
--- what `next_start` finds from a place on: a line start r and those behind it, or no other up to the end
+-- what `next_start` finds from a place on: a line start r, which takes the mark, and those behind it; or no other up to the end
 pub record NextStart (text exclude : List ℕ) (mark : Bool) (at end r : ℕ) (m : Bool) : Type 0 where
   pub from-on : at ≤ r
   pub up-to : r ≤ end
   pub found : r < end → starts-from exclude mark at (part text at end) ≡ then-start r (starts-from exclude false (r + 1) (part text (r + 1) end))
-  pub taken : r < end → m ≡ false
+  pub again : r < end → starts-from exclude true r (part text r end) ≡ then-start r (starts-from exclude false (r + 1) (part text (r + 1) end))
   pub none-left : r ≡ end → starts-from exclude mark at (part text at end) ≡ record { mark = m; starts = [] }

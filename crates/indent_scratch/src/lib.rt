@@ -26,7 +26,7 @@ fn indent_by(
 {
     edit_scratch::load(chunks, pieces, store, t, p, s);
     let r = indent_steps::indent_steps(source, pieces, store, t, p, s, indentor, exclude);
-    if r == 13 {
+    if r == numbers::LIMIT {
         return Outcome {
             number: numbers::LIMIT,
             used,

@@ -1,3 +1,1 @@
-pub mod Begin
-pub mod Parts
 pub mod Source

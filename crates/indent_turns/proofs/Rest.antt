@@ -60,7 +60,7 @@ module _ (indentor exclude source pieces store t p s : List ℕ) (mark : Bool) (
       tail-at = ap (λ (x : Runs). x .1) (k .desk)
 
       tail-rows : (top1 + entryAt t 0 .outro .1) * 2 ≤ length p1
-      tail-rows = omega (arith, k .rows-used, k .rows .len, w .few, w .walk .few, w .long-pieces)
+      tail-rows = omega (arith, k .rows-used, k .rows .len, w .few, w .long-pieces)
 
       pub tail-ready : OwnReady true pieces store t1 p1 s1 top1 byte1
       tail-ready =

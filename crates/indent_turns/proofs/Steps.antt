@@ -187,20 +187,10 @@ module _ (indentor exclude source t p s p1 s1 : List ℕ) (w : StepsReady source
                   texts-low = subst (All (λ e. TextLow (length s) (e .text))) (sym (o .desk .chunks)) (texts-low p s (w .readable .chunks));
                   store-front = store-front;
                   store-low = omega (arith, up, w .store);
-                  above = omega arith;
                   few = omega (arith, o .desk .count, few-chunks source t p s (w .desk .limits));
                   chunk-rows = omega (arith, o .len, w .chunks);
                   narrow-chunks = omega (arith, o .len, w .chunks);
-                  rows =
-                      omega (
-                        arith,
-                        counted,
-                        ap (sum chunk-pieces) chunks-are,
-                        o .desk .count,
-                        few-chunks source t p s (w .desk .limits),
-                        rows-kept .len,
-                        w .long-pieces,
-                      );
+                  rows = omega (arith, counted, ap (sum chunk-pieces) chunks-are, rows-kept .len, w .long-pieces);
                   narrow-pieces = omega (arith, rows-kept .len, w .long-pieces);
                   byte-in = o .put .byte-in;
                   narrow = omega (arith, bytes-kept .len, w .long-store);

@@ -1,4 +1,7 @@
 // indent.rs: one turn of the walk of `indent_with` on scratch tables: a text of the head, of the chunks or of the tail, or the step from one part to the next.
+// The walk is one pass and not an `insert` at each line start: an insertion looks for its chunk from the list's front, so that as many as there are lines would
+// take time by the square. The walk stands at the chunk already, and takes the insertion's two steps on rows there, the cut and the piece. The indentor is laid
+// in the store once and every piece names it, until the rebuild at the end copies it for each.
 ghost use mathlib.Core.Path.{_≡_};
 ghost use mathlib.Core.Bool.{true};
 ghost use Prim.Native.Nat.{_+_, _≤_, _<_};
@@ -9,6 +12,7 @@ ghost use Rattle.memory_table.specs.Order.{entryAt};
 ghost use Rattle.memory_table.specs.Sides.{side};
 ghost use Rattle.indent_turns.specs.Walk.{stopped-at, onward-at, run-from, chunks-from, over-at, RunEnded, PieceReady, PieceTurned, ChunkReady, ChunkTurned, PartReady};
 ghost use Rattle.indent_turns.specs.Walk.{PartTurned, TurnReady, Turned};
+use memory_layout::numbers;
 
 // The parts of the desk, in the order of the walk.
 pub const HEAD: u32 = 0;
@@ -18,7 +22,7 @@ const CHUNKS: u32 = 1;
 const TAIL: u32 = 2;
 
 // A place on the walk: the part, the text in it (a lent piece row behind `row`, or the chunk row `row`), how many of n are done, the piece row and the byte behind those in use, and
-// the indentor's piece row, 0 as long as it is no piece. Where there is no more, the number is the walk's answer.
+// the byte where the indentor lies, 0 as long as it is not laid (new texts are laid behind the lent store). Where there is no more, the number is the walk's answer.
 pub struct TextAt {
     pub more: bool,
     pub number: u32,
@@ -43,7 +47,7 @@ fn stopped(at: TextAt) -> TextAt
 {
     let mut q = at;
     q.more = false;
-    q.number = 13;
+    q.number = numbers::LIMIT;
     q
 }
 

@@ -56,8 +56,8 @@ fn edit_text(
 {
     let kind = k.kind;
     match kind {
-        8 => edit_append::append(source, chunks, pieces, store, text, used),
-        9 => edit_prepend::prepend(source, chunks, pieces, store, text, used),
+        8 => edit_insert::insert_whole(source, chunks, pieces, store, text, true, used),
+        9 => edit_insert::insert_whole(source, chunks, pieces, store, text, false, used),
         _ => edit_update::update_with(
             source,
             chunks,

@@ -1,6 +1,6 @@
 // The calls that change a desk.
 ghost use mathlib.Core.Path.{_≡_};
-ghost use Rattle.model.specs.Call.{remove, update-with, reset, append-left, append-right, prepend-left, prepend-right, append, prepend, relocate, trim, trim-start, trim-end};
+ghost use Rattle.model.specs.Call.{remove, update-with, reset, insert, append, prepend, relocate, trim, trim-start, trim-end};
 ghost use Rattle.model.specs.Call.{trim-lines, indent-with};
 ghost use Rattle.memory.specs.Calls.{Edited};
 ghost use Rattle.memory.specs.Calls.{indentor-of};
@@ -97,100 +97,40 @@ pub extern "C" fn magic_string_reset(
     }
 }
 
+// Left of the position or right, at the front of the piece list or the back: any value but 0 is yes.
 #[no_mangle]
-pub extern "C" fn magic_string_append_left(
+pub extern "C" fn magic_string_insert(
     source: &[u8],
     chunks: &mut [u32],
     pieces: &mut [u32],
     store: &mut [u8],
     at: u32,
     text: &[u8],
+    left: u32,
+    front: u32,
 ) -> Answer
-    ensures { λ r. ⌜ Edited (append-left at (now (text .entry))) (now (source .entry)) (now (chunks .entry)) (now (pieces .entry)) (now (store .entry))
+    ensures { λ r. ⌜ Edited (insert at (now (text .entry)) (flag left) (flag front)) (now (source .entry)) (now (chunks .entry)) (now (pieces .entry)) (now (store .entry))
         (now (chunks .exit)) (now (pieces .exit)) (now (store .exit)) (r .number) × (r .value ≡ 0) ⌝ }
 {
+    let on_left = memory::flag(left);
+    let at_front = memory::flag(front);
     let Seen::Desk(used) = check_well_formed::taken(source, chunks, pieces, store) else {
         return Answer {
             number: numbers::NOT_WELL_FORMED,
             value: 0,
         };
     };
-    let o = edit_append::append_left(source, chunks, pieces, store, at, text, used);
-    Answer {
-        number: o.number,
-        value: 0,
-    }
-}
-
-#[no_mangle]
-pub extern "C" fn magic_string_append_right(
-    source: &[u8],
-    chunks: &mut [u32],
-    pieces: &mut [u32],
-    store: &mut [u8],
-    at: u32,
-    text: &[u8],
-) -> Answer
-    ensures { λ r. ⌜ Edited (append-right at (now (text .entry))) (now (source .entry)) (now (chunks .entry)) (now (pieces .entry)) (now (store .entry))
-        (now (chunks .exit)) (now (pieces .exit)) (now (store .exit)) (r .number) × (r .value ≡ 0) ⌝ }
-{
-    let Seen::Desk(used) = check_well_formed::taken(source, chunks, pieces, store) else {
-        return Answer {
-            number: numbers::NOT_WELL_FORMED,
-            value: 0,
-        };
-    };
-    let o = edit_append::append_right(source, chunks, pieces, store, at, text, used);
-    Answer {
-        number: o.number,
-        value: 0,
-    }
-}
-
-#[no_mangle]
-pub extern "C" fn magic_string_prepend_left(
-    source: &[u8],
-    chunks: &mut [u32],
-    pieces: &mut [u32],
-    store: &mut [u8],
-    at: u32,
-    text: &[u8],
-) -> Answer
-    ensures { λ r. ⌜ Edited (prepend-left at (now (text .entry))) (now (source .entry)) (now (chunks .entry)) (now (pieces .entry)) (now (store .entry))
-        (now (chunks .exit)) (now (pieces .exit)) (now (store .exit)) (r .number) × (r .value ≡ 0) ⌝ }
-{
-    let Seen::Desk(used) = check_well_formed::taken(source, chunks, pieces, store) else {
-        return Answer {
-            number: numbers::NOT_WELL_FORMED,
-            value: 0,
-        };
-    };
-    let o = edit_prepend::prepend_left(source, chunks, pieces, store, at, text, used);
-    Answer {
-        number: o.number,
-        value: 0,
-    }
-}
-
-#[no_mangle]
-pub extern "C" fn magic_string_prepend_right(
-    source: &[u8],
-    chunks: &mut [u32],
-    pieces: &mut [u32],
-    store: &mut [u8],
-    at: u32,
-    text: &[u8],
-) -> Answer
-    ensures { λ r. ⌜ Edited (prepend-right at (now (text .entry))) (now (source .entry)) (now (chunks .entry)) (now (pieces .entry)) (now (store .entry))
-        (now (chunks .exit)) (now (pieces .exit)) (now (store .exit)) (r .number) × (r .value ≡ 0) ⌝ }
-{
-    let Seen::Desk(used) = check_well_formed::taken(source, chunks, pieces, store) else {
-        return Answer {
-            number: numbers::NOT_WELL_FORMED,
-            value: 0,
-        };
-    };
-    let o = edit_prepend::prepend_right(source, chunks, pieces, store, at, text, used);
+    let o = edit_insert::insert(
+        source,
+        chunks,
+        pieces,
+        store,
+        at,
+        text,
+        on_left,
+        at_front,
+        used,
+    );
     Answer {
         number: o.number,
         value: 0,
@@ -214,7 +154,7 @@ pub extern "C" fn magic_string_append(
             value: 0,
         };
     };
-    let o = edit_append::append(source, chunks, pieces, store, text, used);
+    let o = edit_insert::insert_whole(source, chunks, pieces, store, text, true, used);
     Answer {
         number: o.number,
         value: 0,
@@ -238,7 +178,7 @@ pub extern "C" fn magic_string_prepend(
             value: 0,
         };
     };
-    let o = edit_prepend::prepend(source, chunks, pieces, store, text, used);
+    let o = edit_insert::insert_whole(source, chunks, pieces, store, text, false, used);
     Answer {
         number: o.number,
         value: 0,

@@ -111,9 +111,9 @@ pub const TRIM_STORE_LEN: usize = STORE_LEN + SOURCE_BYTES;
 // An update: behind the store, a text as long as the store.
 pub const UPDATE_STORE_LEN: usize = 2 * STORE_LEN;
 
-// An indent: behind the lent piece rows one for the indentor, one for each piece of a desk, and one for each chunk that begins a line; behind the store
-// the texts of the new desk, and once a chunk has the indentor as a piece, the indentor.
-pub const INDENT_PIECES_LEN: usize = (PIECE_ROWS + 1 + PIECES + CHUNKS) * PIECE;
+// An indent: behind the lent piece rows one for each piece of a desk, and one for each chunk that begins a line; behind the store the texts of the new desk,
+// and once a chunk has the indentor as a piece, the indentor.
+pub const INDENT_PIECES_LEN: usize = (PIECE_ROWS + PIECES + CHUNKS) * PIECE;
 
 pub const INDENT_STORE_LEN: usize = 2 * STORE_LEN;
 

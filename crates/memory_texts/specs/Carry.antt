@@ -1,7 +1,6 @@
 -- Texts put into tables one after the other, from a byte of the store and a row of the piece table on.
 use mathlib.Core.Path.{_≡_}
-use mathlib.Core.List.{List, [], _∷_, _++_}
-use mathlib.Core.Bool.{Bool, true, false}
+use mathlib.Core.List.{List, [], _∷_}
 use Prim.Native.Nat.{ℕ, _+_, _*_, _^_, _≤_, _<_}
 use lib.ListN.{length}
 use Rattle.utf8.specs.Chars.{concat}
@@ -37,8 +36,3 @@ pub record RoomOf (ts : List Text) (p s : List ℕ) (byte row : ℕ) : Type 0 wh
   pub bytes-in : byte + length (concat ts) ≤ length s
   pub rows-narrow : length p < 2 ^ 32
   pub narrow : length s < 2 ^ 32
-
--- a list of texts with one more in front or behind
-abbrev pub withText : Bool → Text → List Text → List Text
-withText true t ts = (t ∷ []) ++ ts
-withText false t ts = ts ++ (t ∷ [])

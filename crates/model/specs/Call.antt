@@ -11,6 +11,7 @@ use Rattle.model.specs.MagicString.{MagicString, Result, ok, err, new}
 use Rattle.model.specs.MagicString as mod-rs
 use Rattle.model.specs.Append as append-rs
 use Rattle.model.specs.Prepend as prepend-rs
+use Rattle.model.specs.Insert as insertion
 use Rattle.model.specs.Update as update-rs
 use Rattle.model.specs.Movement as movement-rs
 use Rattle.model.specs.Reset as reset-rs
@@ -26,7 +27,8 @@ pub data Edit : Type 0 where
   remove : ℕ → ℕ → Edit
   update-with : ℕ → ℕ → Text → Bool → Edit
   reset : ℕ → ℕ → Edit
-  append-left append-right prepend-left prepend-right : ℕ → Text → Edit
+  -- at a position; left of it or right, at the front of the piece list or the back
+  insert : ℕ → Text → Bool → Bool → Edit
   append prepend : Text → Edit
   relocate : ℕ → ℕ → ℕ → Edit
   trim trim-start trim-end : ℕ → Edit
@@ -77,11 +79,6 @@ pub record Asked : Type 0 where
   -- of its own: "6, 7, 9 and `update_with`'s 10 leave the desk as the Rust does: cuts made stay, so do chunks cleared before 7. All others change nothing"
   pub leaving : List ℕ
 
--- an insertion by a function of append.rs or prepend.rs: its one cut is made or refused, so that 6 leaves nothing
-abbrev pub insertion : ℕ → Text → (MagicString → Result) → Asked
-insertion p t f =
-    record { options-valid = true; texts = t ∷ []; positions = p ∷ []; idle = false; steps = f; before = 1 ∷ 3 ∷ []; own = 6 ∷ []; leaving = [] }
-
 abbrev pub addition : Text → (MagicString → Result) → Asked
 addition t f = record { options-valid = true; texts = t ∷ []; positions = []; idle = false; steps = f; before = 1 ∷ []; own = []; leaving = [] }
 
@@ -123,10 +120,18 @@ asked (reset a b) =
       own = 4 ∷ 10 ∷ 6 ∷ [];
       leaving = 6 ∷ [];
     }
-asked (append-left p t) = insertion p t (append-rs.append-left p t)
-asked (append-right p t) = insertion p t (append-rs.append-right p t)
-asked (prepend-left p t) = insertion p t (prepend-rs.prepend-left p t)
-asked (prepend-right p t) = insertion p t (prepend-rs.prepend-right p t)
+-- the one cut is made or refused, so that 6 leaves nothing
+asked (insert p t left front) =
+    record {
+      options-valid = true;
+      texts = t ∷ [];
+      positions = p ∷ [];
+      idle = false;
+      steps = insertion.insert p t left front;
+      before = 1 ∷ 3 ∷ [];
+      own = 6 ∷ [];
+      leaving = [];
+    }
 asked (append t) = addition t (append-rs.append t)
 asked (prepend t) = addition t (prepend-rs.prepend t)
 asked (relocate a b to) =
@@ -298,10 +303,7 @@ abbrev pub listed : Edit → Bool
 listed (remove a b) = true
 listed (update-with a b t o) = true
 listed (reset a b) = true
-listed (append-left p t) = true
-listed (append-right p t) = true
-listed (prepend-left p t) = true
-listed (prepend-right p t) = true
+listed (insert p t left front) = true
 listed (append t) = true
 listed (prepend t) = true
 listed (relocate a b to) = true

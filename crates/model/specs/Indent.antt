@@ -9,7 +9,7 @@ use Rattle.utf8.specs.Chars.{chars}
 use Rattle.model.specs.Text.{Text, TAB, LF, CR, SPACE, is-nil, unwrap-or, same, lines}
 use Rattle.model.specs.Chunk.{Chunk, start-of, span-text, edit}
 use Rattle.model.specs.MagicString.{MagicString, Result, ok, and-then, with-chunks, with-intro, with-outro, at-start}
-use Rattle.model.specs.Prepend.{prepend-right}
+use Rattle.model.specs.Insert.{right, front, insert}
 
 -- ── `guess_indentor` ──
 -- `starts_with('\t')`, `starts_with("  ")`, and the spaces that a line begins with
@@ -111,10 +111,10 @@ line-starts exclude mark i (c ∷ cs) =
       ]
     ]
 
--- `prepend_right` of the indentor at each line start
-abbrev pub prepend-at : Text → List ℕ → MagicString → Result
-prepend-at indentor [] m = ok m
-prepend-at indentor (i ∷ l) m = and-then (prepend-right i indentor m) (prepend-at indentor l)
+-- the insertion of the indentor at each line start, right of it and at the front: `prepend_right`
+abbrev pub insert-all : Text → List ℕ → MagicString → Result
+insert-all indentor [] m = ok m
+insert-all indentor (i ∷ l) m = and-then (insert i indentor right front m) (insert-all indentor l)
 
 -- ── the loop over the chunks as they stood at the start; intros and outros are passed over ──
 pub record Marked : Type 0 where
@@ -131,7 +131,7 @@ indent-chunk indentor exclude mark c m =
             record { mark = r .mark; result = ok (with-chunks m (at-start (start-of c) (edit (r .text) false) (m .chunks))) }
       ]
       | none ↦ let r : Starts = line-starts exclude mark (start-of c) (chars (span-text (c .span) (m .source))) in
-          record { mark = r .mark; result = prepend-at indentor (r .starts) m }
+          record { mark = r .mark; result = insert-all indentor (r .starts) m }
     ]
 
 abbrev pub indent-chunks : Text → List ℕ → Bool → List Chunk → MagicString → Marked

@@ -3,6 +3,7 @@ pub mod Chunk
 pub mod MagicString
 pub mod Append
 pub mod Prepend
+pub mod Insert
 pub mod Update
 pub mod Movement
 pub mod Reset

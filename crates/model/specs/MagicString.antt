@@ -7,7 +7,7 @@ use lib.Dec.{leb, eqb}
 use lib.ListN.{length}
 use Rattle.utf8.specs.Chars.{chars, concat, code, utf16Width}
 use Rattle.model.specs.Text.{Text, same, is-nil, is-some, back, any, all, sum, trim-white-space, behind-last-line-feed, line-feeds}
-use Rattle.model.specs.Chunk.{Chunk, Texts, new-chunk, with-texts, start-of, end-of, contains, is-edited, is-filled, first-half, second-half, content}
+use Rattle.model.specs.Chunk.{Span, Chunk, Texts, new-chunk, with-texts, start-of, end-of, contains, is-edited, is-filled, first-half, second-half, content}
 use Rattle.model.specs.Chunk as chunk
 
 -- `MagicString`, document 01's desk: the source, the text's head (`intro`) and tail (`outro`), and the chunks in list order
@@ -149,23 +149,33 @@ unfoldable pub is-range-within-edited-chunk : ℕ → ℕ → MagicString → Bo
 is-range-within-edited-chunk start end m =
     any (λ c. (leb (start-of c) start && leb end (end-of c)) && is-edited c) (m .chunks)
 
--- ── chunks by position: `chunk_by_start` and `chunk_by_end` ──
+-- ── chunks by position ──
+-- left of a position is the chunk that ends there, right of it the chunk that starts there
+abbrev pub edge : Bool → Span → ℕ
+edge true s = s .end
+edge false s = s .start
+
+abbrev pub by-edge : Bool → ℕ → List Chunk → Option Chunk
+by-edge left at [] = none
+by-edge left at (c ∷ cs) = cond (eqb (edge left (c .span)) at) (some c) (by-edge left at cs)
+
+-- `chunk_by_start`, `chunk_by_end`
 abbrev pub by-start : ℕ → List Chunk → Option Chunk
-by-start at [] = none
-by-start at (c ∷ cs) = cond (eqb (start-of c) at) (some c) (by-start at cs)
+by-start = by-edge false
 
 abbrev pub by-end : ℕ → List Chunk → Option Chunk
-by-end at [] = none
-by-end at (c ∷ cs) = cond (eqb (end-of c) at) (some c) (by-end at cs)
+by-end = by-edge true
 
--- `self.chunks[idx]` changed, for the chunk that starts, or ends, at a position
+-- `self.chunks[idx]` changed, for that chunk
+abbrev pub at-edge : Bool → ℕ → (Texts → Texts) → List Chunk → List Chunk
+at-edge left at f [] = []
+at-edge left at f (c ∷ cs) = cond (eqb (edge left (c .span)) at) (with-texts f c ∷ cs) (c ∷ at-edge left at f cs)
+
 abbrev pub at-start : ℕ → (Texts → Texts) → List Chunk → List Chunk
-at-start at f [] = []
-at-start at f (c ∷ cs) = cond (eqb (start-of c) at) (with-texts f c ∷ cs) (c ∷ at-start at f cs)
+at-start = at-edge false
 
 abbrev pub at-end : ℕ → (Texts → Texts) → List Chunk → List Chunk
-at-end at f [] = []
-at-end at f (c ∷ cs) = cond (eqb (end-of c) at) (with-texts f c ∷ cs) (c ∷ at-end at f cs)
+at-end = at-edge true
 
 -- ── `split_at`, document 01's cut ──
 -- the search for the chunk that contains the position, and its split: 6 if its replacement is not empty
@@ -189,18 +199,25 @@ split-at at m =
     cond (eqb at 0 || (leb (length (m .source)) at || is-some (by-end at (m .chunks)))) (ok m)
     (cond (refuses-split (holder at (m .chunks))) (err 6 m) (ok (with-chunks m (split-holder at (m .chunks)))))
 
--- `by_start_mut`, with what its callers do: after the cut the chunk that starts at the position is changed by f, or else the tail by g
-unfoldable pub by-start-mut : ℕ → (Texts → Texts) → (List Text → List Text) → MagicString → Result
-by-start-mut at f g m =
-    and-then (split-at at m) (λ m. elim (by-start at (m .chunks)) [
-      | none ↦ ok (with-outro m (g (m .outro)))
-      | some c ↦ ok (with-chunks m (at-start at f (m .chunks)))
-    ])
+-- the head changed for left, the tail for right
+abbrev pub with-whole : Bool → MagicString → (List Text → List Text) → MagicString
+with-whole left m g =
+    record { source = m .source; intro = cond left (g (m .intro)) (m .intro); outro = cond left (m .outro) (g (m .outro)); chunks = m .chunks }
 
--- `by_end_mut`, with what its callers do: after the cut the chunk that ends at the position is changed by f, or else the head by g
-unfoldable pub by-end-mut : ℕ → (Texts → Texts) → (List Text → List Text) → MagicString → Result
-by-end-mut at f g m =
-    and-then (split-at at m) (λ m. elim (by-end at (m .chunks)) [
-      | none ↦ ok (with-intro m (g (m .intro)))
-      | some c ↦ ok (with-chunks m (at-end at f (m .chunks)))
-    ])
+-- the chunk at the position is changed by f, or where there is none the head or the tail by g
+abbrev pub change-at : Bool → ℕ → (Texts → Texts) → (List Text → List Text) → MagicString → Result
+change-at left at f g m =
+    elim (by-edge left at (m .chunks)) [
+      | none ↦ ok (with-whole left m g)
+      | some c ↦ ok (with-chunks m (at-edge left at f (m .chunks)))
+    ]
+
+-- `by_end_mut` for left and `by_start_mut` for right, with what their callers do: the cut, then the change
+unfoldable pub by-edge-mut : Bool → ℕ → (Texts → Texts) → (List Text → List Text) → MagicString → Result
+by-edge-mut left at f g m = and-then (split-at at m) (change-at left at f g)
+
+abbrev pub by-start-mut : ℕ → (Texts → Texts) → (List Text → List Text) → MagicString → Result
+by-start-mut = by-edge-mut false
+
+abbrev pub by-end-mut : ℕ → (Texts → Texts) → (List Text → List Text) → MagicString → Result
+by-end-mut = by-edge-mut true

@@ -5,7 +5,8 @@ use mathlib.Core.List.{List, [], _∷_}
 use mathlib.Core.Option.{none, some}
 use lib.ListN.{replicate}
 use Rattle.model.specs.Limits.{full}
-use Rattle.model.specs.Call.{remove, update-with, append-left, append-right, relocate, trim, indent-with, report, len}
+use Rattle.model.specs.Insert.{left, right, back}
+use Rattle.model.specs.Call.{remove, update-with, insert, relocate, trim, indent-with, report, len}
 use Rattle.model_cases.specs.Case.{Case}
 use Rattle.model_cases.specs.Letters.{a, b, c, d, e, f, x, X, Z, lf, tab, space, gives, opened, edited, output, sliced, last-is}
 
@@ -14,7 +15,7 @@ abbrev pub case-f : Case
 case-f =
     record {
       steps =
-          opened (a ∷ b ∷ c ∷ d ∷ []) 0 ∷ edited (relocate 2 3 4) 0 ∷ edited (append-left 1 []) 0 ∷
+          opened (a ∷ b ∷ c ∷ d ∷ []) 0 ∷ edited (relocate 2 3 4) 0 ∷ edited (insert 1 [] left back) 0 ∷
           edited (update-with 0 3 (X ∷ []) false) 7 ∷ output (a ∷ d ∷ c ∷ []) ∷ [];
       spans = (0, 1) ∷ (1, 2) ∷ (3, 4) ∷ (2, 3) ∷ [];
     }
@@ -33,7 +34,7 @@ marked =
     -- D "abcdef", remove 1,5, append_left 3 "Z": "aZf"; slice from 3: "f"
     record {
       steps =
-          opened (a ∷ b ∷ c ∷ d ∷ e ∷ f ∷ []) 0 ∷ edited (remove 1 5) 0 ∷ edited (append-left 3 (Z ∷ [])) 0 ∷
+          opened (a ∷ b ∷ c ∷ d ∷ e ∷ f ∷ []) 0 ∷ edited (remove 1 5) 0 ∷ edited (insert 3 (Z ∷ []) left back) 0 ∷
           output (a ∷ Z ∷ f ∷ []) ∷ sliced 3 none (f ∷ []) ∷ [];
       spans = (0, 1) ∷ (1, 3) ∷ (3, 5) ∷ (5, 6) ∷ [];
     } ∷
@@ -48,12 +49,12 @@ marked =
     case-f ∷
     -- G two spaces, append_right 2 " x", trim: " x"
     record {
-      steps = opened (space ∷ space ∷ []) 0 ∷ edited (append-right 2 (space ∷ x ∷ [])) 0 ∷ edited (trim 0) 0 ∷ output (space ∷ x ∷ []) ∷ [];
+      steps = opened (space ∷ space ∷ []) 0 ∷ edited (insert 2 (space ∷ x ∷ []) right back) 0 ∷ edited (trim 0) 0 ∷ output (space ∷ x ∷ []) ∷ [];
       spans = (0, 2) ∷ [];
     } ∷
     -- H "abc", append_right 3 "x", then "": last character c
     record {
-      steps = opened (a ∷ b ∷ c ∷ []) 0 ∷ edited (append-right 3 (x ∷ [])) 0 ∷ edited (append-right 3 []) 0 ∷ last-is c ∷ [];
+      steps = opened (a ∷ b ∷ c ∷ []) 0 ∷ edited (insert 3 (x ∷ []) right back) 0 ∷ edited (insert 3 [] right back) 0 ∷ last-is c ∷ [];
       spans = (0, 3) ∷ [];
     } ∷
     -- I "a", line feed, "b", indented: a tab before a and before b
@@ -62,7 +63,7 @@ marked =
       spans = (0, 2) ∷ (2, 3) ∷ [];
     } ∷
     -- J "abc", append_left 9 "x": "xabc"
-    record { steps = opened (a ∷ b ∷ c ∷ []) 0 ∷ edited (append-left 9 (x ∷ [])) 0 ∷ output (x ∷ a ∷ b ∷ c ∷ []) ∷ []; spans = (0, 3) ∷ [] } ∷
+    record { steps = opened (a ∷ b ∷ c ∷ []) 0 ∷ edited (insert 9 (x ∷ []) left back) 0 ∷ output (x ∷ a ∷ b ∷ c ∷ []) ∷ []; spans = (0, 3) ∷ [] } ∷
     -- K 16,384 bytes open, 16,385 give 13
     record {
       steps = opened (replicate (full .most-source) a) 0 ∷ gives (report len) 0 (full .most-source) [] ∷ opened (replicate (full .most-source + 1) a) 13 ∷ gives

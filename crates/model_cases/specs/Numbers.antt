@@ -5,7 +5,8 @@ use mathlib.Core.List.{List, [], _∷_}
 use mathlib.Core.Option.{none, some}
 use lib.ListN.{replicate}
 use Rattle.model.specs.Limits.{full}
-use Rattle.model.specs.Call.{remove, update-with, reset, append-left, relocate, trim, report, to-string}
+use Rattle.model.specs.Insert.{left, back}
+use Rattle.model.specs.Call.{remove, update-with, reset, insert, relocate, trim, report, to-string}
 use Rattle.model_cases.specs.Case.{Case}
 use Rattle.model_cases.specs.Letters.{a, b, c, d, e, f, X, Z, gives, opened, edited, output, slice-refused}
 use Rattle.model_cases.specs.Marked.{case-f}
@@ -27,7 +28,7 @@ numbers =
     -- 6 cut inside a non-empty replacement: "abcdef", update 0,4 "X", append_left 2
     record {
       steps =
-          opened (a ∷ b ∷ c ∷ d ∷ e ∷ f ∷ []) 0 ∷ edited (update-with 0 4 (X ∷ []) false) 0 ∷ edited (append-left 2 (Z ∷ [])) 6 ∷
+          opened (a ∷ b ∷ c ∷ d ∷ e ∷ f ∷ []) 0 ∷ edited (update-with 0 4 (X ∷ []) false) 0 ∷ edited (insert 2 (Z ∷ []) left back) 6 ∷
           output (X ∷ e ∷ f ∷ []) ∷ [];
       spans = (0, 4) ∷ (4, 6) ∷ [];
     } ∷
@@ -42,7 +43,7 @@ numbers =
     -- 11 slice starts inside a replaced chunk: case D, slice from 2. 12 slice ends there: case D, slice 0 to 2
     record {
       steps =
-          opened (a ∷ b ∷ c ∷ d ∷ e ∷ f ∷ []) 0 ∷ edited (remove 1 5) 0 ∷ edited (append-left 3 (Z ∷ [])) 0 ∷
+          opened (a ∷ b ∷ c ∷ d ∷ e ∷ f ∷ []) 0 ∷ edited (remove 1 5) 0 ∷ edited (insert 3 (Z ∷ []) left back) 0 ∷
           slice-refused 2 none 11 ∷ slice-refused 0 (some 2) 12 ∷ [];
       spans = (0, 1) ∷ (1, 3) ∷ (3, 5) ∷ (5, 6) ∷ [];
     } ∷

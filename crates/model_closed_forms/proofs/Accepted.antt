@@ -9,7 +9,7 @@ use Rattle.model.specs.Chunk.{Chunk}
 use Rattle.model.specs.MagicString.{MagicString, ok, err, with-chunks}
 use Rattle.model.specs.Call.{Edit}
 use Rattle.model.proofs.Lists.{clash}
-use Rattle.model_closed_forms.specs.Plan.{Plan, nothing, clear, replace, insert-left, insert-right, insert-head, insert-tail, move, refused-first, cut-all, cuttable}
+use Rattle.model_closed_forms.specs.Plan.{Plan, nothing, clear, replace, insert-piece, insert-whole, move, refused-first, cut-all, cuttable}
 use Rattle.model_closed_forms.specs.Plan.{cut-until-refused, cuts, in-order, order-number, left-over, ends-past, apply, closed-plan, unless-refused, closed}
 use Rattle.model_closed_forms.specs.Accepted.{plan-of, Accepted}
 
@@ -23,10 +23,8 @@ unfolding in-order order-number
 order-refused nothing cs h k = clash refl h
 order-refused (clear a b r) cs h k = clash refl h
 order-refused (replace a b t o) cs h k = omega arith
-order-refused (insert-left p w t) cs h k = clash refl h
-order-refused (insert-right p w t) cs h k = clash refl h
-order-refused (insert-head w t) cs h k = clash refl h
-order-refused (insert-tail w t) cs h k = clash refl h
+order-refused (insert-piece p t left front) cs h k = clash refl h
+order-refused (insert-whole t left front) cs h k = clash refl h
 order-refused (move a b to) cs h k = omega arith
 
 pub closed-accepted : (e : Edit) (m : MagicString) → closed e m .number ≡ 0 → Accepted e m

@@ -12,12 +12,12 @@ use borrow.Author.Tests.{eq-eqb, ne-eqb, lt-ltb, le-ltb, le-leb, lt-leb}
 use Rattle.utf8.specs.Chars.{All, nil, cons}
 use Rattle.model.specs.Text.{Text, sum, is-some}
 use Rattle.model.specs.Chunk.{Texts, Chunk, chunk-of, with-texts, start-of, end-of}
-use Rattle.model.specs.MagicString.{by-start, by-end, at-start, at-end}
+use Rattle.model.specs.MagicString.{edge, by-edge, by-start, by-end, at-edge, at-start}
 use Rattle.model.specs.Movement.{change-by-position}
 use Rattle.model.specs.WellFormed.{covers}
 use Rattle.model.proofs.Lists.{clash, rest-of, all-of, all-map, all-map₂, map-keeps, map-same, map-none}
 use Rattle.model.proofs.Spans.{covers-in, covers-out}
-use Rattle.model_closed_forms.specs.Plan.{inside, chunk-starts, chunk-ends}
+use Rattle.model_closed_forms.specs.Plan.{inside, chunk-starts, chunk-ends, has-chunk}
 use Rattle.model_closed_forms.proofs.Cuts.{Contains, ends-by, starts-from}
 use Rattle.model_closed_forms.proofs.Spans.{Inside, inside-true, inside-false, dec-inside, covers-map, none-cover, self-covered, Once, once-rest, one-start, one-end}
 use Rattle.model_closed_forms.proofs.Spans.{tiling-once}
@@ -27,12 +27,9 @@ use Rattle.model_closed_forms.specs.Spans.{Proper, Tiling, Cover, empty,
 abbrev pub in-range : ℕ → ℕ → (Texts → Texts) → Chunk → Chunk
 in-range a b f c = with-texts (λ x. cond (inside a b (start-of c)) (f x) x) c
 
--- the chunk that starts, or ends, at p is changed by f
-abbrev pub if-start : ℕ → (Texts → Texts) → Chunk → Chunk
-if-start p f c = with-texts (λ x. cond (eqb (start-of c) p) (f x) x) c
-
-abbrev pub if-end : ℕ → (Texts → Texts) → Chunk → Chunk
-if-end p f c = with-texts (λ x. cond (eqb (end-of c) p) (f x) x) c
+-- the chunk that ends at p (left), or starts there (right), is changed by f
+abbrev pub if-edge : Bool → ℕ → (Texts → Texts) → Chunk → Chunk
+if-edge left p f c = with-texts (λ x. cond (eqb (edge left (c .span)) p) (f x) x) c
 
 range-in : (a b : ℕ) (f : Texts → Texts) (c : Chunk) → Inside a b (start-of c) → in-range a b f c ≡ with-texts f c
 range-in a b f c h = rw (inside-true a b (start-of c) h)
@@ -285,41 +282,33 @@ by-position f a b ab (empty t) al = walk-empty f a b t ab
 by-position f a b ab (tiled {source = s} {cs = cs} l t) al = walk (length s) f b (length cs) a cs ab t al (from-length a cs)
 
 -- ── the chunk that an insertion looks for ──
-at-end-map : (p : ℕ) (f : Texts → Texts) (cs : List Chunk) → Once cs → All Proper cs → at-end p f cs ≡ map (if-end p f) cs
-at-end-map p f [] o pr = refl
-at-end-map p f (c ∷ cs) o pr = go (ℕ-discrete (end-of c) p) (at-end-map p f cs (once-rest c cs o) (rest-of pr))
-  where
-    go : Dec (end-of c ≡ p) → at-end p f cs ≡ map (if-end p f) cs → at-end p f (c ∷ cs) ≡ map (if-end p f) (c ∷ cs)
-    go (yes e) ih =
-        let w : (d : Chunk) → (end-of d ≡ end-of c → ⊥) → if-end p f d ≡ d = λ d n. rw (ne-eqb (end-of d) p (λ j. n (j ∙ sym e))) in
-        rw (eq-eqb (end-of c) p e) (ap (λ l. with-texts f c ∷ l) (sym (map-none (if-end p f) (all-map w (one-end c cs o pr)))))
-    go (no e) ih = rw (ne-eqb (end-of c) p e) (ap (λ l. c ∷ l) ih)
+-- no other chunk has that edge
+one-edge : (left : Bool) (c : Chunk) (cs : List Chunk) → Once (c ∷ cs) → All Proper (c ∷ cs) → All (λ d. edge left (d .span) ≡ edge left (c .span) → ⊥) cs
+one-edge true c cs o pr = one-end c cs o pr
+one-edge false c cs o pr = one-start c cs o pr
 
-at-start-map : (p : ℕ) (f : Texts → Texts) (cs : List Chunk) → Once cs → All Proper cs → at-start p f cs ≡ map (if-start p f) cs
-at-start-map p f [] o pr = refl
-at-start-map p f (c ∷ cs) o pr = go (ℕ-discrete (start-of c) p) (at-start-map p f cs (once-rest c cs o) (rest-of pr))
+at-edge-map : (left : Bool) (p : ℕ) (f : Texts → Texts) (cs : List Chunk) → Once cs → All Proper cs → at-edge left p f cs ≡ map (if-edge left p f) cs
+at-edge-map left p f [] o pr = refl
+at-edge-map left p f (c ∷ cs) o pr = go (ℕ-discrete (edge left (c .span)) p) (at-edge-map left p f cs (once-rest c cs o) (rest-of pr))
   where
-    go : Dec (start-of c ≡ p) → at-start p f cs ≡ map (if-start p f) cs → at-start p f (c ∷ cs) ≡ map (if-start p f) (c ∷ cs)
+    go : Dec (edge left (c .span) ≡ p) → at-edge left p f cs ≡ map (if-edge left p f) cs → at-edge left p f (c ∷ cs) ≡ map (if-edge left p f) (c ∷ cs)
     go (yes e) ih =
-        let w : (d : Chunk) → (start-of d ≡ start-of c → ⊥) → if-start p f d ≡ d = λ d n. rw (ne-eqb (start-of d) p (λ j. n (j ∙ sym e))) in
-        rw (eq-eqb (start-of c) p e) (ap (λ l. with-texts f c ∷ l) (sym (map-none (if-start p f) (all-map w (one-start c cs o pr)))))
-    go (no e) ih = rw (ne-eqb (start-of c) p e) (ap (λ l. c ∷ l) ih)
+        let w : (d : Chunk) → (edge left (d .span) ≡ edge left (c .span) → ⊥) → if-edge left p f d ≡ d = λ d n. rw (ne-eqb (edge left (d .span)) p (λ j. n (j ∙ sym e))) in
+        rw (eq-eqb (edge left (c .span)) p e) (ap (λ l. with-texts f c ∷ l) (sym (map-none (if-edge left p f) (all-map w (one-edge left c cs o pr)))))
+    go (no e) ih = rw (ne-eqb (edge left (c .span)) p e) (ap (λ l. c ∷ l) ih)
 
 -- on the one chunk of an empty source
 one-or : (b : Bool) (f : Texts → Texts) (c : Chunk) → cond b (with-texts f c ∷ []) (c ∷ []) ≡ with-texts (λ x. cond b (f x) x) c ∷ []
 one-or true f c = refl
 one-or false f c = refl
 
-pub at-end-is-map : (p : ℕ) (f : Texts → Texts) {s : Text} {cs : List Chunk} → Cover s cs → at-end p f cs ≡ map (if-end p f) cs
-at-end-is-map p f (empty t) = one-or (eqb 0 p) f (chunk-of 0 0 t)
-at-end-is-map p f (tiled {cs = cs} l t) = at-end-map p f cs (tiling-once t) (t .proper)
-
-pub at-start-is-map : (p : ℕ) (f : Texts → Texts) {s : Text} {cs : List Chunk} → Cover s cs → at-start p f cs ≡ map (if-start p f) cs
-at-start-is-map p f (empty t) = one-or (eqb 0 p) f (chunk-of 0 0 t)
-at-start-is-map p f (tiled {cs = cs} l t) = at-start-map p f cs (tiling-once t) (t .proper)
+pub at-edge-is-map : (left : Bool) (p : ℕ) (f : Texts → Texts) {s : Text} {cs : List Chunk} → Cover s cs → at-edge left p f cs ≡ map (if-edge left p f) cs
+at-edge-is-map true p f (empty t) = one-or (eqb 0 p) f (chunk-of 0 0 t)
+at-edge-is-map false p f (empty t) = one-or (eqb 0 p) f (chunk-of 0 0 t)
+at-edge-is-map left p f (tiled {cs = cs} l t) = at-edge-map left p f cs (tiling-once t) (t .proper)
 
 -- a chunk ends, or starts, where the plan says
-pub end-is-found : (p : ℕ) {s : Text} {cs : List Chunk} → Cover s cs → All (λ c. Contains p c → ⊥) cs → is-some (by-end p cs) ≡ chunk-ends (length s) p
+end-is-found : (p : ℕ) {s : Text} {cs : List Chunk} → Cover s cs → All (λ c. Contains p c → ⊥) cs → is-some (by-end p cs) ≡ chunk-ends (length s) p
 end-is-found zero (empty t) al = refl
 end-is-found (suc p) (empty t) al = rw (ne-eqb 0 (suc p) (λ e. omega arith), lt-leb (suc p) 0 (omega arith))
 end-is-found p (tiled {source = s} {cs = cs} l t) al = go (ℕ-discrete p 0) (decLe p (length s))
@@ -329,7 +318,7 @@ end-is-found p (tiled {source = s} {cs = cs} l t) al = go (ℕ-discrete p 0) (de
     go (no z) (yes k) = rw (end-found p al (omega arith) (omega (arith, t .exact (p - 1) (omega arith))), le-leb p (length s) k, lt-ltb 0 p (omega arith))
     go (no z) (no k) = rw (end-missing p (all-map (λ c w e. omega arith) (t .within)), lt-leb p (length s) (omega arith))
 
-pub start-is-found : (p : ℕ) {s : Text} {cs : List Chunk} → Cover s cs → All (λ c. Contains p c → ⊥) cs → is-some (by-start p cs) ≡ chunk-starts (length s) p
+start-is-found : (p : ℕ) {s : Text} {cs : List Chunk} → Cover s cs → All (λ c. Contains p c → ⊥) cs → is-some (by-start p cs) ≡ chunk-starts (length s) p
 start-is-found zero (empty t) al = refl
 start-is-found (suc p) (empty t) al = rw (ne-eqb 0 (suc p) (λ e. omega arith), le-ltb (suc p) 0 (omega arith), ne-eqb (suc p) 0 (λ e. omega arith))
 start-is-found p (tiled {source = s} {cs = cs} l t) al = go (decLt p (length s))
@@ -343,8 +332,12 @@ start-is-found p (tiled {source = s} {cs = cs} l t) al = go (decLt p (length s))
           ne-eqb p 0 (λ e. omega arith),
         )
 
+pub chunk-is-found : (left : Bool) (p : ℕ) {s : Text} {cs : List Chunk} → Cover s cs → All (λ c. Contains p c → ⊥) cs → is-some (by-edge left p cs) ≡ has-chunk (length s) p left
+chunk-is-found true p v al = end-is-found p v al
+chunk-is-found false p v al = start-is-found p v al
+
 -- where none does, the position needs no cut
-pub no-end-aligned : (p : ℕ) {s : Text} {cs : List Chunk} → Cover s cs → chunk-ends (length s) p ≡ false → All (λ c. Contains p c → ⊥) cs
+no-end-aligned : (p : ℕ) {s : Text} {cs : List Chunk} → Cover s cs → chunk-ends (length s) p ≡ false → All (λ c. Contains p c → ⊥) cs
 no-end-aligned p (empty t) h = let n : Contains p (chunk-of 0 0 t) → ⊥ = λ i. omega arith in cons n nil
 no-end-aligned p (tiled {source = s} {cs = cs} l t) h = go (ℕ-discrete p 0) (decLe p (length s))
   where
@@ -353,10 +346,14 @@ no-end-aligned p (tiled {source = s} {cs = cs} l t) h = go (ℕ-discrete p 0) (d
     go (no z) (yes k) = clash (rw (le-leb p (length s) k, lt-ltb 0 p (omega arith))) h
     go (no z) (no k) = all-map (λ c w i. omega arith) (t .within)
 
-pub no-start-aligned : (p : ℕ) {s : Text} {cs : List Chunk} → Cover s cs → chunk-starts (length s) p ≡ false → All (λ c. Contains p c → ⊥) cs
+no-start-aligned : (p : ℕ) {s : Text} {cs : List Chunk} → Cover s cs → chunk-starts (length s) p ≡ false → All (λ c. Contains p c → ⊥) cs
 no-start-aligned p (empty t) h = let n : Contains p (chunk-of 0 0 t) → ⊥ = λ i. omega arith in cons n nil
 no-start-aligned p (tiled {source = s} {cs = cs} l t) h = go (decLt p (length s))
   where
     go : Dec (p < length s) → All (λ c. Contains p c → ⊥) cs
     go (yes k) = clash (rw (lt-ltb p (length s) k)) h
     go (no k) = all-map (λ c w i. omega arith) (t .within)
+
+pub no-chunk-aligned : (left : Bool) (p : ℕ) {s : Text} {cs : List Chunk} → Cover s cs → has-chunk (length s) p left ≡ false → All (λ c. Contains p c → ⊥) cs
+no-chunk-aligned true p v h = no-end-aligned p v h
+no-chunk-aligned false p v h = no-start-aligned p v h

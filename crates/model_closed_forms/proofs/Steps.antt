@@ -19,16 +19,17 @@ use Rattle.model.specs.Update as update-rs
 use Rattle.model.specs.Movement.{segment, move-segment}
 use Rattle.model.specs.Movement as movement-rs
 use Rattle.model.specs.Reset as reset-rs
-use Rattle.model.specs.Call.{Edit, remove, update-with, reset, append-left, append-right, prepend-left, prepend-right, append, prepend, relocate, trim, trim-start, trim-end}
+use Rattle.model.specs.Call.{Edit, remove, update-with, reset, insert, append, prepend, relocate, trim, trim-start, trim-end}
 use Rattle.model.specs.Call.{trim-lines, indent-with, steps, listed}
+use Rattle.model.specs.Insert.{left, right, front, back}
 use Rattle.model.specs.WellFormed.{Formed}
 use Rattle.model.proofs.Lists.{clash, bool-cases, all-of, map-none}
-use Rattle.model_closed_forms.specs.Plan.{replace, move, front, back, plan, refused-first, cut-all, cuts, rearrange, act, acted, on-head, on-tail, in-order, order-number}
+use Rattle.model_closed_forms.specs.Plan.{replace, move, plan, refused-first, cut-all, cuts, rearrange, act, acted, on-head, on-tail, in-order, order-number}
 use Rattle.model_closed_forms.specs.Plan.{stands-together, left-over, ends-past, apply, closed-plan, closed}
 use Rattle.model_closed_forms.specs.Spans.{Proper, Cover, empty, tiled}
 use Rattle.model_closed_forms.proofs.Spans.{formed-cover}
 use Rattle.model_closed_forms.proofs.SplitAt.{cover-once, cover-cut-all, cuts-then-step}
-use Rattle.model_closed_forms.proofs.ByPlan.{nothing-is-closed, head-is-closed, tail-is-closed, clear-is-closed, left-is-closed, right-is-closed}
+use Rattle.model_closed_forms.proofs.ByPlan.{nothing-is-closed, whole-is-closed, clear-is-closed, insert-is-closed}
 use Rattle.model_closed_forms.proofs.UpdateWalk.{update-chunks-closed}
 use Rattle.model_closed_forms.proofs.MoveWalk.{move-segment-closed}
 
@@ -121,12 +122,9 @@ unfolding closed refused-first plan
 steps-cover (remove a b) m h v = remove-closed a b m v
 steps-cover (update-with a b t o) m h v = update-closed a b t o m v
 steps-cover (reset a b) m h v = reset-closed a b m v
-steps-cover (append-left p t) m h v = left-is-closed p back t m v
-steps-cover (append-right p t) m h v = right-is-closed p back t m v
-steps-cover (prepend-left p t) m h v = left-is-closed p front t m v
-steps-cover (prepend-right p t) m h v = right-is-closed p front t m v
-steps-cover (append t) m h v = tail-is-closed back t m
-steps-cover (prepend t) m h v = head-is-closed front t m
+steps-cover (insert p t left front) m h v = insert-is-closed p t left front m v
+steps-cover (append t) m h v = whole-is-closed right back t m
+steps-cover (prepend t) m h v = whole-is-closed left front t m
 steps-cover (relocate a b to) m h v = relocate-closed a b to m v
 steps-cover (trim p) m h v = clash h refl
 steps-cover (trim-start p) m h v = clash h refl

@@ -6,19 +6,15 @@ use mathlib.Core.List.{List, [], _∷_, _++_, map}
 use mathlib.Core.Option.{Option, none, some}
 use lib.Dec.{ltb, leb, eqb}
 use lib.ListN.{length}
-use Rattle.model.specs.Text.{Text, all, push-back}
+use Rattle.model.specs.Text.{Text, all}
 use Rattle.model.specs.Chunk.{Span, Texts, Chunk, bare, with-texts, start-of, end-of, contains, is-filled, first-half, second-half, edit}
-use Rattle.model.specs.MagicString.{MagicString, Result, ok, err, with-chunks}
-use Rattle.model.specs.Prepend.{push-front}
+use Rattle.model.specs.MagicString.{MagicString, Result, ok, err, with-chunks, edge}
+use Rattle.model.specs.Insert.{left, right, front, back, push, push-to}
 use Rattle.model.specs.Movement.{insert-before}
-use Rattle.model.specs.Call.{Edit, remove, update-with, reset, append-left, append-right, prepend-left, prepend-right, append, prepend, relocate, trim, trim-start, trim-end}
+use Rattle.model.specs.Call.{Edit, remove, update-with, reset, insert, append, prepend, relocate, trim, trim-start, trim-end}
 use Rattle.model.specs.Call.{trim-lines, indent-with}
 
 -- ── plans ──
--- the end of a piece list at which a piece is added
-pub data End : Type 0 where
-  front back : End
-
 pub data Plan : Type 0 where
   -- the desk stays
   nothing : Plan
@@ -26,10 +22,10 @@ pub data Plan : Type 0 where
   clear : ℕ → ℕ → Option Text → Plan
   -- the chunk that starts at a gets the text, with or without overwrite; the others that start before b are cleared
   replace : ℕ → ℕ → Text → Bool → Plan
-  -- a piece for the outro of the chunk that ends at p, or the intro of the chunk that starts there
-  insert-left insert-right : ℕ → End → Text → Plan
-  -- a piece for the head or the tail
-  insert-head insert-tail : End → Text → Plan
+  -- a piece at the front or the back of the outro of the chunk that ends at p (left), or of the intro of the chunk that starts there (right)
+  insert-piece : ℕ → Text → Bool → Bool → Plan
+  -- the same of the head (left) or the tail (right)
+  insert-whole : Text → Bool → Bool → Plan
   -- chunks that start from the first position up to the second go before the chunk that starts at the third, or last
   move : ℕ → ℕ → ℕ → Plan
 
@@ -41,23 +37,19 @@ chunk-ends n p = leb p n && (ltb 0 p || eqb n 0)
 abbrev pub chunk-starts : ℕ → ℕ → Bool
 chunk-starts n p = ltb p n || (eqb p 0 && eqb n 0)
 
-abbrev pub on-left : ℕ → ℕ → End → Text → Plan
-on-left n p w t = cond (chunk-ends n p) (insert-left p w t) (insert-head w t)
-
-abbrev pub on-right : ℕ → ℕ → End → Text → Plan
-on-right n p w t = cond (chunk-starts n p) (insert-right p w t) (insert-tail w t)
+-- the chunk that an insertion looks for is there
+abbrev pub has-chunk : ℕ → ℕ → Bool → Bool
+has-chunk n p true = chunk-ends n p
+has-chunk n p false = chunk-starts n p
 
 -- the plan of an edit of L; n is the source's length. No law speaks of the plan of another edit
 unfoldable pub plan : ℕ → Edit → Plan
 plan n (remove a b) = cond (eqb a b) nothing (clear a b (some []))
 plan n (update-with a b t o) = replace a b t o
 plan n (reset a b) = cond (eqb a b) nothing (clear a b none)
-plan n (append-left p t) = on-left n p back t
-plan n (append-right p t) = on-right n p back t
-plan n (prepend-left p t) = on-left n p front t
-plan n (prepend-right p t) = on-right n p front t
-plan n (append t) = insert-tail back t
-plan n (prepend t) = insert-head front t
+plan n (insert p t left front) = cond (has-chunk n p left) (insert-piece p t left front) (insert-whole t left front)
+plan n (append t) = insert-whole t right back
+plan n (prepend t) = insert-whole t left front
 plan n (relocate a b to) = cond (eqb a b) nothing (move a b to)
 plan n (trim p) = nothing
 plan n (trim-start p) = nothing
@@ -70,10 +62,7 @@ unfoldable pub refused-first : ℕ → Edit → ℕ
 refused-first n (remove a b) = cond (eqb a b) 0 (cond (ltb b a) 4 0)
 refused-first n (update-with a b t o) = cond (eqb a b) 5 (cond (ltb b a) 4 0)
 refused-first n (reset a b) = cond (eqb a b) 0 (cond (ltb b a) 4 (cond (ltb n b) 10 0))
-refused-first n (append-left p t) = 0
-refused-first n (append-right p t) = 0
-refused-first n (prepend-left p t) = 0
-refused-first n (prepend-right p t) = 0
+refused-first n (insert p t left front) = 0
 refused-first n (append t) = 0
 refused-first n (prepend t) = 0
 refused-first n (relocate a b to) = cond (leb a to && leb to b) 8 (cond (eqb a b) 0 (cond (ltb b a) 4 (cond (ltb n b) 10 0)))
@@ -118,10 +107,8 @@ unfoldable pub cuts : Plan → List ℕ
 cuts nothing = []
 cuts (clear a b r) = a ∷ b ∷ []
 cuts (replace a b t o) = a ∷ b ∷ []
-cuts (insert-left p w t) = p ∷ []
-cuts (insert-right p w t) = p ∷ []
-cuts (insert-head w t) = []
-cuts (insert-tail w t) = []
+cuts (insert-piece p t left front) = p ∷ []
+cuts (insert-whole t left front) = []
 cuts (move a b to) = a ∷ b ∷ to ∷ []
 
 -- ── texts: what a plan makes of a chunk's texts, by its span ──
@@ -129,24 +116,12 @@ cuts (move a b to) = a ∷ b ∷ to ∷ []
 abbrev pub inside : ℕ → ℕ → ℕ → Bool
 inside a b x = leb a x && ltb x b
 
-abbrev pub add : End → Text → List Text → List Text
-add front t l = push-front t l
-add back t l = push-back t l
-
-abbrev pub add-outro : End → Text → Texts → Texts
-add-outro w t x = record { intro = x .intro; outro = add w t (x .outro); edited-content = x .edited-content }
-
-abbrev pub add-intro : End → Text → Texts → Texts
-add-intro w t x = record { intro = add w t (x .intro); outro = x .outro; edited-content = x .edited-content }
-
 unfoldable pub act : Plan → Span → Texts → Texts
 act nothing s x = x
 act (clear a b r) s x = cond (inside a b (s .start)) (bare r) x
 act (replace a b t o) s x = cond (inside a b (s .start)) (cond (eqb (s .start) a) (edit t o x) (bare (some []))) x
-act (insert-left p w t) s x = cond (eqb (s .end) p) (add-outro w t x) x
-act (insert-right p w t) s x = cond (eqb (s .start) p) (add-intro w t x) x
-act (insert-head w t) s x = x
-act (insert-tail w t) s x = x
+act (insert-piece p t left front) s x = cond (eqb (edge left s) p) (push-to left front t x) x
+act (insert-whole t left front) s x = x
 act (move a b to) s x = x
 
 -- the chunk as a plan leaves it
@@ -166,10 +141,8 @@ unfoldable pub rearrange : Plan → List Chunk → List Chunk
 rearrange nothing cs = cs
 rearrange (clear a b r) cs = cs
 rearrange (replace a b t o) cs = cs
-rearrange (insert-left p w t) cs = cs
-rearrange (insert-right p w t) cs = cs
-rearrange (insert-head w t) cs = cs
-rearrange (insert-tail w t) cs = cs
+rearrange (insert-piece p t left front) cs = cs
+rearrange (insert-whole t left front) cs = cs
 rearrange (move a b to) cs = insert-before to (keep (inside a b) cs) (keep (outside a b) cs)
 
 -- ── head and tail ──
@@ -177,20 +150,16 @@ unfoldable pub on-head : Plan → List Text → List Text
 on-head nothing l = l
 on-head (clear a b r) l = l
 on-head (replace a b t o) l = l
-on-head (insert-left p w t) l = l
-on-head (insert-right p w t) l = l
-on-head (insert-head w t) l = add w t l
-on-head (insert-tail w t) l = l
+on-head (insert-piece p t left front) l = l
+on-head (insert-whole t left front) l = cond left (push front t l) l
 on-head (move a b to) l = l
 
 unfoldable pub on-tail : Plan → List Text → List Text
 on-tail nothing l = l
 on-tail (clear a b r) l = l
 on-tail (replace a b t o) l = l
-on-tail (insert-left p w t) l = l
-on-tail (insert-right p w t) l = l
-on-tail (insert-head w t) l = l
-on-tail (insert-tail w t) l = add w t l
+on-tail (insert-piece p t left front) l = l
+on-tail (insert-whole t left front) l = cond left l (push front t l)
 on-tail (move a b to) l = l
 
 -- ── what an accepted plan leaves: cuts, texts, order ──
@@ -216,10 +185,8 @@ unfoldable pub in-order : Plan → List Chunk → Bool
 in-order nothing cs = true
 in-order (clear a b r) cs = true
 in-order (replace a b t o) cs = stands-together a b cs
-in-order (insert-left p w t) cs = true
-in-order (insert-right p w t) cs = true
-in-order (insert-head w t) cs = true
-in-order (insert-tail w t) cs = true
+in-order (insert-piece p t left front) cs = true
+in-order (insert-whole t left front) cs = true
 in-order (move a b to) cs = stands-together a b cs
 
 -- the number where the order is refused; 0 where it never is
@@ -227,10 +194,8 @@ unfoldable pub order-number : Plan → ℕ
 order-number nothing = 0
 order-number (clear a b r) = 0
 order-number (replace a b t o) = 7
-order-number (insert-left p w t) = 0
-order-number (insert-right p w t) = 0
-order-number (insert-head w t) = 0
-order-number (insert-tail w t) = 0
+order-number (insert-piece p t left front) = 0
+order-number (insert-whole t left front) = 0
 order-number (move a b to) = 9
 
 -- "chunks cleared before 7": those behind the first up to whose end the range stands together
@@ -243,10 +208,8 @@ unfoldable pub left-over : Plan → List Chunk → List Chunk
 left-over nothing cs = cs
 left-over (clear a b r) cs = cs
 left-over (replace a b t o) cs = map (cleared-so-far a cs) cs
-left-over (insert-left p w t) cs = cs
-left-over (insert-right p w t) cs = cs
-left-over (insert-head w t) cs = cs
-left-over (insert-tail w t) cs = cs
+left-over (insert-piece p t left front) cs = cs
+left-over (insert-whole t left front) cs = cs
 left-over (move a b to) cs = cs
 
 -- update's 10, which stands behind its cuts
@@ -254,10 +217,8 @@ unfoldable pub ends-past : ℕ → Plan → Bool
 ends-past n nothing = false
 ends-past n (clear a b r) = false
 ends-past n (replace a b t o) = ltb n b
-ends-past n (insert-left p w t) = false
-ends-past n (insert-right p w t) = false
-ends-past n (insert-head w t) = false
-ends-past n (insert-tail w t) = false
+ends-past n (insert-piece p t left front) = false
+ends-past n (insert-whole t left front) = false
 ends-past n (move a b to) = false
 
 -- ── an edit in closed form: number and desk ──

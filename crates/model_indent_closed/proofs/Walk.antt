@@ -13,9 +13,9 @@ use Rattle.utf8.specs.Chars.{All, nil, cons, chars, concat}
 use Rattle.utf8.proofs.CharLaws.{concat-chars, all-front}
 use Rattle.model.specs.Text.{Text, all}
 use Rattle.model.specs.Chunk.{Chunk, Texts, chunk-of, with-texts, start-of, end-of, span-text, is-filled, first-half, second-half, prepend-intro, edit}
-use Rattle.model.specs.MagicString.{MagicString, Result, ok, and-then, with-chunks, with-intro, with-outro, by-start, at-start, split-at, by-start-mut}
-use Rattle.model.specs.Prepend.{push-front, prepend-right}
-use Rattle.model.specs.Indent.{Indented, is-line-feed, takes-mark, indent-frag, Pieces, indent-pieces, excluded, Starts, line-starts, prepend-at, Marked, indent-chunk}
+use Rattle.model.specs.MagicString.{MagicString, Result, ok, and-then, with-chunks, with-intro, with-outro, by-start, at-start, split-at, by-edge-mut}
+use Rattle.model.specs.Insert.{right, front, push, insert, insert-step}
+use Rattle.model.specs.Indent.{Indented, is-line-feed, takes-mark, indent-frag, Pieces, indent-pieces, excluded, Starts, line-starts, insert-all, Marked, indent-chunk}
 use Rattle.model.specs.Indent.{indent-chunks, indent-by}
 use Rattle.model.specs.WellFormed.{covers, Formed}
 use Rattle.model.proofs.Lists.{sum-append, all-map, all-map₂, true-all, all-append, concat-length}
@@ -26,7 +26,7 @@ use Rattle.model_closed_forms.specs.Spans.{Proper, Cover, empty, tiled}
 use Rattle.model_closed_forms.proofs.Spans.{none-cover, Once, cover-of, formed-cover}
 use Rattle.model_closed_forms.proofs.SplitAt.{cover-once, cover-cut, split-at-cover, aligned-splittable}
 use Rattle.model_closed_forms.proofs.Steps.{cover-proper}
-use Rattle.model_closed_forms.proofs.Found.{start-at, start-set, some-is}
+use Rattle.model_closed_forms.proofs.Found.{edge-at, edge-set, some-is}
 use Rattle.model_preservation.proofs.Lists.{of-either, all-key, sum-key}
 use Rattle.model_preservation.proofs.Indent.{chars-some}
 use Rattle.model_indent_closed.specs.Indent.{split-lines, IndentedChunks, indented-chunk, indented-chunks, indented}
@@ -87,23 +87,14 @@ starts-apart xs c ys e (tiled {source = s} {cs = cs} l t) =
     let r : start-of c < end-of c = middle xs c ys p in
     none-start (start-of c) xs c ys (cover-once v) p (omega arith) r
 
--- `by_start_mut` behind its cut
-right-step : ℕ → Text → MagicString → Result
-right-step q t m =
-    elim (by-start q (m .chunks)) [
-      | none ↦ ok (with-outro m (push-front t (m .outro)))
-      | some c ↦ ok (with-chunks m (at-start q (prepend-intro t) (m .chunks)))
-    ]
-
 -- ── one line start ──
 module _ (t : Text) (m : MagicString) (xs : List Chunk) (c : Chunk) (ys : List Chunk) where
   step-found : (q : ℕ) → All (λ d. eqb (start-of d) q ≡ false) xs → eqb (start-of c) q ≡ true
-      → right-step q t (with-chunks m (xs ++ c ∷ ys)) ≡ ok (with-chunks m (xs ++ with-texts (prepend-intro t) c ∷ ys))
-  unfolding right-step
+      → insert-step q t right front (with-chunks m (xs ++ c ∷ ys)) ≡ ok (with-chunks m (xs ++ with-texts (prepend-intro t) c ∷ ys))
   step-found q n h =
-      some-is (by-start q (xs ++ c ∷ ys)) c (ok (with-outro (with-chunks m (xs ++ c ∷ ys)) (push-front t (m .outro))))
-      (ok (with-chunks m (at-start q (prepend-intro t) (xs ++ c ∷ ys)))) (start-at q c ys n h)
-      ∙ ap (λ (l : List Chunk). ok (with-chunks m l)) (start-set q (prepend-intro t) c ys n h)
+      some-is (by-start q (xs ++ c ∷ ys)) c (ok (with-outro (with-chunks m (xs ++ c ∷ ys)) (push front t (m .outro))))
+      (ok (with-chunks m (at-start q (prepend-intro t) (xs ++ c ∷ ys)))) (edge-at right q c ys n h)
+      ∙ ap (λ (l : List Chunk). ok (with-chunks m l)) (edge-set right q (prepend-intro t) c ys n h)
 
 module _ (i : ℕ) (t : Text) (m : MagicString) (xs : List Chunk) (c : Chunk) (ys : List Chunk) (v : Cover (m .source) (xs ++ c ∷ ys)) where
   aligned-out : All (λ d. (start-of d ≤ i) × (i < end-of d) → ⊥) xs × All (λ d. (start-of d ≤ i) × (i < end-of d) → ⊥) ys
@@ -111,15 +102,15 @@ module _ (i : ℕ) (t : Text) (m : MagicString) (xs : List Chunk) (c : Chunk) (y
   aligned-out h = (all-map (λ d k j. k (omega arith)) (h .0), all-map (λ d k j. k (omega arith)) (h .1))
 
   -- at the chunk's start: no cut
-  at-its-start : start-of c ≡ i → i < end-of c → prepend-right i t (with-chunks m (xs ++ c ∷ ys)) ≡ ok (with-chunks m (xs ++ with-texts (prepend-intro t) c ∷ ys))
-  unfolding by-start-mut right-step
+  at-its-start : start-of c ≡ i → i < end-of c → insert i t right front (with-chunks m (xs ++ c ∷ ys)) ≡ ok (with-chunks m (xs ++ with-texts (prepend-intro t) c ∷ ys))
+  unfolding by-edge-mut
   at-its-start e h =
       let o = others i xs c ys (cover-once v) (omega arith) h in
       let a = aligned-out o in
       let n : Contains i c → ⊥ = λ j. omega arith in
       let al : All (λ d. Contains i d → ⊥) (xs ++ c ∷ ys) = all-append {P = λ d. Contains i d → ⊥} (a .0) (cons n (a .1)) in
       let z : split-at i (with-chunks m (xs ++ c ∷ ys)) ≡ ok (with-chunks m (xs ++ c ∷ ys)) = split-at-cover i (with-chunks m (xs ++ c ∷ ys)) v ∙ rw (aligned-splittable i al, cut-none i al) in
-      ap (λ r. and-then r (right-step i t)) z ∙ step-found t m xs c ys i (rw e at (starts-apart xs c ys refl v)) (eq-eqb (start-of c) i e)
+      ap (λ r. and-then r (insert-step i t right front)) z ∙ step-found t m xs c ys i (rw e at (starts-apart xs c ys refl v)) (eq-eqb (start-of c) i e)
 
   -- inside it: the cut, then the second half
   cut-is : Contains i c → cut i (xs ++ c ∷ ys) ≡ (xs ++ first-half i c ∷ []) ++ second-half i c ∷ ys
@@ -138,12 +129,12 @@ module _ (i : ℕ) (t : Text) (m : MagicString) (xs : List Chunk) (c : Chunk) (y
       true-all (splittable i) (all-append {P = λ d. splittable i d ≡ true} (all-map n (a .0)) (cons y (all-map n (a .1))))
 
   inside-it : 0 < length (m .source) → Contains i c → c .texts .edited-content ≡ none
-      → prepend-right i t (with-chunks m (xs ++ c ∷ ys)) ≡ ok (with-chunks m ((xs ++ first-half i c ∷ []) ++ with-texts (prepend-intro t) (second-half i c) ∷ ys))
-  unfolding by-start-mut right-step
+      → insert i t right front (with-chunks m (xs ++ c ∷ ys)) ≡ ok (with-chunks m ((xs ++ first-half i c ∷ []) ++ with-texts (prepend-intro t) (second-half i c) ∷ ys))
+  unfolding by-edge-mut
   inside-it l j e =
       let zs : List Chunk = xs ++ first-half i c ∷ [] in
       let z : split-at i (with-chunks m (xs ++ c ∷ ys)) ≡ ok (with-chunks m (zs ++ second-half i c ∷ ys)) = split-at-cover i (with-chunks m (xs ++ c ∷ ys)) v ∙ rw (can-cut j e, cut-is j) in
-      ap (λ r. and-then r (right-step i t)) z
+      ap (λ r. and-then r (insert-step i t right front)) z
       ∙ step-found t m zs (second-half i c) ys i (none-start i zs (second-half i c) ys (cover-once (cut-cover j)) (cover-proper (cut-cover j) l) (omega arith) (j .1)) (eq-eqb i i refl)
 
 -- ── the line starts of a chunk ──
@@ -202,33 +193,33 @@ module _ (t : Text) (m : MagicString) (i : ℕ) (l : List ℕ) (xs : List Chunk)
   part-cover : Contains i c → Cover (m .source) (zs ++ part ∷ ys)
   part-cover j = cover-texts (prepend-intro t) zs (second-half i c) ys (cut-cover i t m xs c ys v j)
 
-  more-inside : Contains i c → Left m (prepend-at t l (with-chunks m (zs ++ part ∷ ys))) (zs ++ (split-lines t part l ++ ys))
-      → Left m (prepend-at t (i ∷ l) (with-chunks m (xs ++ c ∷ ys))) (xs ++ (split-lines t c (i ∷ l) ++ ys))
+  more-inside : Contains i c → Left m (insert-all t l (with-chunks m (zs ++ part ∷ ys))) (zs ++ (split-lines t part l ++ ys))
+      → Left m (insert-all t (i ∷ l) (with-chunks m (xs ++ c ∷ ys))) (xs ++ (split-lines t c (i ∷ l) ++ ys))
   more-inside j k =
       let f : Fits (m .source) c = middle xs c ys (cover-fits v) in
       let q : xs ++ (split-lines t c (i ∷ l) ++ ys) ≡ zs ++ (split-lines t part l ++ ys) =
       ap (λ (r : List Chunk). xs ++ (r ++ ys)) (split-lines-inside t c i l (j .0)) ∙ sym (append-assoc xs (first-half i c ∷ []) (split-lines t part l ++ ys)) in
-      subst (Left m (prepend-at t (i ∷ l) (with-chunks m (xs ++ c ∷ ys)))) (sym q)
-      (record { result = ap (λ r. and-then r (prepend-at t l)) (inside-it i t m xs c ys v (omega (arith, f .inside)) j e) ∙ k .result; cover = k .cover })
+      subst (Left m (insert-all t (i ∷ l) (with-chunks m (xs ++ c ∷ ys)))) (sym q)
+      (record { result = ap (λ r. and-then r (insert-all t l)) (inside-it i t m xs c ys v (omega (arith, f .inside)) j e) ∙ k .result; cover = k .cover })
 
   abbrev whole : Chunk
   whole = with-texts (prepend-intro t) c
 
-  more-at-start : start-of c ≡ i → i < end-of c → Left m (prepend-at t l (with-chunks m (xs ++ whole ∷ ys))) (xs ++ (split-lines t whole l ++ ys))
-      → Left m (prepend-at t (i ∷ l) (with-chunks m (xs ++ c ∷ ys))) (xs ++ (split-lines t c (i ∷ l) ++ ys))
+  more-at-start : start-of c ≡ i → i < end-of c → Left m (insert-all t l (with-chunks m (xs ++ whole ∷ ys))) (xs ++ (split-lines t whole l ++ ys))
+      → Left m (insert-all t (i ∷ l) (with-chunks m (xs ++ c ∷ ys))) (xs ++ (split-lines t c (i ∷ l) ++ ys))
   more-at-start q h k =
-      subst (Left m (prepend-at t (i ∷ l) (with-chunks m (xs ++ c ∷ ys)))) (sym (ap (λ (r : List Chunk). xs ++ (r ++ ys)) (split-lines-at-start t c i l (omega arith))))
-      (record { result = ap (λ r. and-then r (prepend-at t l)) (at-its-start i t m xs c ys v q h) ∙ k .result; cover = k .cover })
+      subst (Left m (insert-all t (i ∷ l) (with-chunks m (xs ++ c ∷ ys)))) (sym (ap (λ (r : List Chunk). xs ++ (r ++ ys)) (split-lines-at-start t c i l (omega arith))))
+      (record { result = ap (λ r. and-then r (insert-all t l)) (at-its-start i t m xs c ys v q h) ∙ k .result; cover = k .cover })
 
-prepend-at-closed : (t : Text) (m : MagicString) (l : List ℕ) (xs : List Chunk) (c : Chunk) (ys : List Chunk) → Cover (m .source) (xs ++ c ∷ ys) → c .texts .edited-content ≡ none
-    → Ascends (start-of c) (end-of c) l → Left m (prepend-at t l (with-chunks m (xs ++ c ∷ ys))) (xs ++ (split-lines t c l ++ ys))
-prepend-at-closed t m [] xs c ys v e a = record { result = refl; cover = v }
-prepend-at-closed t m (i ∷ l) xs c ys v e a =
+insert-all-closed : (t : Text) (m : MagicString) (l : List ℕ) (xs : List Chunk) (c : Chunk) (ys : List Chunk) → Cover (m .source) (xs ++ c ∷ ys) → c .texts .edited-content ≡ none
+    → Ascends (start-of c) (end-of c) l → Left m (insert-all t l (with-chunks m (xs ++ c ∷ ys))) (xs ++ (split-lines t c l ++ ys))
+insert-all-closed t m [] xs c ys v e a = record { result = refl; cover = v }
+insert-all-closed t m (i ∷ l) xs c ys v e a =
     elim (decLt (start-of c) i) [
       | yes h ↦ more-inside t m i l xs c ys v e (h, a .1 .0)
-          (prepend-at-closed t m l (zs t m i l xs c ys v e) (part t m i l xs c ys v e) ys (part-cover t m i l xs c ys v e (h, a .1 .0)) e (ascends-from i (suc i) (end-of c) l (omega arith) (a .1 .1)))
+          (insert-all-closed t m l (zs t m i l xs c ys v e) (part t m i l xs c ys v e) ys (part-cover t m i l xs c ys v e (h, a .1 .0)) e (ascends-from i (suc i) (end-of c) l (omega arith) (a .1 .1)))
       | no h ↦ more-at-start t m i l xs c ys v e (omega arith) (a .1 .0)
-          (prepend-at-closed t m l xs (whole t m i l xs c ys v e) ys (cover-texts (prepend-intro t) xs c ys v) e (ascends-from (start-of c) (suc i) (end-of c) l (omega arith) (a .1 .1)))
+          (insert-all-closed t m l xs (whole t m i l xs c ys v e) ys (cover-texts (prepend-intro t) xs c ys v) e (ascends-from (start-of c) (suc i) (end-of c) l (omega arith) (a .1 .1)))
     ]
 
 -- ── one turn of the loop ──
@@ -250,8 +241,8 @@ module _ (indentor : Text) (exclude : List ℕ) (m : MagicString) where
           → Turned m (indent-chunk indentor exclude mark c (with-chunks m (xs ++ c ∷ ys))) (one mark c .mark) (xs ++ (one mark c .chunks ++ ys))
       go none e =
           let s : Starts = line-starts exclude mark (start-of c) (chars (span-text (c .span) (m .source))) in
-          let k : Left m (prepend-at indentor (s .starts) (with-chunks m (xs ++ c ∷ ys))) (xs ++ (split-lines indentor c (s .starts) ++ ys)) =
-          prepend-at-closed indentor m (s .starts) xs c ys v e (chunk-ascends (m .source) c (middle xs c ys (cover-fits v)) exclude mark) in
+          let k : Left m (insert-all indentor (s .starts) (with-chunks m (xs ++ c ∷ ys))) (xs ++ (split-lines indentor c (s .starts) ++ ys)) =
+          insert-all-closed indentor m (s .starts) xs c ys v e (chunk-ascends (m .source) c (middle xs c ys (cover-fits v)) exclude mark) in
           rw (e, indent-chunk, indented-chunk) (record { result = ap (λ (r : Result). record { mark = s .mark; result = r }) (k .result); cover = k .cover })
       go (some t) e = replaced (excluded exclude (start-of c)) refl
         where
@@ -263,7 +254,7 @@ module _ (indentor : Text) (exclude : List ℕ) (m : MagicString) where
               rw (e, x, indent-chunk, indented-chunk)
               (record {
                 result = ap (λ (cs : List Chunk). record { mark = r .mark; result = ok (with-chunks m cs) })
-                    (start-set (start-of c) (edit (r .text) false) c ys (starts-apart xs c ys refl v) (eq-eqb (start-of c) (start-of c) refl));
+                    (edge-set right (start-of c) (edit (r .text) false) c ys (starts-apart xs c ys refl v) (eq-eqb (start-of c) (start-of c) refl));
                 cover = cover-texts (edit (r .text) false) xs c ys v;
               })
 

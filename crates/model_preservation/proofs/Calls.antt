@@ -15,7 +15,7 @@ use Rattle.model.specs.Text.{Text, all}
 use Rattle.model.specs.Chunk.{new-chunk}
 use Rattle.model.specs.MagicString.{MagicString, Result, ok, err, new}
 use Rattle.model.specs.Limits.{Limits, within}
-use Rattle.model.specs.Call.{Edit, remove, update-with, reset, append-left, append-right, prepend-left, prepend-right, append, prepend, relocate, trim, trim-start, trim-end}
+use Rattle.model.specs.Call.{Edit, remove, update-with, reset, insert, append, prepend, relocate, trim, trim-start, trim-end}
 use Rattle.model.specs.Call.{trim-lines, indent-with, change, report, «open», on-desk, options-valid, given, texts, positions, steps, refused-before, judged, run, opened}
 use Rattle.model.specs.Call.{perform}
 use Rattle.model.specs.WellFormed.{Valid, ValidReplacement, Covered, Formed, WellFormed}
@@ -24,7 +24,7 @@ use Rattle.model.proofs.Spans.{covers-in}
 use Rattle.model_preservation.proofs.Lists.{of-guard, of-number}
 use Rattle.model_preservation.proofs.Desk.{Leaves, FormedOf}
 use Rattle.model_preservation.proofs.Retexts.{bare-valid}
-use Rattle.model_preservation.proofs.Edits.{append-keeps, prepend-keeps, append-left-keeps, append-right-keeps, prepend-left-keeps, prepend-right-keeps, remove-keeps}
+use Rattle.model_preservation.proofs.Edits.{append-keeps, prepend-keeps, insert-keeps, remove-keeps}
 use Rattle.model_preservation.proofs.Edits.{reset-keeps, update-keeps}
 use Rattle.model_preservation.proofs.Relocate.{relocate-keeps}
 use Rattle.model_preservation.proofs.Trim.{trim-start-keeps, trim-end-keeps, trim-keeps}
@@ -63,10 +63,7 @@ pub steps-leave : (source : Text) (e : Edit) (m : MagicString) → All Valid (te
 steps-leave s (remove a b) m nil (cons p (cons q nil)) h = remove-keeps s a b p q m h
 steps-leave s (update-with a b t o) m (cons v nil) (cons p (cons q nil)) h = update-keeps s a b p q t o v m h
 steps-leave s (reset a b) m nil (cons p (cons q nil)) h = reset-keeps s a b p q m h
-steps-leave s (append-left i t) m (cons v nil) (cons p nil) h = append-left-keeps s i t v p m h
-steps-leave s (append-right i t) m (cons v nil) (cons p nil) h = append-right-keeps s i t v p m h
-steps-leave s (prepend-left i t) m (cons v nil) (cons p nil) h = prepend-left-keeps s i t v p m h
-steps-leave s (prepend-right i t) m (cons v nil) (cons p nil) h = prepend-right-keeps s i t v p m h
+steps-leave s (insert i t left front) m (cons v nil) (cons p nil) h = insert-keeps s i t left front v p m h
 steps-leave s (append t) m (cons v nil) nil h = append-keeps s t v m h
 steps-leave s (prepend t) m (cons v nil) nil h = prepend-keeps s t v m h
 steps-leave s (relocate a b to) m nil (cons p (cons q (cons r nil))) h = relocate-keeps s a b to p q r m h

@@ -16,16 +16,16 @@ use Rattle.utf8.proofs.CharLaws.{concat-chars, chars-utf8}
 use Rattle.model.specs.Text.{Text, TAB, SPACE, lines, unwrap-or}
 use Rattle.model.specs.Chunk.{Chunk, start-of, end-of, span-text, edit}
 use Rattle.model.specs.MagicString.{MagicString, Result, ok, with-intro, with-outro}
-use Rattle.model.specs.Prepend.{prepend-right}
+use Rattle.model.specs.Insert.{right, front, insert}
 use Rattle.model.specs.Indent.{count, spaced, tabbed, least-spaces, get-indent-string, Indented, is-line-feed, takes-mark, indent-chars, indent-frag, Pieces, indent-pieces}
-use Rattle.model.specs.Indent.{excluded, Starts, line-starts, prepend-at, Marked, indent-chunk, indent-chunks, indent-by, is-empty-indentor, indent-with}
+use Rattle.model.specs.Indent.{excluded, Starts, line-starts, insert-all, Marked, indent-chunk, indent-chunks, indent-by, is-empty-indentor, indent-with}
 use Rattle.model.specs.WellFormed.{Valid, ValidReplacement, ValidTexts}
 use Rattle.model.proofs.Lists.{all-map, all-map₂, concat-length}
 use Rattle.model_preservation.proofs.Lists.{of-cond, of-either, of-option, of-number}
 use Rattle.model_preservation.proofs.Spans.{Inside, spans-inside}
 use Rattle.model_preservation.proofs.Desk.{Leaves, of-and-then, FormedOf}
-use Rattle.model_preservation.proofs.Retexts.{KeepsValid, at-start-retexts}
-use Rattle.model_preservation.proofs.Edits.{with-intro-keeps, with-outro-keeps, with-chunks-keeps, prepend-right-keeps}
+use Rattle.model_preservation.proofs.Retexts.{KeepsValid, at-edge-retexts}
+use Rattle.model_preservation.proofs.Edits.{with-intro-keeps, with-outro-keeps, with-chunks-keeps, insert-keeps}
 
 -- ---- the guessed indentor is ASCII
 
@@ -141,10 +141,10 @@ module _ (source indentor : Text) (v : Valid indentor) where
   abbrev Keeps : Result → Type 0
   Keeps = Leaves (FormedOf source)
 
-  prepend-at-keeps : {l : List ℕ} → All (λ x. between source x ≡ true) l → (m : MagicString) → FormedOf source m → Keeps (prepend-at indentor l m)
-  prepend-at-keeps nil m h = record { desk = h }
-  prepend-at-keeps (cons {x = i} {xs = l} b k) m h =
-      of-and-then (FormedOf source) (prepend-right i indentor m) (prepend-at indentor l) (prepend-right-keeps source i indentor v b m h) (λ n. prepend-at-keeps k n)
+  insert-all-keeps : {l : List ℕ} → All (λ x. between source x ≡ true) l → (m : MagicString) → FormedOf source m → Keeps (insert-all indentor l m)
+  insert-all-keeps nil m h = record { desk = h }
+  insert-all-keeps (cons {x = i} {xs = l} b k) m h =
+      of-and-then (FormedOf source) (insert i indentor right front m) (insert-all indentor l) (insert-keeps source i indentor right front v b m h) (λ n. insert-all-keeps k n)
 
   set-edited-valid : (t : Text) → Valid t → KeepsValid (edit t false)
   set-edited-valid t w x h = record { intro = h .intro; outro = h .outro; replacement = w }
@@ -157,12 +157,12 @@ module _ (source indentor : Text) (v : Valid indentor) where
       let e : Option Text = c .texts .edited-content in
       let s : Inside (m .source) c = rw (h .source-is) i in
       of-option P e
-      (λ _. prepend-at-keeps
+      (λ _. insert-all-keeps
       (all-map (λ x b. rw (← h .source-is) (b .is-between)) (chunk-starts (m .source) c (h .formed .source) s exclude mark)) m h)
       (λ t q. of-either P (excluded exclude (start-of c)) (record { desk = h })
       (record {
         desk = with-chunks-keeps source m _
-            (at-start-retexts (start-of c) _ (set-edited-valid _ (indent-frag-valid indentor v mark t (subst ValidReplacement q (w .replacement)))) (h .formed .texts)) h;
+            (at-edge-retexts right (start-of c) _ (set-edited-valid _ (indent-frag-valid indentor v mark t (subst ValidReplacement q (w .replacement)))) (h .formed .texts)) h;
       }))
 
   indent-chunks-keeps : (exclude : List ℕ) (mark : Bool) {cs : List Chunk} → All (Inside source) cs → All (λ c. ValidTexts (c .texts)) cs

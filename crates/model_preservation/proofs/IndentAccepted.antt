@@ -13,10 +13,10 @@ use borrow.Author.Tests.{eqb-true}
 use Rattle.utf8.specs.Rfc3629.{between}
 use Rattle.utf8.specs.Chars.{All, nil, cons}
 use Rattle.model.specs.Text.{Text, sum, is-some, unwrap-or}
-use Rattle.model.specs.Chunk.{Chunk, Texts, with-texts, start-of, end-of, contains, is-edited, is-filled, first-half, second-half, prepend-intro, edit}
-use Rattle.model.specs.MagicString.{MagicString, Result, ok, and-then, with-chunks, with-intro, with-outro, by-start, at-start, holder, refuses-split, split-at, by-start-mut}
-use Rattle.model.specs.Prepend.{push-front, prepend-right}
-use Rattle.model.specs.Indent.{get-indent-string, Pieces, indent-pieces, excluded, prepend-at, Marked, indent-chunk, indent-chunks, indent-by, is-empty-indentor, indent-with}
+use Rattle.model.specs.Chunk.{Chunk, Texts, with-texts, start-of, end-of, contains, is-edited, is-filled, first-half, second-half, edit}
+use Rattle.model.specs.MagicString.{MagicString, Result, ok, and-then, with-chunks, with-intro, with-outro, by-start, at-start, holder, refuses-split, split-at, by-edge-mut}
+use Rattle.model.specs.Insert.{right, front, push, push-to, insert, insert-step}
+use Rattle.model.specs.Indent.{get-indent-string, Pieces, indent-pieces, excluded, insert-all, Marked, indent-chunk, indent-chunks, indent-by, is-empty-indentor, indent-with}
 use Rattle.model.specs.WellFormed.{Valid, covers, Covered, Formed}
 use Rattle.model.proofs.Lists.{all-map, all-map₂, all-of, sum-part}
 use Rattle.model.proofs.Spans.{covers-key, covers-in, covers-out, covers-halves}
@@ -195,20 +195,18 @@ module _ (source : Text) (cs : List Chunk) where
   other-walk : (m : MagicString) (head tail : List Text) → Walks source cs m → Walks source cs (record { source = m .source; intro = head; outro = tail; chunks = m .chunks })
   other-walk m head tail w = record { source-is = w .source-is; covered = w .covered; same-count = w .same-count }
 
-  prepend-right-accepted : (p : ℕ) (t : Text) → Free p → (m : MagicString) → Walks source cs m → Accepts (Walks source cs) (prepend-right p t m)
-  unfolding by-start-mut
-  prepend-right-accepted p t f m w =
-      accepts-then (Walks source cs) (split-at p m)
-      (λ n. elim (by-start p (n .chunks)) [ none ↦ ok (with-outro n (push-front t (n .outro))) | some c ↦ ok (with-chunks n (at-start p (prepend-intro t) (n .chunks))) ])
-      (cut-accepted p f m w)
+  insert-accepted : (p : ℕ) (t : Text) → Free p → (m : MagicString) → Walks source cs m → Accepts (Walks source cs) (insert p t right front m)
+  unfolding by-edge-mut
+  insert-accepted p t f m w =
+      accepts-then (Walks source cs) (split-at p m) (insert-step p t right front) (cut-accepted p f m w)
       (λ n k. of-option (Accepts (Walks source cs)) (by-start p (n .chunks))
-      (λ _. record { number = refl; desk = other-walk n (n .intro) (push-front t (n .outro)) k })
-      (λ c _. record { number = refl; desk = texts-walk p (prepend-intro t) n k (λ x. all-of (λ d _. edited-key x d (with-texts (prepend-intro t) d) refl refl) (n .chunks)) }))
+      (λ _. record { number = refl; desk = other-walk n (n .intro) (push front t (n .outro)) k })
+      (λ c _. record { number = refl; desk = texts-walk p (push-to right front t) n k (λ x. all-of (λ d _. edited-key x d (with-texts (push-to right front t) d) refl refl) (n .chunks)) }))
 
-  prepend-at-accepted : (t : Text) {l : List ℕ} → All Free l → (m : MagicString) → Walks source cs m → Accepts (Walks source cs) (prepend-at t l m)
-  prepend-at-accepted t nil m w = record { number = refl; desk = w }
-  prepend-at-accepted t (cons {x = i} {xs = l} f k) m w =
-      accepts-then (Walks source cs) (prepend-right i t m) (prepend-at t l) (prepend-right-accepted i t f m w) (λ n. prepend-at-accepted t k n)
+  insert-all-accepted : (t : Text) {l : List ℕ} → All Free l → (m : MagicString) → Walks source cs m → Accepts (Walks source cs) (insert-all t l m)
+  insert-all-accepted t nil m w = record { number = refl; desk = w }
+  insert-all-accepted t (cons {x = i} {xs = l} f k) m w =
+      accepts-then (Walks source cs) (insert i t right front m) (insert-all t l) (insert-accepted i t f m w) (λ n. insert-all-accepted t k n)
 
   module _ (v : Valid source) (indentor : Text) (exclude : List ℕ) where
     indent-chunk-accepted : (mark : Bool) (c : Chunk) → Original source cs c → (m : MagicString) → Walks source cs m
@@ -218,7 +216,7 @@ module _ (source : Text) (cs : List Chunk) where
         let P : Marked → Type 0 = λ r. Accepts (Walks source cs) (r .result) in
         let s : m .source ≡ source = w .source-is in
         of-option P (c .texts .edited-content)
-        (λ q. prepend-at-accepted indentor
+        (λ q. insert-all-accepted indentor
         (all-map (λ x b. (rw (← s) (b .is-between), o .unedited x (ap is-some q) (b .from-on) (b .below)))
         (chunk-starts (m .source) c (rw s v) (rw s (o .inside)) exclude mark)) m w)
         (λ t q. of-either P (excluded exclude (start-of c)) (record { number = refl; desk = w })

@@ -3,7 +3,6 @@ use Prim.Native.Nat.{ℕ, zero, suc, _%_}
 use mathlib.Core.Path.{_≡_, refl, sym, ap, _∙_, subst}
 use mathlib.Core.Bool.{Bool, true, false, _&&_, not, cond, true≢false}
 use mathlib.Core.List.{List, [], _∷_, _++_}
-use mathlib.Core.Option.{none, some}
 use lib.Dec.{ltb, leb, eqb}
 use lib.ListN.{length}
 use borrow.Author.Tests.{eqb-true}
@@ -13,15 +12,15 @@ use Rattle.model.specs.Text.{Text, any, all}
 use Rattle.model.proofs.Lists.{bool-elim}
 use Rattle.model.specs.WellFormed.{Formed}
 use Rattle.model.specs.Chunk.{Texts}
-use Rattle.model.specs.MagicString.{MagicString, Result, ok, err, and-then, with-chunks, with-intro, with-outro, by-start, by-end, at-start, at-end, split-at, split-holder}
-use Rattle.model.specs.MagicString.{by-end-mut, by-start-mut}
+use Rattle.model.specs.MagicString.{MagicString, Result, ok, err, and-then, with-chunks, by-edge, by-start, split-at, split-holder, by-edge-mut}
+use Rattle.model.specs.Insert.{insert-step}
 use Rattle.model.specs.Update.{update-walk, update-chunks}
 use Rattle.model.specs.Update as update-rs
 use Rattle.model.specs.Movement.{change-by-position, change-range, Segment, together, apart, segment, stands-there, move-segment}
 use Rattle.model.specs.Movement as movement-rs
 use Rattle.model.specs.Reset as reset-rs
 use Rattle.model.specs.Limits.{Limits, within}
-use Rattle.model.specs.Call.{Edit, remove, update-with, reset, append-left, append-right, prepend-left, prepend-right, append, prepend, relocate, trim, trim-start, trim-end}
+use Rattle.model.specs.Call.{Edit, remove, update-with, reset, insert, append, prepend, relocate, trim, trim-start, trim-end}
 use Rattle.model.specs.Call.{trim-lines, indent-with, asked, texts, positions, steps, refused-before, judged, run, edit-numbers, may-change}
 use Rattle.model_preservation.proofs.Lists.{of-cond, of-guard, of-option, of-number}
 use Rattle.model_preservation.proofs.Desk.{split-cases}
@@ -103,20 +102,8 @@ cut-answered : (e : Edit) (p : ℕ) (m : MagicString) (f : MagicString → Resul
 cut-answered e p m f h g =
     split-cases (λ r. Answered e m (and-then r f)) p m (done e m (g m)) (λ _. same e m 6 h) (λ _. done e m (g (with-chunks m (split-holder p (m .chunks)))))
 
-by-end-answered : (e : Edit) (p : ℕ) (f : Texts → Texts) (g : List Text → List Text) (m : MagicString) → among 6 (edit-numbers e) ≡ true → Answered e m (by-end-mut p f g m)
-unfolding by-end-mut
-by-end-answered e p f g m h =
-    cut-answered e p m (λ n. elim (by-end p (n .chunks)) [ none ↦ ok (with-intro n (g (n .intro))) | some c ↦ ok (with-chunks n (at-end p f (n .chunks))) ]) h
-    (λ n. of-option (λ (r : Result). r .number ≡ 0) (by-end p (n .chunks)) (λ _. refl) (λ c _. refl))
-
-by-start-answered : (e : Edit) (p : ℕ) (f : Texts → Texts) (g : List Text → List Text) (m : MagicString) → among 6 (edit-numbers e) ≡ true → Answered e m (by-start-mut p f g m)
-unfolding by-start-mut
-by-start-answered e p f g m h =
-    cut-answered e p m (λ n. elim (by-start p (n .chunks)) [ none ↦ ok (with-outro n (g (n .outro))) | some c ↦ ok (with-chunks n (at-start p f (n .chunks))) ]) h
-    (λ n. of-option (λ (r : Result). r .number ≡ 0) (by-start p (n .chunks)) (λ _. refl) (λ c _. refl))
-
 steps-answered : (e : Edit) (m : MagicString) → Formed m → Answered e m (steps e m)
-unfolding movement-rs.remove update-rs.update-with reset-rs.reset movement-rs.relocate
+unfolding by-edge-mut movement-rs.remove update-rs.update-with reset-rs.reset movement-rs.relocate
 steps-answered (remove a b) m f =
     let e : Edit = remove a b in
     of-cond (Answered e m) (eqb a b) (λ _. done e m refl)
@@ -135,10 +122,9 @@ steps-answered (reset a b) m f =
     (λ _. of-cond (Answered e m) (ltb b a) (λ _. same e m 4 refl)
     (λ _. of-cond (Answered e m) (ltb (length (m .source)) b) (λ _. same e m 10 refl)
     (λ _. may e m (cons refl nil) (change-may e refl _ a b m))))
-steps-answered (append-left p t) m f = by-end-answered (append-left p t) p _ _ m refl
-steps-answered (append-right p t) m f = by-start-answered (append-right p t) p _ _ m refl
-steps-answered (prepend-left p t) m f = by-end-answered (prepend-left p t) p _ _ m refl
-steps-answered (prepend-right p t) m f = by-start-answered (prepend-right p t) p _ _ m refl
+steps-answered (insert p t left front) m f =
+    cut-answered (insert p t left front) p m (insert-step p t left front) refl
+    (λ n. of-option (λ (r : Result). r .number ≡ 0) (by-edge left p (n .chunks)) (λ _. refl) (λ c _. refl))
 steps-answered (append t) m f = done (append t) m refl
 steps-answered (prepend t) m f = done (prepend t) m refl
 steps-answered (relocate a b to) m f =
@@ -172,10 +158,7 @@ unfolding refused-before
 before-listed m (remove a b) = guarded (all (between (m .source)) (a ∷ b ∷ [])) 3 0 (edit-numbers (remove a b)) refl refl
 before-listed m (update-with a b t o) = text-then m (update-with a b t o) refl refl
 before-listed m (reset a b) = guarded (all (between (m .source)) (a ∷ b ∷ [])) 3 0 (edit-numbers (reset a b)) refl refl
-before-listed m (append-left p t) = text-then m (append-left p t) refl refl
-before-listed m (append-right p t) = text-then m (append-right p t) refl refl
-before-listed m (prepend-left p t) = text-then m (prepend-left p t) refl refl
-before-listed m (prepend-right p t) = text-then m (prepend-right p t) refl refl
+before-listed m (insert p t left front) = text-then m (insert p t left front) refl refl
 before-listed m (append t) = guarded (all utf8 (t ∷ [])) 1 0 (edit-numbers (append t)) refl refl
 before-listed m (prepend t) = guarded (all utf8 (t ∷ [])) 1 0 (edit-numbers (prepend t)) refl refl
 before-listed m (relocate a b to) = guarded (all (between (m .source)) (a ∷ b ∷ to ∷ [])) 3 0 (edit-numbers (relocate a b to)) refl refl

@@ -1,15 +1,16 @@
 -- Walks that change texts only: the chunk at a position, chunks by position, the walk of `update_with`. Each keeps every span and leaves valid texts.
 use Prim.Native.Nat.{ℕ, zero, suc}
 use mathlib.Core.Path.{_≡_, refl, _∙_, subst}
-use mathlib.Core.Bool.{Bool, true}
+use mathlib.Core.Bool.{Bool, true, false}
 use mathlib.Core.List.{List, [], _∷_, map, reverse, reverseAux, reverse-reverse}
 use mathlib.Core.Option.{Option}
 use lib.Dec.{ltb, eqb}
 use Rattle.utf8.specs.Chars.{All, nil, cons}
 use Rattle.utf8.proofs.Texts.{utf8-nil}
 use Rattle.model.specs.Text.{Text}
-use Rattle.model.specs.Chunk.{Chunk, Texts, bare, start-of, end-of, append-intro, append-outro, prepend-intro, prepend-outro, edit, reset-texts}
-use Rattle.model.specs.MagicString.{MagicString, by-start, at-start, at-end}
+use Rattle.model.specs.Chunk.{Chunk, Texts, bare, start-of, end-of, edit, reset-texts}
+use Rattle.model.specs.MagicString.{MagicString, edge, by-start, at-start, at-edge}
+use Rattle.model.specs.Insert.{right, push, push-to}
 use Rattle.model.specs.Update.{Walk, clear-run, update-walk}
 use Rattle.model.specs.Movement.{change-by-position}
 use Rattle.model.specs.WellFormed.{Valid, ValidTexts, Formed}
@@ -71,35 +72,26 @@ clear-valid = edit-valid [] true utf8-nil
 pub reset-valid : KeepsValid reset-texts
 reset-valid x h = bare-valid
 
-pub append-intro-valid : (t : Text) → Valid t → KeepsValid (append-intro t)
-append-intro-valid t v x h = record { intro = all-append (h .intro) (cons v nil); outro = h .outro; replacement = h .replacement }
+pub push-valid : (front : Bool) (t : Text) → Valid t → {l : List Text} → All Valid l → All Valid (push front t l)
+push-valid true t v h = cons v h
+push-valid false t v h = all-append h (cons v nil)
 
-pub append-outro-valid : (t : Text) → Valid t → KeepsValid (append-outro t)
-append-outro-valid t v x h = record { intro = h .intro; outro = all-append (h .outro) (cons v nil); replacement = h .replacement }
-
-pub prepend-intro-valid : (t : Text) → Valid t → KeepsValid (prepend-intro t)
-prepend-intro-valid t v x h = record { intro = cons v (h .intro); outro = h .outro; replacement = h .replacement }
-
-pub prepend-outro-valid : (t : Text) → Valid t → KeepsValid (prepend-outro t)
-prepend-outro-valid t v x h = record { intro = h .intro; outro = cons v (h .outro); replacement = h .replacement }
+pub push-to-valid : (left front : Bool) (t : Text) → Valid t → KeepsValid (push-to left front t)
+push-to-valid true front t v x h = record { intro = h .intro; outro = push-valid front t v (h .outro); replacement = h .replacement }
+push-to-valid false front t v x h = record { intro = push-valid front t v (h .intro); outro = h .outro; replacement = h .replacement }
 
 -- ---- the walks
 
-pub at-start-retexts : (p : ℕ) (f : Texts → Texts) → KeepsValid f → {cs : List Chunk} → All (λ c. ValidTexts (c .texts)) cs → Retexts cs (at-start p f cs)
-at-start-retexts p f v nil = none
-at-start-retexts p f v (cons {x = c} {xs = cs} h k) =
-    of-cond (Retexts (c ∷ cs)) (eqb (start-of c) p) (λ _. more refl (v (c .texts) h) (retexts-same k)) (λ _. more refl h (at-start-retexts p f v k))
-
-pub at-end-retexts : (p : ℕ) (f : Texts → Texts) → KeepsValid f → {cs : List Chunk} → All (λ c. ValidTexts (c .texts)) cs → Retexts cs (at-end p f cs)
-at-end-retexts p f v nil = none
-at-end-retexts p f v (cons {x = c} {xs = cs} h k) =
-    of-cond (Retexts (c ∷ cs)) (eqb (end-of c) p) (λ _. more refl (v (c .texts) h) (retexts-same k)) (λ _. more refl h (at-end-retexts p f v k))
+pub at-edge-retexts : (left : Bool) (p : ℕ) (f : Texts → Texts) → KeepsValid f → {cs : List Chunk} → All (λ c. ValidTexts (c .texts)) cs → Retexts cs (at-edge left p f cs)
+at-edge-retexts left p f v nil = none
+at-edge-retexts left p f v (cons {x = c} {xs = cs} h k) =
+    of-cond (Retexts (c ∷ cs)) (eqb (edge left (c .span)) p) (λ _. more refl (v (c .texts) h) (retexts-same k)) (λ _. more refl h (at-edge-retexts left p f v k))
 
 pub change-retexts : (n : ℕ) (f : Texts → Texts) → KeepsValid f → (p end : ℕ) (cs : List Chunk) → All (λ c. ValidTexts (c .texts)) cs
     → Retexts cs (change-by-position n f p end cs)
 change-retexts zero f v p end cs h = retexts-same h
 change-retexts (suc n) f v p end cs h =
-    let r = at-start-retexts p f v h in
+    let r = at-edge-retexts right p f v h in
     of-option (Retexts cs) (by-start p cs) (λ _. retexts-same h)
     (λ c _. of-either (Retexts cs) (ltb (end-of c) end)
     (retexts-trans r (change-retexts n f v (end-of c) end (at-start p f cs) (retexts-valid r)))

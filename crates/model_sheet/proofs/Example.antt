@@ -6,7 +6,7 @@ use Rattle.utf8.specs.Rfc3629.{scalar, sequence, decodeAt, wholeFrom, utf8, bet
 use Rattle.utf8.specs.Chars.{toFirst, chars, code}
 use Rattle.model.specs.Text.{Text}
 use Rattle.model.specs.Chunk.{contains}
-use Rattle.model.specs.MagicString.{split-at, by-end-mut, by-start-mut, to-string}
+use Rattle.model.specs.MagicString.{split-at, by-edge-mut, to-string}
 use Rattle.model.specs.Update.{update-chunks, update-with}
 use Rattle.model.specs.Movement.{change-range, relocate}
 use Rattle.model.specs.Limits.{within}
@@ -33,7 +33,7 @@ unfolding call-of
 called t = refl
 
 pub worked : (map (λ q. (q .0, printed (q .0))) prints ≡ prints) × (map computed runs ≡ runs)
-unfolding flatten bind scalar sequence decodeAt wholeFrom utf8 between toFirst chars code contains split-at by-end-mut by-start-mut to-string update-chunks update-with
+unfolding flatten bind scalar sequence decodeAt wholeFrom utf8 between toFirst chars code contains split-at by-edge-mut to-string update-chunks update-with
     change-range relocate within judged refused-before run opened records-behind record-at parsed extent number numbers fits positions carries source-size front-fits sheet
     call-of run-read run-sheet lines printed-run printed
 worked = (refl, refl)

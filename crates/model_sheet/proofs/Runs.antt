@@ -14,7 +14,7 @@ use Rattle.model.specs.Text.{any, all}
 use Rattle.model.specs.MagicString.{MagicString}
 use Rattle.model.specs.Limits.{Limits}
 use Rattle.model.specs.WellFormed.{Formed, WellFormed}
-use Rattle.model.specs.Call.{Edit, run, answers, opened, edit-numbers, Outcome, remove, update-with, reset, append-left, append-right, prepend-left, prepend-right}
+use Rattle.model.specs.Call.{Edit, run, answers, opened, edit-numbers, Outcome, remove, update-with, reset, insert}
 use Rattle.model.specs.Call.{append, prepend, relocate, trim, trim-start, trim-end, trim-lines, indent-with}
 use Rattle.model.proofs.Lists.{and-left, and-right, or-cases, no-tf}
 use Rattle.model_preservation.specs.Refusals.{among}
@@ -42,10 +42,7 @@ numbers-small : (e : Edit) → all small (edit-numbers e) ≡ true
 numbers-small (remove a b) = refl
 numbers-small (update-with a b t o) = refl
 numbers-small (reset a b) = refl
-numbers-small (append-left p t) = refl
-numbers-small (append-right p t) = refl
-numbers-small (prepend-left p t) = refl
-numbers-small (prepend-right p t) = refl
+numbers-small (insert p t left front) = refl
 numbers-small (append t) = refl
 numbers-small (prepend t) = refl
 numbers-small (relocate a b to) = refl

@@ -1,7 +1,7 @@
 -- Document 02, L1: "A sheet is a version byte 1, a 16-bit source length, the source, then records." What a sheet is, what a run of it answers and leaves, and what the
 -- sheet program prints. The Rust has no such call.
 use Prim.Native.Nat.{ℕ, zero, suc, _+_, _*_, _/_, _%_}
-use mathlib.Core.Bool.{Bool, true, _&&_, cond}
+use mathlib.Core.Bool.{Bool, true, _&&_, _||_, cond}
 use mathlib.Core.List.{List, [], _∷_, _++_, map}
 use mathlib.Core.Option.{Option, none, some, bind, Option·map}
 use lib.ListN.{length, getD, take, drop}
@@ -9,7 +9,7 @@ use lib.Dec.{ltb, leb, eqb}
 use Rattle.model.specs.Text.{Text}
 use Rattle.model.specs.MagicString.{MagicString, new, to-string}
 use Rattle.model.specs.Limits.{Limits, full}
-use Rattle.model.specs.Call.{Edit, remove, update-with, reset, append-left, append-right, prepend-left, prepend-right, relocate, opened, after, answers, refusal, Outcome}
+use Rattle.model.specs.Call.{Edit, remove, update-with, reset, insert, relocate, opened, after, answers, refusal, Outcome}
 use Rattle.model_sheet.specs.BigEndian.{number, bytes}
 use Rattle.model_sheet.specs.Record.{Recorded, encode-all, records}
 
@@ -59,21 +59,21 @@ unfoldable pub sheet : List ℕ → Option Sheet
 sheet s = cond (front-fits s) (Option·map (λ l. record { source = source-of s; list = l }) (bind (records (records-of s)) few)) none
 
 -- ── running ──
--- the core call of a record, by its kind; a kind that no record has is given the last
+-- the settings of an insertion, by its kind: "4 append_left, 5 append_right, 6 prepend_left, 7 prepend_right"
+abbrev pub inserts-left : ℕ → Bool
+inserts-left kind = eqb kind 4 || eqb kind 6
+
+abbrev pub inserts-front : ℕ → Bool
+inserts-front kind = leb 6 kind
+
+-- the core call of a record, by its kind; a kind that no record has is given the last line
 unfoldable pub call-of : Recorded → Edit
 call-of r =
-    let last = relocate (r .a) (r .b) (r .c) in
-    getD
-    (last
-    ∷ remove (r .a) (r .b)
-    ∷ update-with (r .a) (r .b) (r .text) true
-    ∷ reset (r .a) (r .b)
-    ∷ append-left (r .a) (r .text)
-    ∷ append-right (r .a) (r .text)
-    ∷ prepend-left (r .a) (r .text)
-    ∷ prepend-right (r .a) (r .text)
-    ∷ [])
-    (r .kind) last
+    cond (eqb (r .kind) 1) (remove (r .a) (r .b))
+    (cond (eqb (r .kind) 2) (update-with (r .a) (r .b) (r .text) true)
+    (cond (eqb (r .kind) 3) (reset (r .a) (r .b))
+    (cond (eqb (r .kind) 8) (relocate (r .a) (r .b) (r .c))
+    (insert (r .a) (r .text) (inserts-left (r .kind)) (inserts-front (r .kind))))))
 
 abbrev pub calls-of : List Recorded → List Edit
 calls-of l = map call-of l

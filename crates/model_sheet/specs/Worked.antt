@@ -5,7 +5,8 @@ use mathlib.Core.List.{List, [], _∷_, _++_, map}
 use Rattle.model.specs.Text.{Text}
 use Rattle.model.specs.MagicString.{new}
 use Rattle.model.specs.Limits.{full}
-use Rattle.model.specs.Call.{Edit, remove, update-with, reset, append-left, append-right, prepend-left, prepend-right, relocate, Shown, refusal}
+use Rattle.model.specs.Insert.{left, right, front, back}
+use Rattle.model.specs.Call.{Edit, remove, update-with, reset, insert, relocate, Shown, refusal}
 use Rattle.model_sheet.specs.Record.{Recorded}
 use Rattle.model_sheet.specs.Sheet.{run-sheet}
 
@@ -47,10 +48,10 @@ each-call t =
     remove 5 6
     ∷ update-with 5 6 t true
     ∷ reset 5 6
-    ∷ append-left 5 t
-    ∷ append-right 5 t
-    ∷ prepend-left 5 t
-    ∷ prepend-right 5 t
+    ∷ insert 5 t left back
+    ∷ insert 5 t right back
+    ∷ insert 5 t left front
+    ∷ insert 5 t right front
     ∷ relocate 5 6 7
     ∷ []
 

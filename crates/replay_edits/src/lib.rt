@@ -44,6 +44,7 @@ fn edit_range(
     }
 }
 
+// `append_left`, `append_right`, `prepend_left`, `prepend_right`: the insertion, left or right, at the front or the back. Any value but 0 is yes.
 fn edit_at(
     k: Call,
     source: &[u8],
@@ -54,10 +55,10 @@ fn edit_at(
 ) -> Answer {
     let kind = k.kind;
     match kind {
-        4 => exported_edits::magic_string_append_left(source, chunks, pieces, store, k.a, text),
-        5 => exported_edits::magic_string_append_right(source, chunks, pieces, store, k.a, text),
-        6 => exported_edits::magic_string_prepend_left(source, chunks, pieces, store, k.a, text),
-        7 => exported_edits::magic_string_prepend_right(source, chunks, pieces, store, k.a, text),
+        4 => exported_edits::magic_string_insert(source, chunks, pieces, store, k.a, text, 1, 0),
+        5 => exported_edits::magic_string_insert(source, chunks, pieces, store, k.a, text, 0, 0),
+        6 => exported_edits::magic_string_insert(source, chunks, pieces, store, k.a, text, 2, 3),
+        7 => exported_edits::magic_string_insert(source, chunks, pieces, store, k.a, text, 0, 4),
         _ => no_call(),
     }
 }

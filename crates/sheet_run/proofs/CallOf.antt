@@ -1,12 +1,13 @@
 -- The call of a record, by its kind, as the dispatcher makes it.
-use Prim.Native.Nat.{ℕ, zero, suc}
-use mathlib.Core.Path.{_≡_, refl, sym, ap, subst}
-use mathlib.Core.Bool.{true}
+use Prim.Native.Nat.{ℕ}
+use mathlib.Core.Path.{_≡_, sym, ap, subst}
+use mathlib.Core.Bool.{Bool, true}
 use mathlib.Core.List.{List}
+use borrow.Author.Tests.{ne-eqb}
 use Rattle.model.specs.Text.{Text}
-use Rattle.model.specs.Call.{Edit, remove, update-with, reset, append-left, append-right, prepend-left, prepend-right, relocate}
+use Rattle.model.specs.Call.{Edit, remove, update-with, reset, insert, relocate}
 use Rattle.model_sheet.specs.Record.{Recorded}
-use Rattle.model_sheet.specs.Sheet.{call-of}
+use Rattle.model_sheet.specs.Sheet.{inserts-left, inserts-front, call-of}
 use Rattle.memory_used.specs.declared.Outcome.{Outcome}
 use Rattle.memory_used.specs.Above.{Leaves}
 
@@ -31,37 +32,14 @@ module _ (a b c : ℕ) (t : Text) (k : ℕ) where
   unfolding call-of
   of-reset e = sym (ap (λ k. call-of (fields k)) e)
 
-  pub of-append-left : k ≡ 4 → append-left a t ≡ call-of (fields k)
+  pub of-relocate : k ≡ 8 → relocate a b c ≡ call-of (fields k)
   unfolding call-of
-  of-append-left e = sym (ap (λ k. call-of (fields k)) e)
-
-  pub of-append-right : k ≡ 5 → append-right a t ≡ call-of (fields k)
-  unfolding call-of
-  of-append-right e = sym (ap (λ k. call-of (fields k)) e)
-
-  pub of-prepend-left : k ≡ 6 → prepend-left a t ≡ call-of (fields k)
-  unfolding call-of
-  of-prepend-left e = sym (ap (λ k. call-of (fields k)) e)
-
-  pub of-prepend-right : k ≡ 7 → prepend-right a t ≡ call-of (fields k)
-  unfolding call-of
-  of-prepend-right e = sym (ap (λ k. call-of (fields k)) e)
+  of-relocate e = sym (ap (λ k. call-of (fields k)) e)
 
   -- none of these kinds
   abbrev pub Others : Type 0
-  Others = (((((((Unit {0} × (k ≡ 1 → ⊥)) × (k ≡ 2 → ⊥)) × (k ≡ 3 → ⊥)) × (k ≡ 4 → ⊥)) × (k ≡ 5 → ⊥)) × (k ≡ 6 → ⊥)) × (k ≡ 7 → ⊥))
+  Others = ((((Unit {0} × (k ≡ 1 → ⊥)) × (k ≡ 2 → ⊥)) × (k ≡ 3 → ⊥)) × (k ≡ 8 → ⊥))
 
-  pub of-relocate : Others → relocate a b c ≡ call-of (fields k)
+  pub of-insert : {left front : Bool} → left ≡ inserts-left k → front ≡ inserts-front k → Others → insert a t left front ≡ call-of (fields k)
   unfolding call-of
-  of-relocate ((((((((_, h₁), h₂), h₃), h₄), h₅), h₆), h₇)) = go k h₁ h₂ h₃ h₄ h₅ h₆ h₇
-    where
-      go : (k : ℕ) → (k ≡ 1 → ⊥) → (k ≡ 2 → ⊥) → (k ≡ 3 → ⊥) → (k ≡ 4 → ⊥) → (k ≡ 5 → ⊥) → (k ≡ 6 → ⊥) → (k ≡ 7 → ⊥) → relocate a b c ≡ call-of (fields k)
-      go zero _ _ _ _ _ _ _ = refl
-      go (suc zero) h _ _ _ _ _ _ = absurd (h refl)
-      go (suc (suc zero)) _ h _ _ _ _ _ = absurd (h refl)
-      go (suc (suc (suc zero))) _ _ h _ _ _ _ = absurd (h refl)
-      go (suc (suc (suc (suc zero)))) _ _ _ h _ _ _ = absurd (h refl)
-      go (suc (suc (suc (suc (suc zero))))) _ _ _ _ h _ _ = absurd (h refl)
-      go (suc (suc (suc (suc (suc (suc zero)))))) _ _ _ _ _ h _ = absurd (h refl)
-      go (suc (suc (suc (suc (suc (suc (suc zero))))))) _ _ _ _ _ _ h = absurd (h refl)
-      go (suc (suc (suc (suc (suc (suc (suc (suc k)))))))) _ _ _ _ _ _ _ = refl
+  of-insert l f ((((_, h₁), h₂), h₃), h₄) = rw (l, f, ne-eqb k 1 h₁, ne-eqb k 2 h₂, ne-eqb k 3 h₃, ne-eqb k 8 h₄)

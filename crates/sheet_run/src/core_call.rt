@@ -1,8 +1,23 @@
 // The core call of a record, by its kind: one dispatcher for every list of records.
-ghost use Rattle.model_sheet.specs.Sheet.{call-of};
+ghost use mathlib.Core.Path.{_≡_};
+ghost use Rattle.model_sheet.specs.Sheet.{inserts-left, inserts-front, call-of};
 ghost use Rattle.memory_used.specs.Above.{Desk, Leaves};
 use memory_used::Outcome;
 use memory_used::Used;
+
+// Kinds 4 to 7 are one insertion: left of its position or right,
+fn inserts_left(kind: u8) -> bool
+    ensures { λ r. ⌜ r ≡ inserts-left kind ⌝ }
+{
+    kind == 4 || kind == 6
+}
+
+// and at the front of the piece list or the back.
+fn inserts_front(kind: u8) -> bool
+    ensures { λ r. ⌜ r ≡ inserts-front kind ⌝ }
+{
+    kind >= 6
+}
 
 // Makes the call of a record with these fields on a desk.
 pub fn core_call(
@@ -25,10 +40,17 @@ pub fn core_call(
         1 => edit_remove::remove(source, chunks, pieces, store, a, b, used),
         2 => edit_update::update_with(source, chunks, pieces, store, a, b, text, true, used),
         3 => edit_reset::reset(source, chunks, pieces, store, a, b, used),
-        4 => edit_append::append_left(source, chunks, pieces, store, a, text, used),
-        5 => edit_append::append_right(source, chunks, pieces, store, a, text, used),
-        6 => edit_prepend::prepend_left(source, chunks, pieces, store, a, text, used),
-        7 => edit_prepend::prepend_right(source, chunks, pieces, store, a, text, used),
-        _ => edit_relocate::relocate(source, chunks, pieces, store, a, b, c, used),
+        8 => edit_relocate::relocate(source, chunks, pieces, store, a, b, c, used),
+        _ => edit_insert::insert(
+            source,
+            chunks,
+            pieces,
+            store,
+            a,
+            text,
+            inserts_left(kind),
+            inserts_front(kind),
+            used,
+        ),
     }
 }

@@ -6,7 +6,7 @@ use differential::{
 };
 use oracle::{
   Call::{self, *},
-  Desk, DeskData, Limits,
+  Desk, DeskData, Limits, insertions,
   random::Random,
   reports,
 };
@@ -83,10 +83,9 @@ fn every(desk: &DeskData) -> Vec<Call> {
     Remove { start: at, end },
     UpdateWith { start: at, end, overwrite: 1, text: text.clone() },
     Reset { start: at, end },
-    AppendLeft { at, text: text.clone() },
-    AppendRight { at, text: text.clone() },
-    PrependLeft { at, text: text.clone() },
-    PrependRight { at, text: text.clone() },
+  ];
+  calls.extend(insertions(at, &text));
+  calls.extend([
     Append { text: text.clone() },
     Prepend { text },
     Relocate { start, end, to: 0 },
@@ -99,7 +98,7 @@ fn every(desk: &DeskData) -> Vec<Call> {
     ToString { room },
     LastLine { room },
     GetIndentString { room },
-  ];
+  ]);
   calls.extend(reports(start, end));
   calls
 }

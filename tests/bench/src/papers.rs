@@ -5,7 +5,7 @@ use std::hint::black_box;
 use differential::{Core, Image, Unseen};
 use oracle::{
   Call::{self, *},
-  Desk, Limits, apply,
+  Desk, Limits, SETTINGS, apply,
   random::Random,
 };
 use string_wizard::MagicString;
@@ -43,10 +43,7 @@ pub fn edits(desk: &Desk, seed: u64) -> Vec<Call> {
     let call = match random.below(10) {
       0..=3 => UpdateWith { start, end, overwrite: 1, text },
       4 => Remove { start, end },
-      5 => AppendLeft { at, text },
-      6 => AppendRight { at, text },
-      7 => PrependLeft { at, text },
-      8 => PrependRight { at, text },
+      choice @ 5..=8 => Insert { at, text, setting: SETTINGS[choice - 5] },
       _ => Relocate { start, end, to: random.below(source.len()) as u32 },
     };
     if apply(&mut desk, &call).number == 0 {

@@ -27,10 +27,7 @@ impl RustCall {
         desk.update_with(start, end, self.text, options).is_ok()
       }
       Call::Reset { start, end } => desk.reset(start, end).is_ok(),
-      Call::AppendLeft { at, .. } => desk.append_left(at, self.text).is_ok(),
-      Call::AppendRight { at, .. } => desk.append_right(at, self.text).is_ok(),
-      Call::PrependLeft { at, .. } => desk.prepend_left(at, self.text).is_ok(),
-      Call::PrependRight { at, .. } => desk.prepend_right(at, self.text).is_ok(),
+      Call::Insert { at, setting, .. } => setting.insert(desk, at, self.text).is_ok(),
       Call::Relocate { start, end, to } => desk.relocate(start, end, to).is_ok(),
       Call::IndentWith { ref indentor, .. } => {
         let indentor = indentor.as_ref().map(|_| self.text);

@@ -4,7 +4,7 @@
 pub use oracle::every_call as accepted;
 use oracle::{
   Call::{self, *},
-  reports,
+  insertions, reports,
 };
 
 pub fn refused() -> Vec<Call> {
@@ -13,10 +13,6 @@ pub fn refused() -> Vec<Call> {
     Remove { start: 2, end: 1 },
     UpdateWith { start: 0, end: u32::MAX, overwrite: 0, text: text.clone() },
     Reset { start: 0, end: u32::MAX },
-    AppendLeft { at: 2, text: text.clone() },
-    AppendRight { at: 2, text: text.clone() },
-    PrependLeft { at: 2, text: text.clone() },
-    PrependRight { at: 2, text: text.clone() },
     Append { text: text.clone() },
     Prepend { text: vec![b'x'; 40_000] },
     Relocate { start: 1, end: 1, to: 1 },
@@ -24,12 +20,13 @@ pub fn refused() -> Vec<Call> {
     TrimStart { pattern: u32::MAX },
     TrimEnd { pattern: 3 },
     TrimLines,
-    IndentWith { indentor: Some(text), exclude: vec![2] },
+    IndentWith { indentor: Some(text.clone()), exclude: vec![2] },
     Slice { start: 2, end: Some(1), room: Some(0) },
     ToString { room: Some(0) },
     LastLine { room: Some(0) },
     GetIndentString { room: Some(0) },
   ];
+  calls.extend(insertions(2, &text));
   calls.extend(reports(0, 1));
   calls
 }

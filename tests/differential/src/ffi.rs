@@ -26,20 +26,8 @@ impl Lent<'_> {
     unsafe { edit!(self, magic_string_reset, start, end) }
   }
 
-  pub fn append_left(&mut self, at: u32, text: &[u8]) -> Answer {
-    unsafe { edit!(self, magic_string_append_left, at, text.as_ptr(), text.len()) }
-  }
-
-  pub fn append_right(&mut self, at: u32, text: &[u8]) -> Answer {
-    unsafe { edit!(self, magic_string_append_right, at, text.as_ptr(), text.len()) }
-  }
-
-  pub fn prepend_left(&mut self, at: u32, text: &[u8]) -> Answer {
-    unsafe { edit!(self, magic_string_prepend_left, at, text.as_ptr(), text.len()) }
-  }
-
-  pub fn prepend_right(&mut self, at: u32, text: &[u8]) -> Answer {
-    unsafe { edit!(self, magic_string_prepend_right, at, text.as_ptr(), text.len()) }
+  pub fn insert(&mut self, at: u32, text: &[u8], left: u32, front: u32) -> Answer {
+    unsafe { edit!(self, magic_string_insert, at, text.as_ptr(), text.len(), left, front) }
   }
 
   pub fn append(&mut self, text: &[u8]) -> Answer {

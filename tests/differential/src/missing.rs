@@ -2,11 +2,13 @@
 
 use oracle::Call;
 
+use crate::cores::function;
+
 include!(concat!(env!("OUT_DIR"), "/missing.rs"));
 
 /// Whether the archive has the call.
 pub fn has(call: &Call) -> bool {
-  MISSING.is_empty() || has_function(call.to_string().split(' ').next().unwrap_or_default())
+  MISSING.is_empty() || has_function(&function(call))
 }
 
 /// Whether the archive has the function with this name.

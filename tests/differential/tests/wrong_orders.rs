@@ -106,13 +106,11 @@ const FAULTS: [(&str, &str, Fault); 8] = [
 
 /// The same insertion at the other end of its list.
 fn other_end(call: &Call) -> Call {
-  match call.clone() {
-    Call::AppendLeft { at, text } => Call::PrependLeft { at, text },
-    Call::PrependLeft { at, text } => Call::AppendLeft { at, text },
-    Call::AppendRight { at, text } => Call::PrependRight { at, text },
-    Call::PrependRight { at, text } => Call::AppendRight { at, text },
-    call => call,
+  let mut call = call.clone();
+  if let Call::Insert { setting, .. } = &mut call {
+    setting.front = !setting.front;
   }
+  call
 }
 
 fn desk(lent: &Lent) -> DeskData {

@@ -59,10 +59,10 @@ const FAULTS: [(&str, Fault); 12] = [
   }),
   ("only 1 says yes", |right, lent, call, unseen, out| {
     let absent = match call {
-      Call::Slice { start, end: Some(_), room } if unseen.yes != 1 => {
+      Call::Slice { start, end: Some(_), room } if unseen.yes[0] != 1 => {
         Call::Slice { start: *start, end: None, room: *room }
       }
-      Call::IndentWith { indentor: Some(_), exclude } if unseen.yes != 1 => {
+      Call::IndentWith { indentor: Some(_), exclude } if unseen.yes[0] != 1 => {
         Call::IndentWith { indentor: None, exclude: exclude.clone() }
       }
       call => call.clone(),

@@ -3,7 +3,7 @@
 
 use desk_data::{ChunkData, DeskData};
 
-use crate::{Answer, Call};
+use crate::{Answer, Call, Setting};
 
 /// One line of a table: a call with its answer.
 pub fn step(call: &Call, answer: &Answer) -> String {
@@ -78,11 +78,8 @@ fn desk_call_term(call: &Call) -> String {
     UpdateWith { start, end, overwrite, text: content } => {
       format!("change ({name} {start} {end} {} {})", text(content), *overwrite != 0)
     }
-    AppendLeft { at, text: content } | AppendRight { at, text: content } => {
-      format!("change ({name} {at} {})", text(content))
-    }
-    PrependLeft { at, text: content } | PrependRight { at, text: content } => {
-      format!("change ({name} {at} {})", text(content))
+    Insert { at, text: content, setting: Setting { left, front } } => {
+      format!("change (insert {at} {} {left} {front})", text(content))
     }
     Append { text: content } | Prepend { text: content } => {
       format!("change ({name} {})", text(content))

@@ -2,7 +2,7 @@
 
 use std::fmt;
 
-use crate::hex;
+use crate::{Setting, hex};
 
 /// One call. Texts are any bytes. `room` is the length of the lent buffer, long
 /// enough if `None`. `Dump` is not a call of document 01: it shows the desk itself.
@@ -12,10 +12,7 @@ pub enum Call {
   Remove { start: u32, end: u32 },
   UpdateWith { start: u32, end: u32, overwrite: u32, text: Vec<u8> },
   Reset { start: u32, end: u32 },
-  AppendLeft { at: u32, text: Vec<u8> },
-  AppendRight { at: u32, text: Vec<u8> },
-  PrependLeft { at: u32, text: Vec<u8> },
-  PrependRight { at: u32, text: Vec<u8> },
+  Insert { at: u32, text: Vec<u8>, setting: Setting },
   Append { text: Vec<u8> },
   Prepend { text: Vec<u8> },
   Relocate { start: u32, end: u32, to: u32 },
@@ -44,8 +41,7 @@ impl Call {
     use Call::*;
     match self {
       Open { .. } | Remove { .. } | UpdateWith { .. } | Reset { .. } => true,
-      AppendLeft { .. } | AppendRight { .. } | PrependLeft { .. } | PrependRight { .. } => true,
-      Append { .. } | Prepend { .. } | Relocate { .. } => true,
+      Insert { .. } | Append { .. } | Prepend { .. } | Relocate { .. } => true,
       Trim { .. } | TrimStart { .. } | TrimEnd { .. } | TrimLines | IndentWith { .. } => true,
       Slice { .. } | ToString { .. } | LastLine { .. } | GetIndentString { .. } => false,
       Len | LenUtf16 | LineCount | IsEmpty | HasChanged | LastChar => false,
@@ -57,9 +53,8 @@ impl Call {
   pub fn text(&self) -> Option<&[u8]> {
     use Call::*;
     match self {
-      UpdateWith { text, .. } | Append { text } | Prepend { text } => Some(text),
-      AppendLeft { text, .. } | AppendRight { text, .. } => Some(text),
-      PrependLeft { text, .. } | PrependRight { text, .. } => Some(text),
+      UpdateWith { text, .. } | Insert { text, .. } => Some(text),
+      Append { text } | Prepend { text } => Some(text),
       IndentWith { indentor, .. } => indentor.as_deref(),
       _ => None,
     }
@@ -69,9 +64,8 @@ impl Call {
   pub fn text_mut(&mut self) -> Option<&mut Vec<u8>> {
     use Call::*;
     match self {
-      UpdateWith { text, .. } | Append { text } | Prepend { text } => Some(text),
-      AppendLeft { text, .. } | AppendRight { text, .. } => Some(text),
-      PrependLeft { text, .. } | PrependRight { text, .. } => Some(text),
+      UpdateWith { text, .. } | Insert { text, .. } => Some(text),
+      Append { text } | Prepend { text } => Some(text),
       IndentWith { indentor, .. } => indentor.as_mut(),
       _ => None,
     }
@@ -85,8 +79,7 @@ impl Call {
       Remove { start, end } | UpdateWith { start, end, .. } | Reset { start, end } => {
         vec![start, end]
       }
-      AppendLeft { at, .. } | AppendRight { at, .. } => vec![at],
-      PrependLeft { at, .. } | PrependRight { at, .. } => vec![at],
+      Insert { at, .. } => vec![at],
       Relocate { start, end, to } => vec![start, end, to],
       IndentWith { ref exclude, .. } => exclude.clone(),
       Slice { start, end, .. } => [start].into_iter().chain(end).collect(),
@@ -117,10 +110,9 @@ impl fmt::Display for Call {
         write!(out, "update_with {start} {end} {overwrite} {}", hex::encode(text))
       }
       Reset { start, end } => write!(out, "reset {start} {end}"),
-      AppendLeft { at, text } => write!(out, "append_left {at} {}", hex::encode(text)),
-      AppendRight { at, text } => write!(out, "append_right {at} {}", hex::encode(text)),
-      PrependLeft { at, text } => write!(out, "prepend_left {at} {}", hex::encode(text)),
-      PrependRight { at, text } => write!(out, "prepend_right {at} {}", hex::encode(text)),
+      Insert { at, text, setting } => {
+        write!(out, "{} {at} {}", setting.name(), hex::encode(text))
+      }
       Append { text } => write!(out, "append {}", hex::encode(text)),
       Prepend { text } => write!(out, "prepend {}", hex::encode(text)),
       Relocate { start, end, to } => write!(out, "relocate {start} {end} {to}"),

@@ -104,9 +104,7 @@ fn numbers(call: &Call) -> &'static [u32] {
       LIMIT,
     ],
     Reset { .. } => &[INSIDE_CHARACTER, END_BEFORE_START, CUT_IN_REPLACEMENT, PAST_SOURCE, LIMIT],
-    AppendLeft { .. } | AppendRight { .. } | PrependLeft { .. } | PrependRight { .. } => {
-      &[NOT_UTF8, INSIDE_CHARACTER, CUT_IN_REPLACEMENT, LIMIT]
-    }
+    Insert { .. } => &[NOT_UTF8, INSIDE_CHARACTER, CUT_IN_REPLACEMENT, LIMIT],
     Append { .. } | Prepend { .. } => &[NOT_UTF8, LIMIT],
     Relocate { .. } => &[
       INSIDE_CHARACTER,

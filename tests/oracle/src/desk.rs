@@ -134,10 +134,7 @@ fn edit(desk: &mut MagicString<'static>, call: &Call) -> Result<(), u32> {
       desk.update_with(start, end, text(), options)
     }
     Call::Reset { start, end } => desk.reset(start, end),
-    Call::AppendLeft { at, .. } => desk.append_left(at, text()),
-    Call::AppendRight { at, .. } => desk.append_right(at, text()),
-    Call::PrependLeft { at, .. } => desk.prepend_left(at, text()),
-    Call::PrependRight { at, .. } => desk.prepend_right(at, text()),
+    Call::Insert { at, setting, .. } => setting.insert(desk, at, text()),
     Call::Append { .. } => Ok(desk.append(text())),
     Call::Prepend { .. } => Ok(desk.prepend(text())),
     Call::Relocate { start, end, to } => desk.relocate(start, end, to),

@@ -1,6 +1,9 @@
 //! Every call but the opening, with arguments that many desks take.
 
-use crate::Call::{self, *};
+use crate::{
+  Call::{self, *},
+  SETTINGS,
+};
 
 pub fn every_call() -> Vec<Call> {
   let text = b"X".to_vec();
@@ -8,10 +11,9 @@ pub fn every_call() -> Vec<Call> {
     Remove { start: 0, end: 1 },
     UpdateWith { start: 1, end: 2, overwrite: 1, text: text.clone() },
     Reset { start: 0, end: 1 },
-    AppendLeft { at: 1, text: text.clone() },
-    AppendRight { at: 1, text: text.clone() },
-    PrependLeft { at: 1, text: text.clone() },
-    PrependRight { at: 1, text: text.clone() },
+  ];
+  calls.extend(insertions(1, &text));
+  calls.extend([
     Append { text: text.clone() },
     Prepend { text: text.clone() },
     Relocate { start: 0, end: 1, to: 2 },
@@ -24,9 +26,14 @@ pub fn every_call() -> Vec<Call> {
     ToString { room: Some(40) },
     LastLine { room: Some(40) },
     GetIndentString { room: Some(4) },
-  ];
+  ]);
   calls.extend(reports(0, 1));
   calls
+}
+
+/// The insertion with each setting.
+pub fn insertions(at: u32, text: &[u8]) -> [Call; 4] {
+  SETTINGS.map(|setting| Insert { at, text: text.to_vec(), setting })
 }
 
 /// Every report that fills no buffer.

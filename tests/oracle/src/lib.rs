@@ -19,11 +19,13 @@ pub mod parse;
 pub mod random;
 pub mod replay;
 pub mod script;
+pub mod setting;
 
 pub use answer::Answer;
 pub use call::Call;
 pub use desk::{Desk, Limits, apply};
 pub use desk_data::{ChunkData, Counts, DeskData};
-pub use every_call::{every_call, reports};
+pub use every_call::{every_call, insertions, reports};
 pub use parse::parse;
 pub use script::Script;
+pub use setting::{APPEND_LEFT, APPEND_RIGHT, PREPEND_LEFT, PREPEND_RIGHT, SETTINGS, Setting};

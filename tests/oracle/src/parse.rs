@@ -2,7 +2,7 @@
 
 use std::str::SplitWhitespace;
 
-use crate::{Call, hex};
+use crate::{Call, Setting, hex};
 
 /// The call on a line; none for a blank line or a comment (`#`).
 pub fn parse(line: &str) -> Result<Option<Call>, String> {
@@ -38,10 +38,6 @@ impl Words<'_> {
         text: self.text()?,
       },
       "reset" => Call::Reset { start: self.number()?, end: self.number()? },
-      "append_left" => Call::AppendLeft { at: self.number()?, text: self.text()? },
-      "append_right" => Call::AppendRight { at: self.number()?, text: self.text()? },
-      "prepend_left" => Call::PrependLeft { at: self.number()?, text: self.text()? },
-      "prepend_right" => Call::PrependRight { at: self.number()?, text: self.text()? },
       "append" => Call::Append { text: self.text()? },
       "prepend" => Call::Prepend { text: self.text()? },
       "relocate" => {
@@ -73,7 +69,10 @@ impl Words<'_> {
         Call::IsRangeWithinEditedChunk { start: self.number()?, end: self.number()? }
       }
       "dump" => Call::Dump,
-      _ => return Err(format!("no call named {name}")),
+      _ => {
+        let setting = Setting::named(name).ok_or_else(|| format!("no call named {name}"))?;
+        Call::Insert { at: self.number()?, text: self.text()?, setting }
+      }
     })
   }
 

@@ -1,7 +1,9 @@
 //! Short tests of the library itself. Built with debug assertions, so the
 //! Rust's own are on here.
 
-use oracle::{Desk, Limits, Script, apply, check, generate::generate, keeps, number::*, parse};
+use oracle::{
+  Desk, Limits, SETTINGS, Script, apply, check, generate::generate, keeps, number::*, parse,
+};
 
 /// The numbers that the lines of a script get, on a desk with these limits.
 fn numbers(limits: Limits, script: &str) -> Vec<u32> {
@@ -38,6 +40,22 @@ fn random_calls_hold() {
   let mut script = Script::new(Limits::FULL);
   for call in generate(6, 3_000) {
     check::call(&mut script, &call).unwrap();
+  }
+}
+
+/// The Rust's function of each name adds to the list that the switches say, at the end
+/// that they say.
+#[test]
+fn settings_by_their_names() {
+  for setting in SETTINGS {
+    let mut desk = Desk::open(Limits::FULL, b"ab").unwrap();
+    for line in ["append_left 1 6c", "append_right 1 72", &format!("{} 1 78", setting.name())] {
+      apply(&mut desk, &parse(line).unwrap().unwrap());
+    }
+    let [left, right] = &desk.data().chunks[..] else { panic!("one cut") };
+    let (list, there) = if setting.left { (&left.outro, "l") } else { (&right.intro, "r") };
+    let expected = if setting.front { ["x", there] } else { [there, "x"] };
+    assert_eq!(list[..], expected, "{}", setting.name());
   }
 }
 

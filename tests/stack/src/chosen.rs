@@ -10,7 +10,7 @@ use differential::{
 };
 use oracle::{
   Call::{self, *},
-  DeskData, every_call,
+  DeskData, every_call, insertions,
   random::Random,
 };
 
@@ -49,13 +49,10 @@ fn calls(desk: &DeskData) -> Vec<Call> {
   let at = at as u32;
   let end = desk.source.len() as u32;
   for text in [b"X".to_vec(), vec![b'x'; 8_000]] {
+    calls.extend(insertions(at, &text));
     calls.extend([
       UpdateWith { start: 0, end: at, overwrite: 0, text: text.clone() },
       UpdateWith { start: at, end, overwrite: 1, text: text.clone() },
-      AppendLeft { at, text: text.clone() },
-      AppendRight { at, text: text.clone() },
-      PrependLeft { at, text: text.clone() },
-      PrependRight { at, text: text.clone() },
       Append { text: text.clone() },
       Prepend { text: text.clone() },
       IndentWith { indentor: Some(text), exclude: Vec::new() },

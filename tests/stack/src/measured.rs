@@ -3,7 +3,7 @@
 
 use std::collections::BTreeMap;
 
-use differential::{Answer, Core, Lent, Unseen};
+use differential::{Answer, Core, Lent, Unseen, cores::function};
 use oracle::Call;
 
 use crate::painted::Painted;
@@ -13,7 +13,7 @@ pub const GROUPS: [(&str, usize); 11] = [
   ("open", REPORT),
   ("well_formed", REPORT),
   ("remove, reset", EDIT),
-  ("append_left, append_right, prepend_left, prepend_right, append, prepend", EDIT),
+  ("insert, append, prepend", EDIT),
   ("update_with", EDIT),
   ("relocate", EDIT),
   ("trim, trim_start, trim_end, trim_lines", EDIT),
@@ -71,8 +71,7 @@ impl<C: Core> Core for Measured<C> {
   fn call(&mut self, lent: &mut Lent, call: &Call, unseen: &Unseen, out: &mut [u8]) -> Answer {
     let mut answer = Answer::NO_DESK;
     let bytes = self.stack.used_by(|| answer = self.core.call(lent, call, unseen, out));
-    let line = call.to_string();
-    self.note(line.split(' ').next().unwrap_or_default(), bytes);
+    self.note(&function(call), bytes);
     answer
   }
 

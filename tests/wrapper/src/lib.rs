@@ -1,7 +1,7 @@
 //! The crate magic_string (bindings/rust) and string_wizard, unchanged, side by side
 //! on random calls: each answer, and the whole desk after it.
 
-use magic_string::{IndentOptions, MagicString, Refusal, UpdateOptions};
+use magic_string::{End, IndentOptions, MagicString, Refusal, Side, UpdateOptions};
 use oracle::{Answer, Call, ChunkData, DeskData};
 
 /// What the wrapper's call gives, as the oracle has it. `None` where the wrapper's
@@ -25,10 +25,11 @@ pub fn call(desk: &mut MagicString, call: &Call) -> Option<Answer> {
       edited(desk.update_with(start, end, text(bytes)?, opts))
     }
     Reset { start, end } => edited(desk.reset(start, end)),
-    AppendLeft { at, text: ref bytes } => edited(desk.append_left(at, text(bytes)?)),
-    AppendRight { at, text: ref bytes } => edited(desk.append_right(at, text(bytes)?)),
-    PrependLeft { at, text: ref bytes } => edited(desk.prepend_left(at, text(bytes)?)),
-    PrependRight { at, text: ref bytes } => edited(desk.prepend_right(at, text(bytes)?)),
+    Insert { at, text: ref bytes, setting } => {
+      let side = if setting.left { Side::Left } else { Side::Right };
+      let end = if setting.front { End::Front } else { End::Back };
+      edited(desk.insert(at, text(bytes)?, side, end))
+    }
     Append { text: ref bytes } => edited(desk.append(text(bytes)?)),
     Prepend { text: ref bytes } => edited(desk.prepend(text(bytes)?)),
     Relocate { start, end, to } => edited(desk.relocate(start, end, to)),

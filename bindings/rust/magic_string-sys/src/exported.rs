@@ -50,14 +50,9 @@ exported! {
     );
     /// Undoes the edits of the bytes from start up to end.
     magic_string_reset(start: u32, end: u32);
-    /// Adds a piece behind the chunk that ends at the position, at the back.
-    magic_string_append_left(at: u32, text: *const u8, text_len: usize);
-    /// Adds a piece before the chunk that starts at the position, at the back.
-    magic_string_append_right(at: u32, text: *const u8, text_len: usize);
-    /// As `append_left`, at the front.
-    magic_string_prepend_left(at: u32, text: *const u8, text_len: usize);
-    /// As `append_right`, at the front.
-    magic_string_prepend_right(at: u32, text: *const u8, text_len: usize);
+    /// Adds a piece at the position: on the side that `left` says, and at the end of the
+    /// list there that `front` says.
+    magic_string_insert(at: u32, text: *const u8, text_len: usize, left: u32, front: u32);
     /// Adds a piece at the end of the output.
     magic_string_append(text: *const u8, text_len: usize);
     /// Adds a piece at the start of the output.

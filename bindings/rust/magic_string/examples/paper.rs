@@ -1,7 +1,9 @@
 //! A paper: a script is opened and edits are filed on it, with the running text after
 //! each. Then the desk chunk by chunk, its reports, and the sixteen refusals in words.
 
-use magic_string::{Chunk, IndentOptions, MagicString, Refusal, UpdateOptions, layout};
+use magic_string::{
+  Chunk, End::*, IndentOptions, MagicString, Refusal, Side::*, UpdateOptions, layout,
+};
 
 const SCRIPT: &str = "\
 Here is Ålesund Radio.
@@ -43,16 +45,16 @@ macro_rules! file {
 fn edits(desk: &mut MagicString) -> Result<(), Refusal> {
   let (wind, air) = (start("  Wind"), start("  Air"));
   file!(desk.update(start("north"), end("north"), "north-west"));
-  file!(desk.append_left(end("12"), " to 15"));
-  file!(desk.append_right(start("Wind"), "Gale warning! "));
+  file!(desk.insert(end("12"), " to 15", Left, Back));
+  file!(desk.insert(start("Wind"), "Gale warning! ", Right, Back));
   file!(desk.remove(start(", sea"), end("calm")));
-  file!(desk.prepend_left(end("Ålesund"), " Coast"));
+  file!(desk.insert(end("Ålesund"), " Coast", Left, Front));
   file!(desk.relocate(air, start("Good"), wind));
-  file!(desk.prepend_right(start("Wind"), "News: "));
+  file!(desk.insert(start("Wind"), "News: ", Right, Front));
   file!(desk.update_with(start("Wind"), end("Wind"), "Storm", UpdateOptions { overwrite: true }));
   file!(desk.reset(start(", sea"), end("calm")));
   file!(desk.remove(start(" –"), end("–")));
-  file!(desk.append_right(start("over"), "and "));
+  file!(desk.insert(start("over"), "and ", Right, Back));
   file!(desk.prepend("CQ CQ CQ\n"));
   file!(desk.append("73 \t\n\n"));
   file!(desk.trim_end(Some("\\s")));
@@ -123,7 +125,7 @@ fn refusals(desk: &mut MagicString) {
   refused("remove from inside the Å", desk.remove(inside, end("Å")));
   refused("remove backwards", desk.remove(end("night"), night));
   refused("replace no byte at all", desk.update(night, night, "day"));
-  refused("insert inside a replaced word", desk.append_left(wind + 1, "?"));
+  refused("insert inside a replaced word", desk.insert(wind + 1, "?", Left, Back));
   refused("replace from Radio to Wind", desk.update(start("Radio"), end("Wind"), "?"));
   refused("move night into itself", desk.relocate(night, end("night"), night + 1));
   refused("move from Wind to Air", desk.relocate(wind, end("Air"), 0));

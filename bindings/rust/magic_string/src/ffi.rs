@@ -38,20 +38,9 @@ impl Memory {
     answered(unsafe { edit!(self, magic_string_reset, start, end) })
   }
 
-  pub fn append_left(&mut self, at: u32, text: &str) -> Answered {
-    answered(unsafe { edit!(self, magic_string_append_left, at, text.as_ptr(), text.len()) })
-  }
-
-  pub fn append_right(&mut self, at: u32, text: &str) -> Answered {
-    answered(unsafe { edit!(self, magic_string_append_right, at, text.as_ptr(), text.len()) })
-  }
-
-  pub fn prepend_left(&mut self, at: u32, text: &str) -> Answered {
-    answered(unsafe { edit!(self, magic_string_prepend_left, at, text.as_ptr(), text.len()) })
-  }
-
-  pub fn prepend_right(&mut self, at: u32, text: &str) -> Answered {
-    answered(unsafe { edit!(self, magic_string_prepend_right, at, text.as_ptr(), text.len()) })
+  pub fn insert(&mut self, at: u32, text: &str, left: bool, front: bool) -> Answered {
+    let (text, text_len, left, front) = (text.as_ptr(), text.len(), left.into(), front.into());
+    answered(unsafe { edit!(self, magic_string_insert, at, text, text_len, left, front) })
   }
 
   pub fn append(&mut self, text: &str) -> Answered {

@@ -2,15 +2,15 @@
 //! which every function is proved.
 //!
 //! ```
-//! use magic_string::{MagicString, Refusal};
+//! use magic_string::{End, MagicString, Refusal, Side};
 //!
 //! # fn main() -> Result<(), Refusal> {
 //! let mut s = MagicString::new("Wind north, 12 knots")?;
-//! s.update(5, 10, "west")?.append_left(20, ", gusting")?.prepend("CQ ")?;
+//! s.update(5, 10, "west")?.insert(20, ", gusting", Side::Left, End::Back)?.prepend("CQ ")?;
 //! assert_eq!(s.to_string(), "CQ Wind west, 12 knots, gusting");
 //!
 //! // A call that cannot be done says why, as a number and in words.
-//! let refused = s.append_left(7, "?").unwrap_err();
+//! let refused = s.insert(7, "?", Side::Left, End::Back).unwrap_err();
 //! assert_eq!(refused, Refusal::CutInReplacement);
 //! assert_eq!(refused.number(), 6);
 //! assert_eq!(refused.to_string(), "cut inside a non-empty replacement");
@@ -24,6 +24,8 @@
 //!   lifetime, and [limits](layout). [`MagicString::new`] and every edit may give
 //!   [`Refusal::Limit`].
 //! - Errors are a [`Refusal`], one of sixteen, and not a `String`.
+//! - Its `append_left`, `append_right`, `prepend_left` and `prepend_right` are one,
+//!   [`MagicString::insert`], with a [`Side`] and an [`End`].
 //! - A position inside a character is refused, where string_wizard may panic, and
 //!   so is an update past the source.
 //! - Trims take the two patterns that string_wizard names. Names and source maps,
@@ -48,7 +50,13 @@ pub use magic_string_sys::layout;
 
 pub use crate::{
   chunk::{Chunk, Chunks},
-  magic_string::{MagicString, indent::IndentOptions, sheet::SheetRun, update::UpdateOptions},
+  magic_string::{
+    MagicString,
+    indent::IndentOptions,
+    insert::{End, Side},
+    sheet::SheetRun,
+    update::UpdateOptions,
+  },
   refusal::Refusal,
   span::Span,
 };

@@ -1,12 +1,13 @@
 //! What the wrapper shows of a desk, and its reports.
 
-use magic_string::{Chunk, IndentOptions, MagicString, Span, UpdateOptions};
+use magic_string::{Chunk, End::*, IndentOptions, MagicString, Side::*, Span, UpdateOptions};
 
 /// A desk with something of everything.
 fn filed() -> MagicString {
   let mut desk = MagicString::new("one, zwö, three\n").unwrap();
   desk.prepend("> ").unwrap().append("[end]").unwrap();
-  desk.update(0, 3, "1").unwrap().append_left(3, "!").unwrap().append_right(0, "#").unwrap();
+  desk.update(0, 3, "1").unwrap();
+  desk.insert(3, "!", Left, Back).unwrap().insert(0, "#", Right, Back).unwrap();
   desk.remove(9, 16).unwrap().relocate(5, 9, 0).unwrap();
   desk
 }
@@ -52,13 +53,45 @@ fn memory_is_given_and_taken_back() {
 #[test]
 fn equality_is_of_desks() {
   let [mut first, mut second] = [(); 2].map(|()| MagicString::new("abcd").unwrap());
-  first.append_left(1, "x").unwrap().append_left(3, "yy").unwrap();
-  second.append_left(3, "yy").unwrap().append_left(1, "x").unwrap();
+  first.insert(1, "x", Left, Back).unwrap().insert(3, "yy", Left, Back).unwrap();
+  second.insert(3, "yy", Left, Back).unwrap().insert(1, "x", Left, Back).unwrap();
   assert_eq!(first, second);
-  second.append_left(4, "").unwrap();
+  second.insert(4, "", Left, Back).unwrap();
   assert_eq!(first.to_string(), second.to_string());
   assert_ne!(first, second);
   assert_ne!(first, MagicString::default());
+}
+
+/// Beside a text on each side.
+#[test]
+fn settings_of_an_insertion() {
+  for (side, end, left, right) in [
+    (Left, Front, &["x", "l"][..], &["r"][..]),
+    (Left, Back, &["l", "x"], &["r"]),
+    (Right, Front, &["l"], &["x", "r"]),
+    (Right, Back, &["l"], &["r", "x"]),
+  ] {
+    let mut desk = MagicString::new("ab").unwrap();
+    desk.insert(1, "l", Left, Back).unwrap().insert(1, "r", Right, Back).unwrap();
+    desk.insert(1, "x", side, end).unwrap();
+    let [first, second] = &desk.chunks().collect::<Vec<_>>()[..] else { panic!() };
+    assert_eq!((&first.outro[..], &second.intro[..]), (left, right));
+  }
+}
+
+/// Left of all chunks and right of them.
+#[test]
+fn insertions_where_no_chunk_ends_or_starts() {
+  let beside_all = |source: &str, at| {
+    let mut desk = MagicString::new(source).unwrap();
+    desk.insert(at, "l", Left, Back).unwrap().insert(at, "r", Right, Back).unwrap();
+    (desk.intro() == ["l"], desk.outro() == ["r"])
+  };
+  assert_eq!(
+    [0, 1, 2, 3].map(|at| beside_all("ab", at)),
+    [(true, false), (false, false), (false, true), (true, true)]
+  );
+  assert_eq!([0, 1].map(|at| beside_all("", at)), [(false, false), (true, true)]);
 }
 
 #[test]
@@ -114,11 +147,11 @@ fn document_01_cases() {
   assert_eq!(MagicString::new("abc").unwrap().slice(0, Some(0)), Ok("abc".to_string()));
   // G: pieces are trimmed one by one.
   let mut desk = MagicString::new("  ").unwrap();
-  desk.append_right(2, " x").unwrap().trim(None).unwrap();
+  desk.insert(2, " x", Right, Back).unwrap().trim(None).unwrap();
   assert_eq!(desk.to_string(), " x");
   // H: the last piece alone.
   let mut desk = MagicString::new("abc").unwrap();
-  desk.append_right(3, "x").unwrap().append_right(3, "").unwrap();
+  desk.insert(3, "x", Right, Back).unwrap().insert(3, "", Right, Back).unwrap();
   assert_eq!(desk.last_char(), Some('c'));
   // I: each line is indented by the guessed tab; an empty indentor does nothing.
   let mut desk = MagicString::new("a\nb").unwrap();
@@ -128,10 +161,10 @@ fn document_01_cases() {
   assert_eq!(desk.to_string(), "\ta\n\tb");
   // J: past the source, left goes to the head.
   let mut desk = MagicString::new("abc").unwrap();
-  desk.append_left(9, "x").unwrap();
+  desk.insert(9, "x", Left, Back).unwrap();
   assert_eq!(desk.to_string(), "xabc");
   // `remove` from 0 on an empty source edits the one chunk once.
   let mut desk = MagicString::default();
-  desk.append_left(0, "x").unwrap().remove(0, 1).unwrap();
+  desk.insert(0, "x", Left, Back).unwrap().remove(0, 1).unwrap();
   assert_eq!(desk.to_string(), "");
 }

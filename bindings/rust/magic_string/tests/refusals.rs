@@ -7,8 +7,15 @@
 //! long enough, so only `write_to` has it. 15: excluded ranges are pairs, so only
 //! trims have it. 16: only `run_sheet` has it (tests/sheet.rs).
 
-use magic_string::{IndentOptions, MagicString, Refusal, Span, layout};
+use magic_string::{
+  End::{self, *},
+  IndentOptions, MagicString, Refusal,
+  Side::{self, *},
+  Span, layout,
+};
 use magic_string_sys::numbers::NUMBERS;
+
+const SETTINGS: [(Side, End); 4] = [(Left, Front), (Left, Back), (Right, Front), (Right, Back)];
 
 fn open(source: &str) -> MagicString {
   MagicString::new(source).unwrap()
@@ -93,10 +100,9 @@ fn number_3_position_inside_a_character() {
   assert_eq!(untouched(desk, |s| s.reset(1, 2)), Refusal::InsideCharacter);
   assert_eq!(untouched(desk, |s| s.update(1, 1, "x")), Refusal::InsideCharacter);
   assert_eq!(untouched(desk, |s| s.relocate(0, 2, 1)), Refusal::InsideCharacter);
-  assert_eq!(untouched(desk, |s| s.append_left(1, "x")), Refusal::InsideCharacter);
-  assert_eq!(untouched(desk, |s| s.append_right(1, "x")), Refusal::InsideCharacter);
-  assert_eq!(untouched(desk, |s| s.prepend_left(1, "x")), Refusal::InsideCharacter);
-  assert_eq!(untouched(desk, |s| s.prepend_right(1, "x")), Refusal::InsideCharacter);
+  for (side, end) in SETTINGS {
+    assert_eq!(untouched(desk, |s| s.insert(1, "x", side, end)), Refusal::InsideCharacter);
+  }
   let exclude = &[(0, 1)];
   assert_eq!(
     untouched(desk, |s| s.indent_with(IndentOptions { indentor: None, exclude })),
@@ -126,8 +132,9 @@ fn number_5_replace_zero_width() {
 fn number_6_cut_inside_a_replacement() {
   let desk = &mut open("abcdef");
   desk.update(0, 4, "X").unwrap();
-  assert_eq!(untouched(desk, |s| s.append_left(2, "x")), Refusal::CutInReplacement);
-  assert_eq!(untouched(desk, |s| s.prepend_right(2, "x")), Refusal::CutInReplacement);
+  for (side, end) in SETTINGS {
+    assert_eq!(untouched(desk, |s| s.insert(2, "x", side, end)), Refusal::CutInReplacement);
+  }
   // The cuts that were made stay: that at `start`, before the one inside.
   let desk = &mut open("abcdef");
   desk.update(2, 6, "X").unwrap();
@@ -135,7 +142,7 @@ fn number_6_cut_inside_a_replacement() {
   assert_eq!(spans(desk), [(0, 1), (1, 2), (2, 6)]);
   // An empty replacement can be cut.
   let desk = &mut open("abcdef");
-  desk.remove(0, 4).unwrap().append_left(2, "x").unwrap();
+  desk.remove(0, 4).unwrap().insert(2, "x", Left, Back).unwrap();
   assert_eq!(desk.to_string(), "xef");
 }
 
@@ -148,7 +155,7 @@ fn number_7_replace_across_a_moved_edge() {
   assert_eq!(desk.to_string(), "abdc");
   // Case F: the chunk of b is cleared before the refusal.
   let desk = &mut open("abcd");
-  desk.relocate(2, 3, 4).unwrap().append_left(1, "").unwrap();
+  desk.relocate(2, 3, 4).unwrap().insert(1, "", Left, Back).unwrap();
   assert_eq!(desk.update(0, 3, "X").err(), Some(Refusal::AcrossMovedEdge));
   assert_eq!(desk.to_string(), "adc");
 }
@@ -187,7 +194,7 @@ fn number_10_end_past_source() {
 fn numbers_11_and_12_slice_anchors() {
   // Case D.
   let mut desk = open("abcdef");
-  desk.remove(1, 5).unwrap().append_left(3, "Z").unwrap();
+  desk.remove(1, 5).unwrap().insert(3, "Z", Left, Back).unwrap();
   assert_eq!(desk.to_string(), "aZf");
   assert_eq!(desk.slice(2, None), Err(Refusal::SliceStart));
   assert_eq!(desk.slice(0, Some(2)), Err(Refusal::SliceEnd));
@@ -210,25 +217,25 @@ fn number_13_limits() {
   // Pieces, empty ones counted.
   let desk = &mut open("ab");
   for _ in 0..layout::PIECES {
-    desk.append_right(1, "").unwrap();
+    desk.insert(1, "", Right, Back).unwrap();
   }
-  assert_eq!(untouched(desk, |s| s.append_left(2, "")), Refusal::Limit);
+  assert_eq!(untouched(desk, |s| s.insert(2, "", Left, Back)), Refusal::Limit);
 
   // Chunks.
   let desk = &mut open(&"a".repeat(1_000));
   for at in 1..layout::CHUNKS as u32 {
-    desk.append_left(at, "").unwrap();
+    desk.insert(at, "", Left, Back).unwrap();
   }
   assert_eq!(desk.chunks().count(), layout::CHUNKS);
   assert_eq!(untouched(desk, |s| s.remove(600, 700)), Refusal::Limit);
   assert_eq!(untouched(desk, |s| s.relocate(600, 700, 0)), Refusal::Limit);
   assert_eq!(untouched(desk, |s| s.reset(600, 700)), Refusal::Limit);
-  assert_eq!(untouched(desk, |s| s.prepend_right(600, "")), Refusal::Limit);
+  assert_eq!(untouched(desk, |s| s.insert(600, "", Right, Front)), Refusal::Limit);
   desk.remove(0, 1).unwrap();
 
   // A chunk trimmed in part needs bytes.
   let desk = &mut open(&format!("{} ", "a".repeat(10)));
-  desk.append_right(0, "x".repeat(layout::STORE_BYTES)).unwrap();
+  desk.insert(0, "x".repeat(layout::STORE_BYTES), Right, Back).unwrap();
   assert_eq!(untouched(desk, |s| s.trim_end(None)), Refusal::Limit);
   assert_eq!(untouched(desk, |s| s.indent()), Refusal::Limit);
 }

@@ -8,7 +8,7 @@ mod random;
 
 use std::collections::BTreeSet;
 
-use magic_string::{MagicString, Refusal, SheetRun, UpdateOptions, layout::*};
+use magic_string::{End::*, MagicString, Refusal, SheetRun, Side::*, UpdateOptions, layout::*};
 use plain::{Record, Sheet};
 use random::Random;
 use sheet_script::{to_script, to_sheet};
@@ -71,7 +71,7 @@ fn later_calls() {
   made.relocate(0, 2, 3).unwrap();
   for desk in [&mut desk, &mut made] {
     assert_eq!(desk.relocate(1, 3, 0).err(), Some(Refusal::NotTogether));
-    desk.append_left(2, "!").unwrap().update(2, 3, "C").unwrap().append(".").unwrap();
+    desk.insert(2, "!", Left, Back).unwrap().update(2, 3, "C").unwrap().append(".").unwrap();
     assert_eq!(desk.to_string(), "Cab!.");
     assert_eq!(desk.slice(0, Some(2)), Ok("ab!".to_string()));
     desk.reset(0, 3).unwrap();
@@ -123,10 +123,10 @@ fn call(desk: &mut MagicString, record: &Record) -> Result<(), Refusal> {
     (1, &[start, end]) => desk.remove(start, end),
     (2, &[start, end]) => desk.update_with(start, end, text()?, UpdateOptions { overwrite: true }),
     (3, &[start, end]) => desk.reset(start, end),
-    (4, &[at]) => desk.append_left(at, text()?),
-    (5, &[at]) => desk.append_right(at, text()?),
-    (6, &[at]) => desk.prepend_left(at, text()?),
-    (7, &[at]) => desk.prepend_right(at, text()?),
+    (4, &[at]) => desk.insert(at, text()?, Left, Back),
+    (5, &[at]) => desk.insert(at, text()?, Right, Back),
+    (6, &[at]) => desk.insert(at, text()?, Left, Front),
+    (7, &[at]) => desk.insert(at, text()?, Right, Front),
     (8, &[start, end, to]) => desk.relocate(start, end, to),
     _ => unreachable!("a record of kind {}", record.kind),
   };

@@ -1,7 +1,7 @@
--- `insert_call::insert_at` meets its contract: a refusal by the tests leaves all as it was, else it is what `insert_with` gives.
+-- `insert` meets its contract: a refusal by the tests leaves all as it was, else it is what `insert_either` gives.
 use mathlib.Core.Path.{sym, _∙_}
 use Rattle.memory.proofs.Desks.{valid-source}
-use Rattle.edit_insert.proofs.Tests.{insertion-invalid, insertion-outside, insertion-ran}
+use Rattle.edit_insert.proofs.Tests.{insert-invalid, insert-outside, insert-ran}
 use borrow.Author.Needs.{needs}
 use Rattle.edit_insert.proofs.insert.Statement.{statement}
 use Rattle.edit_insert.proofs.insert.Tie as tie
@@ -35,7 +35,7 @@ returns c =
     let made = c .before .before .before .before .before .before .insert-either .ensures in
     let text-is = sym (valid .ensures) ∙ if1 .taken in
     let place-is = sym (boundary .ensures) ∙ if2 .taken in
-    record { ran = insertion-ran _ (start .pre .well-formed) (a .left) (a .front) (a .at) text-is place-is (made .0); above = made .1 }
+    record { ran = insert-ran _ (start .pre .well-formed) (a .at) (a .left) (a .front) text-is place-is (made .0); above = made .1 }
 
 returns-2 : tie.Need-returns-2
 returns-2 c =
@@ -43,14 +43,14 @@ returns-2 c =
     let a = start .args in
     let text-is = sym (c .before .before .before .valid .ensures) ∙ c .before .before .if1 .taken in
     let place-is = sym (c .before .boundary .ensures) ∙ c .if2 .left in
-    record { ran = insertion-outside _ (start .pre .well-formed) (a .left) (a .front) (a .at) text-is place-is; above = start .pre .above }
+    record { ran = insert-outside _ (start .pre .well-formed) (a .at) (a .left) (a .front) text-is place-is; above = start .pre .above }
 
 returns-3 : tie.Need-returns-3
 returns-3 c =
     let start = c .before .before .before .before .before .before .before in
     let a = start .args in
     let text-is = sym (c .before .valid .ensures) ∙ c .if1 .left in
-    record { ran = insertion-invalid _ (start .pre .well-formed) (a .left) (a .front) (a .at) text-is; above = start .pre .above }
+    record { ran = insert-invalid _ (start .pre .well-formed) (a .at) (a .left) (a .front) text-is; above = start .pre .above }
 
 pub insert-spec : {M : Type 1} → statement M
 insert-spec =

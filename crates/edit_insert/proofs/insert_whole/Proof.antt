@@ -1,4 +1,4 @@
--- `insert_call::add_whole` meets its contract: a refusal by the test leaves all as it was, else it is what `whole_with` gives.
+-- `insert_whole` meets its contract: a refusal by the test leaves all as it was, else it is what `whole_either` gives.
 use mathlib.Core.Path.{sym, _∙_}
 use Rattle.edit_insert.proofs.Tests.{addition-invalid, addition-ran}
 use borrow.Author.Needs.{needs}

@@ -1,4 +1,4 @@
--- `insert::insert_anew` meets its contract: where the small tables are refused, the desk is as it was.
+-- `insert_anew` meets its contract: where the small tables are refused, the desk is as it was.
 use Rattle.edit_small_tables.proofs.Trying.{tried-formed, other-way}
 use borrow.Author.Needs.{needs}
 use Rattle.edit_insert_either.proofs.insert_anew.Statement.{statement}

@@ -1,4 +1,4 @@
--- `insert::insert_with` meets its contract, by either way. Where `has_room` says so, there is room for what `insert_on_top` puts there.
+-- `insert_either` meets its contract, by either way. Where `has_room` says so, there is room for what `insert_in_place` puts there.
 use mathlib.Core.Path.{ap, subst}
 use Prim.Native.Nat.{_+_}
 use native.Mathlib.Omega.{arith}

@@ -1,4 +1,4 @@
--- `insert::whole_anew` meets its contract: where the small tables are refused, the desk is as it was.
+-- `whole_anew` meets its contract: where the small tables are refused, the desk is as it was.
 use Rattle.edit_small_tables.proofs.Trying.{tried-formed, other-way}
 use borrow.Author.Needs.{needs}
 use Rattle.edit_insert_either.proofs.whole_anew.Statement.{statement}

@@ -1,4 +1,4 @@
--- `insert::whole_with` meets its contract, by either way.
+-- `whole_either` meets its contract, by either way.
 use Rattle.edit_room_above.proofs.Bounds.{above-small}
 use borrow.Author.Needs.{needs}
 use Rattle.edit_insert_either.proofs.whole_either.Statement.{statement}

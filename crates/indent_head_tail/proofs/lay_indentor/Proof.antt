@@ -1,48 +1,48 @@
-use Rattle.indent_head_tail.proofs.Own.{laid-before, laid-short, lay-room, laid-now}
+use mathlib.Core.Path.{refl}
+use Rattle.memory_texts.proofs.Over.{put-back}
+use Rattle.indent_head_tail.proofs.Own.{laid-before, laid-short, laid-now}
+use native.Mathlib.Omega.{arith}
 use borrow.Author.Needs.{needs}
 use Rattle.indent_head_tail.proofs.lay_indentor.Statement.{statement}
 use Rattle.indent_head_tail.proofs.lay_indentor.Tie as tie
 
 returns : tie.Need-returns
 returns c =
-    let start = c .before .before .before .before in
-    let a = start .args in
-    laid-before (a .indentor .now) (a .p .now) (a .s .now) (a .top) (a .byte) (a .laid) (start .pre) (c .if1 .taken)
+    laid-before (c .before .before .before .pre) (c .if1 .taken)
 
 sub-if2 : tie.Need-sub-if2
 sub-if2 c = search needs
 
 returns-2 : tie.Need-returns-2
 returns-2 c =
-    let start = c .before .before .before .before .before in
-    let a = start .args in
-    laid-short (a .indentor .now) (a .p .now) (a .s .now) (a .top) (a .byte) (a .laid) (start .pre) (c .if2 .taken)
+    laid-short (c .before .before .before .before .pre) (c .if2 .taken)
 
-push-piece-requires : tie.Need-push-piece-requires
-push-piece-requires c κs =
-    let start = c .before .before .before .before .before .before .before in
-    let a = start .args in
-    lay-room (a .indentor .now) (a .p .now) (a .s .now) (a .top) (a .byte) (a .laid) (start .pre) (c .before .before .before .if1 .left) (c .before .before .if2 .left)
+sub-put : tie.Need-sub-put
+sub-put c = search needs
 
-add-t17 : tie.Need-add-t17
-add-t17 c = search needs
+part-put-start : tie.Need-part-put-start
+part-put-start c = search needs
 
-cast-t18 : tie.Need-cast-t18
-cast-t18 c = search needs
+part-put-end : tie.Need-part-put-end
+part-put-end c = search needs
+
+put-requires : tie.Need-put-requires
+put-requires c κs = search needs
+
+cast-t14 : tie.Need-cast-t14
+cast-t14 c = search needs
+
+add-t15 : tie.Need-add-t15
+add-t15 c = search needs
 
 same-length : tie.Need-same-length
 same-length c = search needs
 
-same-length-2 : tie.Need-same-length-2
-same-length-2 c = search needs
-
 returns-3 : tie.Need-returns-3
 returns-3 c =
-    let start = c .before .before .before .before .before .before .before .before .before .before .before .before in
-    let a = start .args in
-    let if1 = c .before .before .before .before .before .before .before .before .if1 in
-    let if2 = c .before .before .before .before .before .before .before .if2 in
-    laid-now (a .indentor .now) (a .p .now) (a .s .now) (a .top) (a .byte) (a .laid) (start .pre) (if1 .left) (if2 .left) _ _ _ (c .before .before .before .before .push-piece .ensures)
+    let pre = c .before .before .before .before .before .before .before .before .pre in
+    let if2 = c .before .before .before .before .if2 in
+    laid-now pre (if2 .left) (put-back _ _ _ _ _ (omega (arith, pre .byte-in, if2 .left)) (c .before .before .put .ensures) refl)
 
 pub lay-indentor-spec : {M : Type 1} → statement M
 lay-indentor-spec =
@@ -51,9 +51,11 @@ lay-indentor-spec =
     returns
     sub-if2
     returns-2
-    push-piece-requires
-    add-t17
-    cast-t18
+    sub-put
+    part-put-start
+    part-put-end
+    put-requires
+    cast-t14
+    add-t15
     same-length
-    same-length-2
     returns-3)

@@ -1,6 +1,6 @@
 //! Random edits for a list, most of them of those that the rule is of.
 
-use oracle::{Call, DeskData, random::Random};
+use oracle::{Call, DeskData, SETTINGS, random::Random};
 
 use crate::made;
 
@@ -34,10 +34,7 @@ impl<'a> Edits<'a> {
         Call::UpdateWith { start, end, overwrite, text }
       }
       15..=18 => Call::Reset { start, end },
-      19..=22 => Call::AppendLeft { at, text },
-      23..=25 => Call::AppendRight { at, text },
-      26..=28 => Call::PrependLeft { at, text },
-      29..=32 => Call::PrependRight { at, text },
+      choice @ 19..=32 => Call::Insert { at, text, setting: SETTINGS[choice % 4] },
       33 => Call::Append { text },
       34 => Call::Prepend { text },
       _ => self.relocate(),

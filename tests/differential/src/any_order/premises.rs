@@ -102,12 +102,10 @@ impl Premises {
     match *call {
       Call::Remove { start, end } | Call::Reset { start, end } => Reach::Bytes(start, end),
       Call::UpdateWith { start, end, .. } => Reach::Bytes(start, end),
-      Call::AppendLeft { at: 0, .. } | Call::PrependLeft { at: 0, .. } => Reach::Head,
-      Call::AppendLeft { at, .. } | Call::PrependLeft { at, .. } => Reach::Bytes(at - 1, at),
-      Call::AppendRight { at, .. } | Call::PrependRight { at, .. } if at < self.source => {
-        Reach::Bytes(at, at + 1)
-      }
-      Call::AppendRight { .. } | Call::PrependRight { .. } | Call::Append { .. } => Reach::Tail,
+      Call::Insert { at: 0, setting, .. } if setting.left => Reach::Head,
+      Call::Insert { at, setting, .. } if setting.left => Reach::Bytes(at - 1, at),
+      Call::Insert { at, .. } if at < self.source => Reach::Bytes(at, at + 1),
+      Call::Insert { .. } | Call::Append { .. } => Reach::Tail,
       Call::Prepend { .. } => Reach::Head,
       _ => Reach::Nothing,
     }
@@ -149,9 +147,7 @@ fn range(call: &Call) -> Option<(u32, u32)> {
 }
 
 pub fn inserts(call: &Call) -> bool {
-  use Call::*;
-  matches!(call, AppendLeft { .. } | AppendRight { .. } | PrependLeft { .. } | PrependRight { .. })
-    || matches!(call, Append { .. } | Prepend { .. })
+  matches!(call, Call::Insert { .. } | Call::Append { .. } | Call::Prepend { .. })
 }
 
 pub fn is_move(call: &Call) -> bool {

@@ -21,10 +21,10 @@ impl Core for Archive {
         lent.update_with(start, end, text, overwrite)
       }
       Call::Reset { start, end } => lent.reset(start, end),
-      Call::AppendLeft { at, ref text } => lent.append_left(at, text),
-      Call::AppendRight { at, ref text } => lent.append_right(at, text),
-      Call::PrependLeft { at, ref text } => lent.prepend_left(at, text),
-      Call::PrependRight { at, ref text } => lent.prepend_right(at, text),
+      Call::Insert { at, ref text, setting } => {
+        let [left, front] = unseen.switches(setting);
+        lent.insert(at, text, left, front)
+      }
       Call::Append { ref text } => lent.append(text),
       Call::Prepend { ref text } => lent.prepend(text),
       Call::Relocate { start, end, to } => lent.relocate(start, end, to),
@@ -33,10 +33,10 @@ impl Core for Archive {
       Call::TrimEnd { pattern } => lent.trim_end(pattern),
       Call::TrimLines => lent.trim_lines(),
       Call::IndentWith { indentor: Some(ref indentor), ref exclude } => {
-        lent.indent_with(unseen.yes, indentor, exclude)
+        lent.indent_with(unseen.yes[0], indentor, exclude)
       }
       Call::IndentWith { indentor: None, ref exclude } => lent.indent_with(0, unseen.text, exclude),
-      Call::Slice { start, end: Some(end), .. } => lent.slice(start, unseen.yes, end, out),
+      Call::Slice { start, end: Some(end), .. } => lent.slice(start, unseen.yes[0], end, out),
       Call::Slice { start, end: None, .. } => lent.slice(start, 0, unseen.position, out),
       Call::ToString { .. } => lent.to_string(out),
       Call::LastLine { .. } => lent.last_line(out),

@@ -111,16 +111,13 @@ impl List {
   }
 }
 
-/// The kind of an edit and its numbers.
+/// The kind of an edit, that of a sheet's record for an insertion, and its numbers.
 fn words(call: &Call, unseen: &Unseen) -> [u32; 4] {
   match *call {
     Call::Remove { start, end } => [1, start, end, 0],
     Call::Reset { start, end } => [2, start, end, 0],
     Call::Relocate { start, end, to } => [3, start, end, to],
-    Call::AppendLeft { at, .. } => [4, at, 0, 0],
-    Call::AppendRight { at, .. } => [5, at, 0, 0],
-    Call::PrependLeft { at, .. } => [6, at, 0, 0],
-    Call::PrependRight { at, .. } => [7, at, 0, 0],
+    Call::Insert { at, setting, .. } => [setting.kind().into(), at, 0, 0],
     Call::Append { .. } => [8, 0, 0, 0],
     Call::Prepend { .. } => [9, 0, 0, 0],
     Call::UpdateWith { start, end, overwrite, .. } => [10, start, end, overwrite],
@@ -128,7 +125,7 @@ fn words(call: &Call, unseen: &Unseen) -> [u32; 4] {
     Call::TrimStart { pattern } => [12, pattern, 0, 0],
     Call::TrimEnd { pattern } => [13, pattern, 0, 0],
     Call::TrimLines => [14, 0, 0, 0],
-    Call::IndentWith { indentor: Some(_), .. } => [15, unseen.yes, 0, 0],
+    Call::IndentWith { indentor: Some(_), .. } => [15, unseen.yes[0], 0, 0],
     Call::IndentWith { indentor: None, .. } => [15, 0, 0, 0],
     _ => unreachable!("{call} is not made in a list"),
   }

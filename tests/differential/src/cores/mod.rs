@@ -50,6 +50,15 @@ pub trait Core {
   }
 }
 
+/// The exported function that makes the call, without its prefix: the first word of the
+/// call's line, but that one function makes all insertions.
+pub fn function(call: &Call) -> String {
+  match call {
+    Call::Insert { .. } => "insert".to_string(),
+    _ => call.to_string().split(' ').next().unwrap_or_default().to_string(),
+  }
+}
+
 /// What `Core::well_formed` must answer.
 pub fn verdict(core: &impl Core, lent: &Lent) -> Answer {
   let taken = lent.sizes().is_some_and(|sizes| core.takes(sizes));

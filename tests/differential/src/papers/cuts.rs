@@ -1,7 +1,7 @@
 //! Calls that cut desks with as many chunks as there may be, or nearly, each from
 //! that desk: cuts that stay after a refusal pass the limit too.
 
-use oracle::{Call, generate::Caller as _, random::Random};
+use oracle::{APPEND_LEFT, Call, generate::Caller as _, random::Random};
 
 use super::Caller;
 use crate::{
@@ -40,7 +40,7 @@ impl Caller {
       4 => Call::Reset { start: low, end: middle },
       5 => Call::Relocate { start: low, end: middle, to: high },
       6 => Call::Relocate { start: middle, end: high, to: low },
-      _ => Call::AppendLeft { at: low, text: self.text() },
+      _ => Call::Insert { at: low, text: self.text(), setting: APPEND_LEFT },
     };
     Made { call, seed: self.random.number() }
   }

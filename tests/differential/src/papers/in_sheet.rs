@@ -1,7 +1,7 @@
 //! Papers as a sheet holds them: a source and calls of a sheet's kinds, each chosen
 //! on the desk that those before it leave.
 
-use oracle::{Call, Desk, Limits, generate::Caller as _, random::Random};
+use oracle::{APPEND_RIGHT, Call, Desk, Limits, generate::Caller as _, random::Random};
 
 use super::Caller;
 use crate::{
@@ -87,10 +87,11 @@ fn full(random: &mut Random) -> InSheet {
     }
     writer.write(call);
   }
-  let empty = Call::AppendRight { at: 0, text: Vec::new() };
-  if let Some(left) = writer.left.checked_sub(size(&empty) + random.below(3)) {
+  let insertion = |text| Call::Insert { at: 0, text, setting: APPEND_RIGHT };
+  let empty = size(&insertion(Vec::new()));
+  if let Some(left) = writer.left.checked_sub(empty + random.below(3)) {
     let text = made::text(left, random).into_bytes();
-    writer.write(Call::AppendRight { at: 0, text });
+    writer.write(insertion(text));
   }
   writer.paper("random sheets, many bytes of sheet")
 }

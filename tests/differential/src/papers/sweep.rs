@@ -1,7 +1,7 @@
 //! Every call at every position of one small desk made by hand, and one byte
 //! past its end, each from that desk.
 
-use oracle::{Call, Desk, Limits, apply, random::Random};
+use oracle::{Call, Desk, Limits, apply, insertions, random::Random};
 
 use crate::{
   Made, Paper, Start,
@@ -53,10 +53,7 @@ impl Sweep<'_> {
     self.add(Call::LastChar);
     for &at in positions {
       let text = self.text();
-      self.add(Call::AppendLeft { at, text: text.clone() });
-      self.add(Call::AppendRight { at, text: text.clone() });
-      self.add(Call::PrependLeft { at, text: text.clone() });
-      self.add(Call::PrependRight { at, text });
+      insertions(at, &text).into_iter().for_each(|insertion| self.add(insertion));
       self.add(Call::Slice { start: at, end: None, room: None });
     }
   }

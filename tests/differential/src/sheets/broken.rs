@@ -1,6 +1,10 @@
 //! Small sheets, and each with one rule broken in each place.
 
-use oracle::Call::{self, *};
+use oracle::{
+  APPEND_LEFT, APPEND_RIGHT,
+  Call::{self, *},
+  PREPEND_LEFT, PREPEND_RIGHT, Setting,
+};
 
 use super::fields::{Fields, Record};
 
@@ -25,22 +29,26 @@ fn small() -> [Fields; 5] {
   [
     Fields::of(b"abc", &[Relocate { start: 0, end: 2, to: 3 }]),
     Fields::of(b"", &[]),
-    Fields::of(b"", &[AppendLeft { at: 0, text: b"x".to_vec() }, Remove { start: 0, end: 1 }]),
+    Fields::of(b"", &[insert(APPEND_LEFT, 0, b"x"), Remove { start: 0, end: 1 }]),
     // The source is not UTF-8.
     Fields::of(b"a\xc3", &[Remove { start: 0, end: 1 }]),
     Fields::of("aé€😀b".as_bytes(), &every_kind()),
   ]
 }
 
+fn insert(setting: Setting, at: u32, text: &[u8]) -> Call {
+  Insert { at, text: text.to_vec(), setting }
+}
+
 /// Each kind once, and a text that is not UTF-8.
 fn every_kind() -> Vec<Call> {
   vec![
-    AppendLeft { at: 3, text: b"<".to_vec() },
+    insert(APPEND_LEFT, 3, b"<"),
     UpdateWith { start: 1, end: 3, overwrite: 1, text: "É".into() },
-    AppendRight { at: 6, text: Vec::new() },
-    PrependLeft { at: 6, text: b"xy".to_vec() },
-    PrependRight { at: 0, text: b"\xff".to_vec() },
-    PrependRight { at: 0, text: b">".to_vec() },
+    insert(APPEND_RIGHT, 6, b""),
+    insert(PREPEND_LEFT, 6, b"xy"),
+    insert(PREPEND_RIGHT, 0, b"\xff"),
+    insert(PREPEND_RIGHT, 0, b">"),
     Remove { start: 0, end: 1 },
     Reset { start: 0, end: 3 },
     Relocate { start: 0, end: 3, to: 11 },

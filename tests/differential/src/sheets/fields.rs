@@ -110,10 +110,7 @@ pub fn kind(call: &Call) -> Option<u8> {
     Call::Remove { .. } => 1,
     Call::UpdateWith { overwrite: 1.., .. } => 2,
     Call::Reset { .. } => 3,
-    Call::AppendLeft { .. } => 4,
-    Call::AppendRight { .. } => 5,
-    Call::PrependLeft { .. } => 6,
-    Call::PrependRight { .. } => 7,
+    Call::Insert { setting, .. } => setting.kind(),
     Call::Relocate { .. } => 8,
     _ => return None,
   })

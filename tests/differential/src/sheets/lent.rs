@@ -3,7 +3,7 @@
 
 use std::array;
 
-use oracle::{Call::*, random::Random};
+use oracle::{APPEND_LEFT, Call, random::Random};
 
 use super::{
   fields::Fields,
@@ -18,7 +18,8 @@ pub fn all(seeds: &mut Random) -> Vec<Handed> {
 
 /// A sheet of so many records.
 fn sheet(records: usize) -> Fields {
-  Fields::of(b"abcdef", &vec![AppendLeft { at: 3, text: b"x".to_vec() }; records])
+  let call = Call::Insert { at: 3, text: b"x".to_vec(), setting: APPEND_LEFT };
+  Fields::of(b"abcdef", &vec![call; records])
 }
 
 /// For the core alone.

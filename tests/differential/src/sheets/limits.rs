@@ -1,7 +1,11 @@
 //! Sheets with as many records, as many bytes and as long a source as there may be,
 //! and one less and one more.
 
-use oracle::Call::{self, *};
+use oracle::{
+  APPEND_LEFT, APPEND_RIGHT,
+  Call::{self, *},
+  insertions,
+};
 
 use super::{
   broken::Tried,
@@ -16,20 +20,17 @@ pub fn all() -> Vec<Tried> {
 
 /// So many records of each kind.
 fn counts() -> Vec<Tried> {
-  let text = b"x".to_vec();
   let calls = [
     Remove { start: 1, end: 2 },
-    UpdateWith { start: 0, end: 3, overwrite: 1, text: text.clone() },
+    UpdateWith { start: 0, end: 3, overwrite: 1, text: b"x".to_vec() },
     Reset { start: 0, end: 3 },
-    AppendLeft { at: 1, text: text.clone() },
-    AppendRight { at: 1, text: text.clone() },
-    PrependLeft { at: 1, text: text.clone() },
-    PrependRight { at: 1, text },
     Relocate { start: 0, end: 1, to: 3 },
   ];
+  let insertions = insertions(1, b"x");
   let counts = [MOST_RECORDS - 1, MOST_RECORDS, MOST_RECORDS + 1];
   let each = |call| counts.map(|count| Fields::of(b"abc", &vec![Call::clone(call); count]));
-  calls.iter().flat_map(each).map(|sheet| ("many records", sheet.bytes())).collect()
+  let calls = calls.iter().chain(&insertions);
+  calls.flat_map(each).map(|sheet| ("many records", sheet.bytes())).collect()
 }
 
 /// Sheets with so many bytes: in one text, in many, and in the source.
@@ -41,7 +42,8 @@ fn sizes() -> Vec<Tried> {
 
 /// An insertion whose text fills the sheet, and a removal behind it.
 fn one_text(size: usize) -> Vec<u8> {
-  let calls = |len| [AppendLeft { at: 1, text: vec![b'x'; len] }, Remove { start: 0, end: 1 }];
+  let insertion = |len| Insert { at: 1, text: vec![b'x'; len], setting: APPEND_LEFT };
+  let calls = |len| [insertion(len), Remove { start: 0, end: 1 }];
   let empty = Fields::of(b"abc", &calls(0)).bytes().len();
   Fields::of(b"abc", &calls(size - empty)).bytes()
 }
@@ -51,7 +53,8 @@ fn many_texts(size: usize) -> Vec<u8> {
   let mut sheet = Fields::of(&[b'a'; MOST_SOURCE], &[]);
   let left = size - sheet.bytes().len();
   let text = |place: usize| (place + 1) * left / MOST_RECORDS - place * left / MOST_RECORDS - 7;
-  let call = |place| AppendRight { at: 80 * place as u32, text: vec![b'x'; text(place)] };
+  let call =
+    |place| Insert { at: 80 * place as u32, text: vec![b'x'; text(place)], setting: APPEND_RIGHT };
   sheet.records = (0..MOST_RECORDS).map(call).map(|call| Record::of(&call)).collect();
   sheet.bytes()
 }

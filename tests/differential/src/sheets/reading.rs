@@ -2,7 +2,7 @@
 //! leaves, and what the program prints. It is written to be read beside the request,
 //! not to be fast.
 
-use oracle::{Call, Desk, Limits, apply, number};
+use oracle::{Call, Desk, Limits, SETTINGS, apply, number};
 
 pub const MOST_RECORDS: usize = 200;
 pub const MOST_SHEET: usize = 57_344;
@@ -45,10 +45,11 @@ fn record(record: &[u8]) -> Option<(u8, Call)> {
       text: rest.text(),
     },
     3 => Call::Reset { start: rest.position()?, end: rest.position()? },
-    4 => Call::AppendLeft { at: rest.position()?, text: rest.text() },
-    5 => Call::AppendRight { at: rest.position()?, text: rest.text() },
-    6 => Call::PrependLeft { at: rest.position()?, text: rest.text() },
-    7 => Call::PrependRight { at: rest.position()?, text: rest.text() },
+    4..=7 => Call::Insert {
+      at: rest.position()?,
+      text: rest.text(),
+      setting: SETTINGS[usize::from(kind) - 4],
+    },
     8 => Call::Relocate { start: rest.position()?, end: rest.position()?, to: rest.position()? },
     _ => return None,
   };

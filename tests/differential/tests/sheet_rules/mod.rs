@@ -4,7 +4,7 @@
 use std::array;
 
 use differential::{Answer, Core, Lent, Unseen, cores::StandIn, image, layout::*};
-use oracle::{Call, Desk, Limits, apply, random::Random};
+use oracle::{Call, Desk, Limits, SETTINGS, apply, random::Random};
 
 /// The rules of a sheet and of its run.
 #[derive(Clone)]
@@ -143,10 +143,7 @@ impl Rules {
       8 => Call::Relocate { start: a, end: b, to: c },
       _ if !(self.text)(&text) => return None,
       2 => Call::UpdateWith { start: a, end: b, overwrite: self.overwrite, text },
-      4 => Call::AppendLeft { at: a, text },
-      5 => Call::AppendRight { at: a, text },
-      6 => Call::PrependLeft { at: a, text },
-      _ => Call::PrependRight { at: a, text },
+      _ => Call::Insert { at: a, text, setting: SETTINGS[kind - 4] },
     })
   }
 

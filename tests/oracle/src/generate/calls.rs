@@ -1,7 +1,7 @@
 //! Random calls on the desk as it now is.
 
 use super::Generator;
-use crate::{Call, random::Random};
+use crate::{Call, SETTINGS, random::Random};
 
 /// Chooses calls. What it knows of its desk it puts into positions and texts.
 pub trait Caller {
@@ -33,10 +33,7 @@ pub trait Caller {
       0 | 1 => Call::Remove { start, end },
       2 | 3 => Call::UpdateWith { start, end, overwrite: self.option(), text: self.text() },
       4 => Call::Reset { start, end },
-      5 => Call::AppendLeft { at, text: self.text() },
-      6 => Call::AppendRight { at, text: self.text() },
-      7 => Call::PrependLeft { at, text: self.text() },
-      8 => Call::PrependRight { at, text: self.text() },
+      choice @ 5..=8 => Call::Insert { at, text: self.text(), setting: SETTINGS[choice - 5] },
       9 => Call::Append { text: self.text() },
       10 => Call::Prepend { text: self.text() },
       11 => Call::Relocate { start, end, to: at },

@@ -1,7 +1,7 @@
 //! Papers that reach a desk limit: to it, and one past it.
 
 use super::Generator;
-use crate::Call;
+use crate::{APPEND_LEFT, Call, PREPEND_RIGHT};
 
 impl Generator {
   /// Sources of the longest length and one more, in characters of one to four
@@ -42,8 +42,8 @@ impl Generator {
     for number in 0..fillers {
       let text = if number % 2 == 0 { Vec::new() } else { b"x".to_vec() };
       self.call(match number % 3 {
-        0 => Call::AppendLeft { at: 0, text },
-        1 => Call::PrependRight { at: 0, text },
+        0 => Call::Insert { at: 0, text, setting: APPEND_LEFT },
+        1 => Call::Insert { at: 0, text, setting: PREPEND_RIGHT },
         _ => Call::Append { text },
       });
     }
@@ -85,7 +85,7 @@ impl Generator {
     };
     let len = self.limits.bytes.saturating_sub(bytes) + self.random.below(2);
     let text = self.text_of(len);
-    self.call(Call::AppendLeft { at: left as u32 + 1, text });
+    self.call(Call::Insert { at: left as u32 + 1, text, setting: APPEND_LEFT });
     self.call(call);
     self.any_calls(6);
   }
@@ -124,8 +124,8 @@ impl Generator {
     match self.random.below(5) {
       0 => Call::Append { text },
       1 => Call::Prepend { text },
-      2 => Call::AppendLeft { at: end, text },
-      3 => Call::PrependRight { at: 0, text },
+      2 => Call::Insert { at: end, text, setting: APPEND_LEFT },
+      3 => Call::Insert { at: 0, text, setting: PREPEND_RIGHT },
       _ => Call::UpdateWith { start: 0, end, overwrite: 0, text },
     }
   }

@@ -1,7 +1,7 @@
 //! Papers that reach the limits, with short lines.
 
 use super::Writer;
-use crate::Call;
+use crate::{APPEND_LEFT, APPEND_RIGHT, Call, PREPEND_LEFT, PREPEND_RIGHT, insertions};
 
 pub fn papers(writer: &mut Writer) {
   sources(writer);
@@ -27,18 +27,12 @@ fn sources(writer: &mut Writer) {
 
 /// Texts that fill the store, and one byte more, by every call that adds one.
 fn bytes(writer: &mut Writer) {
-  let at = 2;
   for len in [32_767, 32_768, 32_769, 40_000] {
     let text = vec![b'x'; len];
-    for call in [
-      Call::Append { text: text.clone() },
-      Call::Prepend { text: text.clone() },
-      Call::AppendLeft { at, text: text.clone() },
-      Call::AppendRight { at, text: text.clone() },
-      Call::PrependLeft { at, text: text.clone() },
-      Call::PrependRight { at, text: text.clone() },
-      Call::UpdateWith { start: 1, end: 3, overwrite: 0, text: text.clone() },
-    ] {
+    let ends = [Call::Append { text: text.clone() }, Call::Prepend { text: text.clone() }];
+    let inserted = insertions(2, &text);
+    let update = Call::UpdateWith { start: 1, end: 3, overwrite: 0, text };
+    for call in ends.into_iter().chain(inserted).chain([update]) {
       writer.call(&Call::Open { source: b"\nabcd \n".to_vec() });
       writer.call(&call);
       writer.call(&Call::Append { text: b"y".to_vec() });
@@ -73,10 +67,7 @@ fn chunks(writer: &mut Writer) {
       writer.call(&Call::UpdateWith { start, end, overwrite: 0, text: text.clone() });
     }
     for at in [1_121, 1_122] {
-      writer.call(&Call::AppendLeft { at, text: text.clone() });
-      writer.call(&Call::AppendRight { at, text: text.clone() });
-      writer.call(&Call::PrependLeft { at, text: text.clone() });
-      writer.call(&Call::PrependRight { at, text: text.clone() });
+      insertions(at, &text).iter().for_each(|call| writer.call(call));
     }
     writer.call(&Call::ToString { room: None });
     writer.call(&Call::Slice { start: 3, end: Some(1_001), room: None });
@@ -101,19 +92,16 @@ fn pieces(writer: &mut Writer) {
     let text = if count % 3 == 0 { b"p".to_vec() } else { Vec::new() };
     writer.call(&match count % 6 {
       0 => Call::Append { text },
-      1 => Call::AppendLeft { at: 2, text },
-      2 => Call::PrependRight { at: 2, text },
+      1 => Call::Insert { at: 2, text, setting: APPEND_LEFT },
+      2 => Call::Insert { at: 2, text, setting: PREPEND_RIGHT },
       3 => Call::Prepend { text },
-      4 => Call::AppendRight { at: 0, text },
-      _ => Call::PrependLeft { at: 3, text },
+      4 => Call::Insert { at: 0, text, setting: APPEND_RIGHT },
+      _ => Call::Insert { at: 3, text, setting: PREPEND_LEFT },
     });
   }
   for at in [2, 3] {
     for text in [Vec::new(), b"q".to_vec()] {
-      writer.call(&Call::AppendLeft { at, text: text.clone() });
-      writer.call(&Call::AppendRight { at, text: text.clone() });
-      writer.call(&Call::PrependLeft { at, text: text.clone() });
-      writer.call(&Call::PrependRight { at, text: text.clone() });
+      insertions(at, &text).iter().for_each(|call| writer.call(call));
       writer.call(&Call::Append { text: text.clone() });
       writer.call(&Call::Prepend { text });
     }

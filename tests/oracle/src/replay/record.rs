@@ -84,8 +84,7 @@ fn numbers(call: &Call) -> Vec<u32> {
     IsRangeWithinEditedChunk { start, end } => vec![start, end],
     UpdateWith { start, end, overwrite, .. } => vec![start, end, overwrite],
     Relocate { start, end, to } => vec![start, end, to],
-    AppendLeft { at, .. } | AppendRight { at, .. } => vec![at],
-    PrependLeft { at, .. } | PrependRight { at, .. } => vec![at],
+    Insert { at, .. } => vec![at],
     Trim { pattern } | TrimStart { pattern } | TrimEnd { pattern } => vec![pattern],
     IndentWith { ref indentor, ref exclude } => {
       let mut numbers = vec![indentor.is_some() as u32];

@@ -1,5 +1,6 @@
 pub mod append;
 pub mod indent;
+pub mod insert;
 pub mod movement;
 pub mod prepend;
 pub mod reset;
@@ -99,13 +100,13 @@ impl MagicString {
   /// # Example
   /// An insertion cuts the chunk that holds its position:
   /// ```
-  /// use magic_string::{MagicString, Span};
+  /// use magic_string::{End, MagicString, Side, Span};
   ///
   /// //                            0123456
   /// let mut s = MagicString::new("abcdefg").unwrap();
   /// assert_eq!(s.chunks().count(), 1);
   ///
-  /// s.append_left(3, "|").unwrap();
+  /// s.insert(3, "|", Side::Left, End::Back).unwrap();
   /// let [first, second] = &s.chunks().collect::<Vec<_>>()[..] else { panic!() };
   /// assert_eq!((first.span, first.span.text(s.source())), (Span(0, 3), "abc"));
   /// assert_eq!((second.span, second.span.text(s.source())), (Span(3, 7), "defg"));

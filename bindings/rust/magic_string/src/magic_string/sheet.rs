@@ -24,7 +24,7 @@ impl MagicString {
   ///
   /// # Example
   /// ```
-  /// use magic_string::{MagicString, Refusal};
+  /// use magic_string::{End, MagicString, Refusal, Side};
   ///
   /// # fn main() -> Result<(), Refusal> {
   /// // The version, the source "abc", and one record: relocate(0, 2, 3).
@@ -33,7 +33,7 @@ impl MagicString {
   /// assert_eq!(run.answers, [Ok(())]);
   /// assert_eq!(run.desk.to_string(), "cab");
   ///
-  /// run.desk.append_left(3, "!")?;
+  /// run.desk.insert(3, "!", Side::Left, End::Back)?;
   /// assert_eq!(run.desk.to_string(), "c!ab");
   ///
   /// // A byte too many.

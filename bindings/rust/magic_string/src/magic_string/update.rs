@@ -34,9 +34,9 @@ impl MagicString {
   ///
   /// # Example
   /// ```
-  /// use magic_string::{MagicString, UpdateOptions};
+  /// use magic_string::{End, MagicString, Side, UpdateOptions};
   /// let mut s = MagicString::new("abcd").unwrap();
-  /// s.append_right(1, "<").unwrap();
+  /// s.insert(1, "<", Side::Right, End::Back).unwrap();
   /// s.update(1, 3, "X").unwrap();
   /// assert_eq!(s.to_string(), "a<Xd");
   /// s.update_with(1, 3, "Y", UpdateOptions { overwrite: true }).unwrap();

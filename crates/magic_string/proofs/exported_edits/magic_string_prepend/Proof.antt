@@ -28,8 +28,8 @@ returns c =
     let taken = c .before .before .taken in
     (edited-no (seen-none (a .source .now) (a .chunks .now) (a .pieces .now) (a .store .now) (c .enum-told .given .1) (taken .ensures)), refl)
 
-prepend-requires : tie.Need-prepend-requires
-prepend-requires c κs =
+insert-whole-requires : tie.Need-insert-whole-requires
+insert-whole-requires c κs =
     let a = c .before .before .before .before .before .before .before .before .before .before .before .before .before .before .before .args in
     let taken = c .before .before .before .before .before .before .taken in
     let used = c .before .before .before .before .used in
@@ -49,7 +49,7 @@ returns-2 c =
     let a = c .before .before .before .before .before .before .before .before .before .before .before .before .before .before .before .before .before .before .before .before .before .before .args in
     let taken = c .before .before .before .before .before .before .before .before .before .before .before .before .before .taken in
     let used = c .before .before .before .before .before .before .before .before .before .before .before .used in
-    let done = c .before .before .before .before .before .before .prepend in
+    let done = c .before .before .before .before .before .before .insert-whole in
     (edited-yes (seen-taken (a .source .now) (a .chunks .now) (a .pieces .now) (a .store .now) (used .given .0 .0) (used .given .1) (taken .ensures)) (done .ensures .ran), refl)
 
 pub magic-string-prepend-spec : {M : Type 1} → statement M
@@ -63,7 +63,7 @@ magic-string-prepend-spec =
     same-length-2
     same-length-3
     returns
-    prepend-requires
+    insert-whole-requires
     same-length-4
     same-length-5
     same-length-6

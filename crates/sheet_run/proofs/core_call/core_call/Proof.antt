@@ -1,4 +1,4 @@
-use Rattle.sheet_run.proofs.CallOf.{leaves-as, of-remove, of-update, of-reset, of-append-left, of-append-right, of-prepend-left, of-prepend-right, of-relocate}
+use Rattle.sheet_run.proofs.CallOf.{leaves-as, of-remove, of-update, of-reset, of-relocate, of-insert}
 use borrow.Author.Needs.{needs}
 use Rattle.sheet_run.proofs.core_call.core_call.Statement.{statement}
 use Rattle.sheet_run.proofs.core_call.core_call.Tie as tie
@@ -12,20 +12,17 @@ update-with-requires c κs = search needs
 reset-requires : tie.Need-reset-requires
 reset-requires c κs = search needs
 
-append-left-requires : tie.Need-append-left-requires
-append-left-requires c κs = search needs
-
-append-right-requires : tie.Need-append-right-requires
-append-right-requires c κs = search needs
-
-prepend-left-requires : tie.Need-prepend-left-requires
-prepend-left-requires c κs = search needs
-
-prepend-right-requires : tie.Need-prepend-right-requires
-prepend-right-requires c κs = search needs
-
 relocate-requires : tie.Need-relocate-requires
 relocate-requires c κs = search needs
+
+inserts-left-requires : tie.Need-inserts-left-requires
+inserts-left-requires c κs = search needs
+
+inserts-front-requires : tie.Need-inserts-front-requires
+inserts-front-requires c κs = search needs
+
+insert-requires : tie.Need-insert-requires
+insert-requires c κs = search needs
 
 same-length : tie.Need-same-length
 same-length c = search needs
@@ -84,8 +81,8 @@ same-length-12 c = search needs
 returns-4 : tie.Need-returns-4
 returns-4 c =
     let a = c .before .before .before .before .before .before .before .before .before .before .before .before .before .before .before .before .args in
-    leaves-as (of-append-left (a .a) (a .b) (a .c) (a .text .now) (a .kind) (c .before .before .before .before .before .before .before .before .before .before .match .keys4))
-    (c .before .before .before .before .before .before .append-left .ensures)
+    leaves-as (of-relocate (a .a) (a .b) (a .c) (a .text .now) (a .kind) (c .before .before .before .before .before .before .before .before .before .before .match .keys4))
+    (c .before .before .before .before .before .before .relocate .ensures)
 
 same-length-13 : tie.Need-same-length-13
 same-length-13 c = search needs
@@ -98,54 +95,11 @@ same-length-15 c = search needs
 
 returns-5 : tie.Need-returns-5
 returns-5 c =
-    let a = c .before .before .before .before .before .before .before .before .before .before .before .before .before .before .before .before .args in
-    leaves-as (of-append-right (a .a) (a .b) (a .c) (a .text .now) (a .kind) (c .before .before .before .before .before .before .before .before .before .before .match .keys5))
-    (c .before .before .before .before .before .before .append-right .ensures)
-
-same-length-16 : tie.Need-same-length-16
-same-length-16 c = search needs
-
-same-length-17 : tie.Need-same-length-17
-same-length-17 c = search needs
-
-same-length-18 : tie.Need-same-length-18
-same-length-18 c = search needs
-
-returns-6 : tie.Need-returns-6
-returns-6 c =
-    let a = c .before .before .before .before .before .before .before .before .before .before .before .before .before .before .before .before .args in
-    leaves-as (of-prepend-left (a .a) (a .b) (a .c) (a .text .now) (a .kind) (c .before .before .before .before .before .before .before .before .before .before .match .keys6))
-    (c .before .before .before .before .before .before .prepend-left .ensures)
-
-same-length-19 : tie.Need-same-length-19
-same-length-19 c = search needs
-
-same-length-20 : tie.Need-same-length-20
-same-length-20 c = search needs
-
-same-length-21 : tie.Need-same-length-21
-same-length-21 c = search needs
-
-returns-7 : tie.Need-returns-7
-returns-7 c =
-    let a = c .before .before .before .before .before .before .before .before .before .before .before .before .before .before .before .before .args in
-    leaves-as (of-prepend-right (a .a) (a .b) (a .c) (a .text .now) (a .kind) (c .before .before .before .before .before .before .before .before .before .before .match .keys7))
-    (c .before .before .before .before .before .before .prepend-right .ensures)
-
-same-length-22 : tie.Need-same-length-22
-same-length-22 c = search needs
-
-same-length-23 : tie.Need-same-length-23
-same-length-23 c = search needs
-
-same-length-24 : tie.Need-same-length-24
-same-length-24 c = search needs
-
-returns-8 : tie.Need-returns-8
-returns-8 c =
-    let a = c .before .before .before .before .before .before .before .before .before .before .before .before .before .before .before .before .args in
-    leaves-as (of-relocate (a .a) (a .b) (a .c) (a .text .now) (a .kind) (c .before .before .before .before .before .before .before .before .before .before .match .rest))
-    (c .before .before .before .before .before .before .relocate .ensures)
+    let a = c .before .before .before .before .before .before .before .before .before .before .before .before .before .before .before .before .before .before .args in
+    let left = c .before .before .before .before .before .before .before .before .inserts-left .ensures in
+    let front = c .before .before .before .before .before .before .before .inserts-front .ensures in
+    leaves-as (of-insert (a .a) (a .b) (a .c) (a .text .now) (a .kind) left front (c .before .before .before .before .before .before .before .before .before .before .before .before .match .rest))
+    (c .before .before .before .before .before .before .insert .ensures)
 
 pub core-call-spec : {M : Type 1} → statement M
 core-call-spec =
@@ -154,11 +108,10 @@ core-call-spec =
     remove-requires
     update-with-requires
     reset-requires
-    append-left-requires
-    append-right-requires
-    prepend-left-requires
-    prepend-right-requires
     relocate-requires
+    inserts-left-requires
+    inserts-front-requires
+    insert-requires
     same-length
     same-length-2
     same-length-3
@@ -178,16 +131,4 @@ core-call-spec =
     same-length-13
     same-length-14
     same-length-15
-    returns-5
-    same-length-16
-    same-length-17
-    same-length-18
-    returns-6
-    same-length-19
-    same-length-20
-    same-length-21
-    returns-7
-    same-length-22
-    same-length-23
-    same-length-24
-    returns-8)
+    returns-5)
