@@ -1,7 +1,7 @@
 -- Laws of what `Added` in specs/ defines.
 use mathlib.Core.Path.{_≡_, refl, sym, ap, ap₂, _∙_, subst}
 use mathlib.Core.Bool.{Bool, true, false}
-use mathlib.Core.List.{List, [], _∷_, _++_, map, map-append, append-nil}
+use mathlib.Core.List.{List, _∷_, _++_, map, map-append}
 use Prim.Native.Nat.{ℕ, suc, _+_, _*_, _-_, _≤_, _<_}
 use native.Mathlib.Omega.{arith}
 use lib.ListN.{length, take, drop, take-append-drop}
@@ -19,7 +19,7 @@ use Rattle.memory.specs.Layout.{Place, bytesAt, pieceAt, runOf, chunkOf, magicS
 use Rattle.memory.specs.WellFormed.{RunIn, RunsIn, EntryIn, Readable, HoldsEach, Disjoint, among, pieceUses, runUses, listUses, byteUses, times}
 use Rattle.memory_texts.specs.Over.{over}
 use Rattle.model.specs.Insert.{push}
-use Rattle.memory_texts.proofs.Over.{length-over, over-part}
+use Rattle.memory_texts.proofs.Over.{length-over, over-all}
 use Rattle.memory_texts.proofs.Texts.{run-length, run-piece}
 use Rattle.memory.proofs.Desks.{piece-front}
 use Rattle.memory_list.specs.Find.{First}
@@ -42,10 +42,6 @@ below-in : (p s : List ℕ) (row byte : ℕ) (x : Place) → Below p byte row x 
 unfolding RunIn
 below-in p s row byte x b hr hb k g = record { row = omega (arith, b k g .0); text = omega (arith, b k g .1) }
 
--- the text where it was put
-over-text : (s : List ℕ) (byte : ℕ) (text : List ℕ) → byte ≤ length s → bytesAt (over s byte text) (byte, length text) ≡ text
-over-text s byte text h = let z : byte + 0 ≡ byte = omega arith in rw (z, append-nil text) at (over-part s byte [] text [] h)
-
 -- a text put above a byte, and named by a run that is longer above a row
 module _ {outro front : Bool} {text : List ℕ} {row byte : ℕ} {P S t t' P' S' : List ℕ} {i row' : ℕ} (room : TextRoom (side outro (entryAt t i)) text P S row byte)
     (h : RunIn (take (row * 2) P) (take byte S) (side outro (entryAt t i))) (d : TextAdded outro front text row byte t P S t' P' S' i row') where
@@ -66,7 +62,7 @@ module _ {outro front : Bool} {text : List ℕ} {row byte : ℕ} {P S t t' P' S'
       ∙ run-front (take (row * 2) P) (take byte S) (drop (row * 2) P) (text ++ drop (byte + length text) S) x h
 
   new-text : bytesAt S' (byte, length text) ≡ text
-  new-text = ap (λ (l : List ℕ). bytesAt l (byte, length text)) (d .store-is) ∙ over-text S byte text (omega (arith, room .bytes-in))
+  new-text = ap (λ (l : List ℕ). bytesAt l (byte, length text)) (d .store-is) ∙ over-all S byte text (omega (arith, room .bytes-in))
 
   old-end : (k : ℕ) → k < x .1 → pieceAt P (x .0 + k) .0 + pieceAt P (x .0 + k) .1 ≤ byte + length text
   unfolding RunIn

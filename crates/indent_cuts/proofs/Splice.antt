@@ -1,6 +1,6 @@
 -- Laws of what `Splice` in specs/ defines.
 use mathlib.Core.Path.{_≡_, refl, sym, ap, ap₂, _∙_, subst}
-use mathlib.Core.Bool.{true, false}
+use mathlib.Core.Bool.{Bool, true, false}
 use mathlib.Core.List.{List, [], _∷_, _++_, map, append-assoc, map-append}
 use Prim.Native.Nat.{ℕ, suc, _+_, _*_, _≤_, _<_}
 use native.Mathlib.Omega.{arith}
@@ -12,7 +12,8 @@ use Rattle.memory_table.specs.Table.{rowAt, Put}
 use Rattle.memory_table.specs.Order.{Entry, entryOf, entryAt, order, countOf, Linked}
 use Rattle.memory_table.specs.Sides.{side, with-side}
 use Rattle.memory_table.proofs.Order.{inside-at, others, ranges}
-use Rattle.memory.specs.Layout.{Place}
+use Rattle.memory.specs.Layout.{Place, bytesAt, runOf}
+use Rattle.model.specs.Insert.{push}
 use Rattle.memory_list.specs.Insert.{Placed, runsOf}
 use Rattle.memory_list.specs.Split.{first, RowSet, SplitRow}
 use Rattle.memory_list.proofs.Split.{row-set}
@@ -100,15 +101,15 @@ cut-part {t} {t1} {t2} {i} {n} {q} {run} l w en d m r k =
 
 -- ---- the indentor in front of an intro, by the insertion's step on a row
 
-module _ {y : Place} {top : ℕ} {t p t' p' : List ℕ} {i above : ℕ} (d : RowAdded false true y top t p t' p' i above) where
+module _ {front : Bool} {y : Place} {top : ℕ} {t p t' p' : List ℕ} {i above : ℕ} (d : RowAdded false front y top t p t' p' i above) where
   pub begun-set : Linked t → Placed t i → length t' ≡ length t → RowSet t t' i (withIntro (d .first, suc (entryAt t i .intro .1)) (entryAt t i))
   begun-set l w m = row-set t t' i (with-side false (d .first, suc (entryAt t i .intro .1)) (rowAt t i)) l w (d .put) refl refl m
 
-  pub begun : Begun y (entryAt t i .intro) top p p' (d .first, suc (entryAt t i .intro .1)) above
-  begun =
+  pub begun : front ≡ true → Begun y (entryAt t i .intro) top p p' (d .first, suc (entryAt t i .intro .1)) above
+  begun f =
       record {
         rows = longer-kept (d .longer);
-        texts = longer-texts (d .longer);
+        texts = λ s. longer-texts (d .longer) s ∙ ap (λ (v : Bool). push v (bytesAt s y) (runOf p s (entryAt t i .intro))) f;
         low = λ byte h b. rw (d .above-is) (longer-below (d .longer) byte h (λ k g. b k g .1));
         up = omega (arith, d .longer .from, d .above-is);
       }
@@ -138,7 +139,7 @@ module _ {t t1 : List ℕ} {i n q : ℕ} (l : Linked t) (w : Placed t i) (en : n
         run = (r .first, suc (entryAt t1 n .intro .1));
         part = cut-part l w en d m (begun-set r (d .linked) new-placed k) k;
         begun = subst (λ (a : ℕ). Begun y (0, 0) top p p' (r .first, suc (entryAt t1 n .intro .1)) a) e
-            (subst (λ (x : Place). Begun y x top p p' (r .first, suc (entryAt t1 n .intro .1)) above) no-intro (begun r));
+            (subst (λ (x : Place). Begun y x top p p' (r .first, suc (entryAt t1 n .intro .1)) above) no-intro (begun r refl));
       }
 
 -- ---- cuts one after another: the parts ds are done, row cur is the last part

@@ -15,7 +15,7 @@ use Rattle.model.specs.Indent.{indent-pieces}
 use Rattle.model.proofs.Lists.{clash}
 use Rattle.memory.specs.Layout.{Place, bytesAt, pieceAt, runOf}
 use Rattle.memory_texts.specs.Over.{over}
-use Rattle.memory_texts.proofs.Over.{length-over, take-over, over-part}
+use Rattle.memory_texts.proofs.Over.{length-over, take-over, over-all}
 use Rattle.memory_texts.specs.Carry.{Carried, RoomOf}
 use Rattle.memory_texts.proofs.Carry.{carried-rows, carried-bytes, carried-run, carried-below, kept-piece}
 use Rattle.memory_list.proofs.Split.{desk-set}
@@ -87,10 +87,6 @@ module _ (outro : Bool) (indentor : Text) (mark : Bool) (pieces store t p s : Li
 
 -- ---- the indentor
 
--- a text where it was put
-over-text : (s : List ℕ) (byte : ℕ) (text : List ℕ) → byte ≤ length s → bytesAt (over s byte text) (byte, length text) ≡ text
-over-text s byte text h = let z : byte + 0 ≡ byte = omega arith in rw (z, append-nil text) at (over-part s byte [] text [] h)
-
 module _ {indentor s : List ℕ} {byte laid : ℕ} (w : LayReady indentor s byte laid) where
   pub laid-before : (laid ≡ 0 → ⊥) → Laid indentor s byte s true byte laid
   laid-before n =
@@ -116,7 +112,7 @@ module _ {indentor s : List ℕ} {byte laid : ℕ} (w : LayReady indentor s byte
               bytes = record { len = len; bytes = ap (take byte) x ∙ take-over s byte indentor (w .byte-in) };
               byte-up = omega arith;
               byte-in = omega (arith, w .byte-in);
-              at = record { text = ap (λ (y : List ℕ). bytesAt y (byte, length indentor)) x ∙ over-text s byte indentor (w .byte-in); low = omega arith };
+              at = record { text = ap (λ (y : List ℕ). bytesAt y (byte, length indentor)) x ∙ over-all s byte indentor (w .byte-in); low = omega arith };
               bytes-used = omega arith;
             };
         short = λ k. clash refl k;

@@ -28,7 +28,7 @@ module _ {exclude source t p : List ℕ} {i start x end top : ℕ} (h : SourceRe
   pub own-room : TopRoom (side false (entryAt t i)) p top
   own-room = record { under = λ g. omega (arith, h .under (entryAt t i .intro .1 - 1) (omega arith)); rows-in = omega (arith, h .piece-rows) }
 
-  module _ (e : x ≡ start) {y : Place} {t1 p1 : List ℕ} {above : ℕ} (d : RowAdded false true y top t p t1 p1 i above) (m : length t1 ≡ length t) where
+  module _ (e : x ≡ start) {front : Bool} {y : Place} {t1 p1 : List ℕ} {above : ℕ} (d : RowAdded false front y top t p t1 p1 i above) (m : length t1 ≡ length t) where
     set : RowSet t t1 i (withIntro (d .first, suc (entryAt t i .intro .1)) (entryAt t i))
     set = begun-set d (h .linked) (h .placed) m
 
@@ -49,9 +49,9 @@ module _ {exclude source t p : List ℕ} {i start x end top : ℕ} (h : SourceRe
           narrow-pieces = omega (arith, h .narrow-pieces, d .longer .length-is);
         }
 
-    own-parts : {l t2 p2 : List ℕ} {top2 : ℕ} → Parts 0 t1 p1 i above y l t2 p2 top2 → Parts (entryAt t i .intro .1 + 1) t p i top y (x ∷ l) t2 p2 top2
-    own-parts {l} {t2} {p2} {top2} k =
-        let b = begun d in
+    own-parts : front ≡ true → {l t2 p2 : List ℕ} {top2 : ℕ} → Parts 0 t1 p1 i above y l t2 p2 top2 → Parts (entryAt t i .intro .1 + 1) t p i top y (x ∷ l) t2 p2 top2
+    own-parts f {l} {t2} {p2} {top2} k =
+        let b = begun d f in
         record {
           es = k .es;
           spliced = set-then set m (k .spliced);
@@ -65,12 +65,12 @@ module _ {exclude source t p : List ℕ} {i start x end top : ℕ} (h : SourceRe
               ∙ sym (split-lines-at-start (bytesAt s y) (chunkOf p s (entryAt t i)) x l (omega (arith, h .at-start)));
         }
 
-    pub own-done : {w : Starts} {t2 p2 : List ℕ} {number : ℕ} {mark : Bool} {top2 : ℕ} → PartsDone 0 t1 p1 i above y w t2 p2 number mark top2
+    pub own-done : front ≡ true → {w : Starts} {t2 p2 : List ℕ} {number : ℕ} {mark : Bool} {top2 : ℕ} → PartsDone 0 t1 p1 i above y w t2 p2 number mark top2
         → PartsDone (entryAt t i .intro .1 + 1) t p i top y (then-start x w) t2 p2 number mark top2
-    own-done {w} k =
+    own-done f {w} k =
         record {
           zero-or = k .zero-or;
-          done = λ z. own-parts (k .done z);
+          done = λ z. own-parts f (k .done z);
           mark-is = k .mark-is;
           past = λ z. omega (
             arith,

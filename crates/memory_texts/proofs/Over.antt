@@ -47,6 +47,10 @@ over-part d a xs ys zs h =
     let e : take a d ++ (xs ++ (ys ++ zs) ++ r) ≡ (take a d ++ xs) ++ (ys ++ (zs ++ r)) = simp append-assoc in
     rw (e, drop-at (take a d ++ xs) (ys ++ (zs ++ r)) (a + length xs) l) (take-at ys (zs ++ r) (length ys) refl)
 
+-- all of it
+pub over-all : (d : List ℕ) (a : ℕ) (xs : List ℕ) → a ≤ length d → take (length xs) (drop a (over d a xs)) ≡ xs
+over-all d a xs h = let z : a + 0 ≡ a = omega arith in rw (z, append-nil xs) at (over-part d a [] xs [] h)
+
 -- a part of what stands before b
 take-drop-take : (n a b : ℕ) (l : List ℕ) → a + n ≤ b → take n (drop a (take b l)) ≡ take n (drop a l)
 take-drop-take n zero b l h = take-take n b l (omega arith)

@@ -1,3 +1,4 @@
+use mathlib.Core.Path.{refl}
 use mathlib.Core.Bool.{false}
 use Prim.Native.Nat.{_+_}
 use Rattle.indent_cuts.specs.Lines.{linesFrom}
@@ -37,7 +38,7 @@ returns c =
     let if1 = c .before .before .before .before .before .before .before .before .before .before .before .before .before .before .if1 in
     let add-row = c .before .before .before .before .before .before .before .before .before .before .before .add-row in
     let a = start .args in
-    own-done (start .pre) (if1 .taken) (add-row .ensures) (add-row .kept .0) {w = linesFrom (a .exclude .now) (a .source .now) false (a .x + 1) (a .end)}
+    own-done (start .pre) (if1 .taken) (add-row .ensures) (add-row .kept .0) refl {w = linesFrom (a .exclude .now) (a .source .now) false (a .x + 1) (a .end)}
     (c .before .before .before .before .cut-lines .ensures)
 
 cut-lines-requires-2 : tie.Need-cut-lines-requires-2
