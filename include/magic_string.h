@@ -342,7 +342,9 @@ magic_string_answer magic_string_len(MAGIC_STRING_READ);
  * Numbers: 2. */
 magic_string_answer magic_string_len_utf16(MAGIC_STRING_READ);
 
-/* Value: one more than the line feeds of the output.
+/* Value: the line feeds of the output, and one more if the output is not empty
+ * and does not end in a line feed. So an empty output has 0 lines. A carriage
+ * return is a byte like any other.
  * Numbers: 2. */
 magic_string_answer magic_string_line_count(MAGIC_STRING_READ);
 

@@ -48,6 +48,20 @@ static void reported(const char *call, magic_string_answer answer) {
          (unsigned)answer.value);
 }
 
+/* The lines of what is appended piece by piece on an empty source. */
+static void lines(void) {
+  static const char *const texts[][2] = {
+      {"line_count of \"\"", ""},
+      {"line_count of \"a\\n\\r\"", "a\n\r"},
+      {"line_count of \"a\\n\\r\\n\"", "\n"},
+      {"the same, empty piece last", ""}};
+  magic_string_open(source, 0, TABLES);
+  for (size_t i = 0; i < sizeof texts / sizeof *texts; i++) {
+    magic_string_append(source, 0, TABLES, TEXT(texts[i][1]));
+    reported(texts[i][0], magic_string_line_count(source, 0, TABLES));
+  }
+}
+
 static void edits(void) {
   static const uint32_t exclude[2] = {9, 13};
   edit("remove 3,7", magic_string_remove(DESK, 3, 7));
@@ -160,7 +174,9 @@ int main(void) {
   if (!source || !chunks || !pieces || !store || !out)
     return 1;
   memcpy(source, script, source_len);
+  lines();
   edit("open", magic_string_open(DESK));
+  reported("line_count", magic_string_line_count(DESK));
   edits();
   reports();
   refusals();

@@ -140,7 +140,7 @@ pub extern "C" fn magic_string_line_count<'a>(
     ensures { λ r. ⌜ Reported (LineCount) (now (source .entry)) (now (chunks .entry)) (now (pieces .entry)) (now (store .entry)) [] [] (r .number) (r .value) ⌝ }
 {
     if check_well_formed::well_formed(source, chunks, pieces, store) {
-        return report_output::line_count(source, chunks, pieces, store);
+        return report_line_count::line_count(source, chunks, pieces, store);
     }
     Answer {
         number: numbers::NOT_WELL_FORMED,

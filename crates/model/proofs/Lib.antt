@@ -1,3 +1,4 @@
 pub mod Insert
+pub mod LineCount
 pub mod Lists
 pub mod Spans

@@ -6,7 +6,7 @@ use mathlib.Core.Option.{Option, none, some}
 use lib.Dec.{leb, eqb}
 use lib.ListN.{length}
 use Rattle.utf8.specs.Chars.{chars, concat, code, utf16Width}
-use Rattle.model.specs.Text.{Text, same, is-nil, is-some, back, any, all, sum, trim-white-space, behind-last-line-feed, line-feeds}
+use Rattle.model.specs.Text.{Text, same, is-nil, is-some, back, any, all, sum, trim-white-space, behind-last-line-feed, LF, line-feeds, ends-with}
 use Rattle.model.specs.Chunk.{Span, Chunk, Texts, new-chunk, with-texts, start-of, end-of, contains, is-edited, is-filled, first-half, second-half, content}
 use Rattle.model.specs.Chunk as chunk
 
@@ -84,9 +84,13 @@ is-empty m = all (λ f. is-nil (trim-white-space f)) (chunk-fragments (m .source
 unfoldable pub has-changed : MagicString → Bool
 has-changed m = not (eqb (output-len m) (length (m .source))) || not (same (m .source) (to-string m))
 
--- added by document 01: one more than the line feeds in the output
+-- document 02, L3: the number of line feeds, plus one if the text is non-empty and does not end in one
+abbrev pub line-count-of : Text → ℕ
+line-count-of s = line-feeds s + cond (not (is-nil s) && not (ends-with LF s)) 1 0
+
+-- added by document 01, and by 02's L3 the lines of the output as the handset shows them
 unfoldable pub line-count : MagicString → ℕ
-line-count m = line-feeds (to-string m) + 1
+line-count m = line-count-of (to-string m)
 
 -- `chars().next_back()`
 abbrev pub last-code : Text → Option ℕ

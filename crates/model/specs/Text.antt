@@ -112,3 +112,7 @@ behind-last-line-feed (a ∷ s) =
 abbrev pub line-feeds : Text → ℕ
 line-feeds [] = 0
 line-feeds (a ∷ s) = cond (eqb a LF) 1 0 + line-feeds s
+
+-- `str::ends_with` of one byte
+abbrev pub ends-with : ℕ → Text → Bool
+ends-with b s = elim (back s) [ none ↦ false | some a ↦ eqb a b ]

@@ -1,4 +1,4 @@
--- Laws of the measures: of a text taken character by character, of the empty text, and that each is at most the length.
+-- Laws of the measures: of a text taken character by character, and that each is at most the length.
 use mathlib.Core.Path.{_≡_, refl, ap, sym, _∙_}
 use mathlib.Core.Bool.{Bool, true, false, _&&_, cond}
 use mathlib.Core.List.{List, [], _∷_, _++_, reverse, flatten}
@@ -22,7 +22,7 @@ use Rattle.model.specs.MagicString.{utf16-len}
 use Rattle.model.proofs.Lists.{one-most, all-skip-while, all-reverse, tests-reverse, skip-nil, nil-false, reverse-nil}
 use Rattle.report_measures.specs.Measures.{measureOf, filledOf, unitsOf}
 use Rattle.report_measures.specs.declared.Measure.{Measure}
-use Rattle.report_measures.specs.declared.Measure.the-variants.{Bytes, Utf16, LineFeeds}
+use Rattle.report_measures.specs.declared.Measure.the-variants.{Bytes, Utf16}
 
 -- ---- line feeds
 
@@ -154,15 +154,8 @@ pub filled-is : (s : Text) → utf8 s ≡ true → filledOf s ≡ cond (white s)
 unfolding filledOf
 filled-is s h = ap (λ (b : Bool). cond b 0 1) (trimmed-nil s h)
 
--- ---- of the empty text, and at most the length
-
-pub measure-nil : (m : Measure) → measureOf m [] ≡ 0
-unfolding chars
-measure-nil Bytes = refl
-measure-nil Utf16 = refl
-measure-nil LineFeeds = refl
+-- ---- at most the length
 
 pub measure-le : (m : Measure) (s : Text) → utf8 s ≡ true → measureOf m s ≤ length s
 measure-le Bytes s h = omega arith
 measure-le Utf16 s h = utf16-le s h
-measure-le LineFeeds s h = feeds-le s

@@ -3,10 +3,10 @@ use Prim.Native.Nat.{ℕ}
 use mathlib.Core.Bool.{cond}
 use lib.Dec.{leb, eqb}
 use lib.ListN.{length}
-use Rattle.model.specs.Text.{Text, LF, is-nil, line-feeds, trim-white-space}
+use Rattle.model.specs.Text.{Text, LF, is-nil, trim-white-space}
 use Rattle.model.specs.MagicString.{utf16-len}
 use Rattle.report_measures.specs.declared.Measure.{Measure}
-use Rattle.report_measures.specs.declared.Measure.the-variants.{Bytes, Utf16, LineFeeds}
+use Rattle.report_measures.specs.declared.Measure.the-variants.{Bytes, Utf16}
 
 abbrev pub feedOf : ℕ → ℕ
 feedOf b = cond (eqb b LF) 1 0
@@ -22,4 +22,3 @@ filledOf t = cond (is-nil (trim-white-space t)) 0 1
 abbrev pub measureOf : Measure → Text → ℕ
 measureOf Bytes t = length t
 measureOf Utf16 t = utf16-len t
-measureOf LineFeeds t = line-feeds t

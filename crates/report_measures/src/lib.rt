@@ -9,11 +9,10 @@ ghost use Rattle.model.specs.MagicString.{utf16-len};
 ghost use Rattle.report_measures.specs.Measures.{measureOf, filledOf, unitsOf, feedOf};
 use utf8::Decoded;
 
-// What is counted: bytes, UTF-16 units or line feeds.
+// What a length is counted in: bytes or UTF-16 units.
 pub enum Measure {
     Bytes,
     Utf16,
-    LineFeeds,
 }
 
 // 1 for a line feed, 0 for any other byte.
@@ -100,6 +99,5 @@ pub fn count(m: Measure, t: &[u8]) -> u32
     match m {
         Measure::Bytes => t.len() as u32,
         Measure::Utf16 => utf16_len(t),
-        Measure::LineFeeds => line_feeds(t),
     }
 }

@@ -10,22 +10,21 @@ use Rattle.utf8.specs.Chars.{concat}
 use Rattle.utf8.proofs.CharLaws.{concat-append}
 use Rattle.memory_table.specs.declared.Row.{Row}
 use Rattle.memory_table.specs.Order.{Entry, entryOf, countOf, nextOf}
-use Rattle.model.specs.MagicString.{MagicString, fragments, to-string, len, len-utf16, line-count}
-use Rattle.model.specs.Call.{show, value-of, to-string as ToString, len as Len, len-utf16 as LenUtf16, line-count as LineCount}
+use Rattle.model.specs.MagicString.{MagicString, to-string, len, len-utf16}
+use Rattle.model.specs.Call.{show, value-of, to-string as ToString, len as Len, len-utf16 as LenUtf16}
 use Rattle.memory.specs.Layout.{magicStringOf}
 use Rattle.memory.specs.WellFormed.{WellFormed, EntryIn}
 use Rattle.memory.specs.Calls.{Told}
 use Rattle.memory_texts.specs.Texts.{SpanIn, chunkText}
 use Rattle.memory_texts.proofs.Texts.{concat-nil}
 use Rattle.memory_texts.specs.Over.{Wrote}
-use Rattle.report_measures.specs.declared.Measure.the-variants.{Bytes, Utf16, LineFeeds}
-use Rattle.report_measures.proofs.ByCharacters.{feeds-concat}
+use Rattle.report_measures.specs.declared.Measure.the-variants.{Bytes, Utf16}
 use Rattle.memory_fragments.specs.Sections.{SectionRow, sectionAt, section, sections, fragmentsOf, fragmentsAll, rowNo}
 use Rattle.memory_fragments.proofs.Sections.{sections-drop, sections-end, row-edge, row-first}
-use Rattle.memory_fragments.proofs.Output.{ready, concat-sections, sum-length}
+use Rattle.memory_fragments.proofs.Output.{ready, concat-sections}
 use Rattle.memory_fragments.proofs.Telling.{told-value, told-short, told-text}
 use Rattle.memory_fragments.proofs.Writing.{Writing, writing-none, writing-room, writing-more, writing-done}
-use Rattle.report_totals.specs.Totals.{Whole, OfChunks}
+use Rattle.report_totals.specs.Totals.{OfChunks}
 
 -- ---- what each report tells
 
@@ -38,22 +37,14 @@ module _ (d : MagicString) (n : ℕ) where
   unfolding show len-utf16
   told-len-utf16 h = told-value LenUtf16 d n (ap value-of (sym (h .total)))
 
-  pub told-line-count : Whole LineFeeds d n → Told LineCount d [] [] 0 (n + 1)
-  unfolding show line-count to-string
-  told-line-count h = told-value LineCount d (n + 1) (ap (λ (k : ℕ). value-of (k + 1)) (feeds-concat (fragments d) ∙ sym (h .total)))
-
-module _ (d : MagicString) (n : ℕ) (h : Whole Bytes d n) where
-  pub output-length : n ≡ length (to-string d)
-  unfolding to-string
-  output-length = h .total ∙ sum-length (fragments d)
-
+module _ (d : MagicString) (n : ℕ) (e : n ≡ length (to-string d)) where
   pub told-14 : (out : List ℕ) → length out < n → Told (ToString (length out)) d out out 14 0
   unfolding show
-  told-14 out k = told-short (ToString (length out)) d (length out) (to-string d) out refl (omega (arith, output-length))
+  told-14 out k = told-short (ToString (length out)) d (length out) (to-string d) out refl (omega arith)
 
   pub told-output : (out out' : List ℕ) → n ≤ length out → out' ≡ to-string d ++ drop (length (to-string d)) out → Told (ToString (length out)) d out out' 0 n
   unfolding show
-  told-output out out' k w = told-text (ToString (length out)) d (length out) (to-string d) out out' n refl (omega (arith, output-length)) output-length w
+  told-output out out' k w = told-text (ToString (length out)) d (length out) (to-string d) out out' n refl (omega arith) e w
 
 -- ---- a walk that writes section by section
 

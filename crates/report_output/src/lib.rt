@@ -1,10 +1,10 @@
-// The reports of mod.rs that write or count the output: `to_string`, `len`, `len_utf16`, `line_count`. Each requires a well-formed desk.
+// The reports of mod.rs that write or count the output: `to_string`, `len`, `len_utf16`. Each requires a well-formed desk.
 ghost use mathlib.Core.Path.{_≡_};
 ghost use mathlib.Core.List.{[], _++_};
 ghost use Prim.Native.Nat.{_+_, _≤_, _<_};
 ghost use lib.ListN.{length, drop};
 ghost use Rattle.model.specs.MagicString.{to-string};
-ghost use Rattle.model.specs.Call.{to-string as ToString, len as Len, len-utf16 as LenUtf16, line-count as LineCount};
+ghost use Rattle.model.specs.Call.{to-string as ToString, len as Len, len-utf16 as LenUtf16};
 ghost use Rattle.memory.specs.Layout.{magicStringOf};
 ghost use Rattle.memory.specs.WellFormed.{WellFormed};
 ghost use Rattle.memory.specs.Calls.{Told};
@@ -50,7 +50,7 @@ pub fn to_string<'a>(
     ensures { λ r. ⌜ Told (ToString (length (now (out .entry)))) (magicStringOf (now (source .entry)) (now (chunks .entry)) (now (pieces .entry)) (now (store .entry)))
         (now (out .entry)) (now (out .exit)) (r .number) (r .value) ⌝ }
 {
-    let n = report_totals::output_total(Measure::Bytes, source, chunks, pieces, store);
+    let n = report_totals::output_len(source, chunks, pieces, store);
     if out.len() < n as usize {
         return Answer {
             number: numbers::SHORT_BUFFER,
@@ -80,16 +80,4 @@ pub fn len_utf16<'a>(source: &'a [u8], chunks: &[u32], pieces: &[u32], store: &'
 {
     let value = report_totals::chunks_total(Measure::Utf16, source, chunks, pieces, store);
     Answer { number: 0, value }
-}
-
-// One more than the line feeds in the output.
-pub fn line_count<'a>(source: &'a [u8], chunks: &[u32], pieces: &[u32], store: &'a [u8]) -> Answer
-    requires { ⌜ WellFormed (now source) (now chunks) (now pieces) (now store) ⌝ }
-    ensures { λ r. ⌜ Told LineCount (magicStringOf (now (source .entry)) (now (chunks .entry)) (now (pieces .entry)) (now (store .entry))) [] [] (r .number) (r .value) ⌝ }
-{
-    let n = report_totals::output_total(Measure::LineFeeds, source, chunks, pieces, store);
-    Answer {
-        number: 0,
-        value: n + 1,
-    }
 }

@@ -1,5 +1,5 @@
 -- A walk over a desk's fragments that counts, and the sums it gives.
-use mathlib.Core.Path.{_≡_, ap, sym, _∙_}
+use mathlib.Core.Path.{_≡_, refl, ap, sym, _∙_}
 use mathlib.Core.Logic.{⊎-elim}
 use mathlib.Core.List.{List, [], _∷_, _++_}
 use Prim.Native.Nat.{ℕ, zero, suc, _+_, _≤_, _<_}
@@ -11,43 +11,46 @@ use Rattle.utf8.specs.Chars.{All, nil, cons}
 use Rattle.memory_table.specs.Order.{Entry, entries, countOf, Linked}
 use Rattle.memory_table.proofs.Order.{count-entries}
 use Rattle.model.specs.Text.{Text, sum}
-use Rattle.model.specs.MagicString.{fragments, chunk-fragments}
+use Rattle.model.specs.MagicString.{fragments, chunk-fragments, to-string}
 use Rattle.model.specs.WellFormed.{Valid}
 use Rattle.memory.specs.Layout.{magicStringOf}
 use Rattle.memory.specs.WellFormed.{WellFormed}
 use Rattle.report_measures.specs.declared.Measure.{Measure}
 use Rattle.report_measures.specs.declared.Measure.the-variants.{Bytes}
 use Rattle.report_measures.specs.Measures.{measureOf}
-use Rattle.report_measures.proofs.ByCharacters.{measure-le, measure-nil}
+use Rattle.report_measures.proofs.ByCharacters.{measure-le}
 use Rattle.memory_fragments.specs.Sections.{On, Went, rest, section, sections, fragmentsOf, fragmentsAll, size, tailOf}
 use Rattle.memory_fragments.proofs.Sections.{rest-first, rest-went, rest-cons, rest-end, sections-are}
 use Rattle.memory_fragments.specs.Output.{most-output}
-use Rattle.memory_fragments.proofs.Output.{output-bound, all-append, sum-sections}
+use Rattle.memory_fragments.proofs.Output.{output-bound, all-append, sum-sections, sum-length}
 use Rattle.model.proofs.Lists.{sum-append}
 use Rattle.memory_fragments.proofs.Valid.{output-valid}
-use Rattle.report_totals.specs.Totals.{Whole, OfChunks}
+use Rattle.report_totals.specs.Totals.{OfChunks}
 
 -- ---- how much a sum over the rest is at most
 
-sum-le : (m : Measure) (ts : List Text) → All Valid ts → sum (measureOf m) ts ≤ sum length ts
-sum-le m [] nil = omega arith
-sum-le m (t ∷ ts) (cons h k) = omega (arith, measure-le m t h, sum-le m ts k)
+-- a count that is at most the length of a text
+abbrev pub Bounded : (Text → ℕ) → Type 0
+Bounded f = (t : Text) → Valid t → f t ≤ length t
+
+sum-le : (f : Text → ℕ) → Bounded f → (ts : List Text) → All Valid ts → sum f ts ≤ sum length ts
+sum-le f b [] nil = omega arith
+sum-le f b (t ∷ ts) (cons h k) = omega (arith, b t h, sum-le f b ts k)
 
 sum-drop : (f : Text → ℕ) (i : ℕ) (ts : List Text) → sum f (drop i ts) ≤ sum f ts
 sum-drop f zero ts = omega arith
 sum-drop f (suc i) [] = omega arith
 sum-drop f (suc i) (t ∷ ts) = omega (arith, sum-drop f i ts)
 
-pub rest-bound : (m : Measure) (source t p s : List ℕ) (g item : ℕ) → WellFormed source t p s → sum (measureOf m) (rest source t p s g item) ≤ most-output
+pub rest-bound : (f : Text → ℕ) → Bounded f → (source t p s : List ℕ) (g item : ℕ) → WellFormed source t p s → sum f (rest source t p s g item) ≤ most-output
 unfolding rest
-rest-bound m source t p s g item w =
-    let f = measureOf m in
+rest-bound f b source t p s g item w =
     let all = fragmentsAll source p s (sections t) in
     let front = fragmentsAll source p s (take g (sections t)) in
     let back = fragmentsAll source p s (drop g (sections t)) in
     let e : all ≡ front ++ back = ap (fragmentsAll source p s) (sym (take-append-drop g (sections t))) ∙ all-append source p s (take g (sections t)) (drop g (sections t)) in
     let q : sum f all ≡ sum f front + sum f back = ap (sum f) e ∙ sum-append f front back in
-    omega (arith, sum-drop f item back, sum-le m all (output-valid source t p s w), output-bound source t p s w)
+    omega (arith, sum-drop f item back, sum-le f b all (output-valid source t p s w), output-bound source t p s w)
 
 -- ---- a walk that counts
 
@@ -91,17 +94,21 @@ module _ {f : Text → ℕ} {source t p s : List ℕ} {stop g₀ i₀ g row item
 pub here-short : (source t p s : List ℕ) (g item : ℕ) → WellFormed source t p s → g < countOf t + 2 → item < size (section t g)
     → length (getD (fragmentsOf source p s (section t g)) item []) ≤ most-output
 here-short source t p s g item w h k =
-    omega (arith, rest-bound Bytes source t p s g item w, ap (sum length) (rest-cons source t p s g item h k))
+    omega (arith, rest-bound length (measure-le Bytes) source t p s g item w, ap (sum length) (rest-cons source t p s g item h k))
 
 -- ---- the sums
 
-pub whole-is : (m : Measure) (source t p s : List ℕ) (stop n : ℕ) → WellFormed source t p s
-    → n + sum (measureOf m) (rest source t p s stop 0) ≡ sum (measureOf m) (rest source t p s 0 0) → stop ≡ countOf t + 2 → Whole m (magicStringOf source t p s) n
-whole-is m source t p s stop n w e x =
-    let z : sum (measureOf m) (rest source t p s stop 0) ≡ 0 = ap (sum (measureOf m)) (rest-end source t p s stop 0 (omega arith)) in
-    let a : sum (measureOf m) (rest source t p s 0 0) ≡ sum (measureOf m) (fragments (magicStringOf source t p s)) = ap (sum (measureOf m)) (rest-first source t p s)
-    ∙ sum-sections (measureOf m) (measure-nil m) source t p s (w .readable .linked) in
-    record { total = omega arith; short = omega (arith, rest-bound m source t p s 0 0 w) }
+pub output-sum : (f : Text → ℕ) → f [] ≡ 0 → (source t p s : List ℕ) (stop n : ℕ) → Linked t → stop ≡ countOf t + 2
+    → n + sum f (rest source t p s stop 0) ≡ sum f (rest source t p s 0 0) → n ≡ sum f (fragments (magicStringOf source t p s))
+output-sum f z source t p s stop n l x e =
+    let a : sum f (rest source t p s stop 0) ≡ 0 = ap (sum f) (rest-end source t p s stop 0 (omega arith)) in
+    let b : sum f (rest source t p s 0 0) ≡ sum f (fragments (magicStringOf source t p s)) = ap (sum f) (rest-first source t p s) ∙ sum-sections f z source t p s l in
+    omega arith
+
+pub output-length : (source t p s : List ℕ) (stop n : ℕ) → Linked t → stop ≡ countOf t + 2
+    → n + sum length (rest source t p s stop 0) ≡ sum length (rest source t p s 0 0) → n ≡ length (to-string (magicStringOf source t p s))
+unfolding to-string
+output-length source t p s stop n l x e = output-sum length refl source t p s stop n l x e ∙ sum-length (fragments (magicStringOf source t p s))
 
 pub chunks-sum : (f : Text → ℕ) (source t p s : List ℕ) (stop n : ℕ) → Linked t → stop ≡ countOf t + 1
     → n + sum f (rest source t p s stop 0) ≡ sum f (rest source t p s 1 0) → n ≡ sum f (chunk-fragments (magicStringOf source t p s .source) (magicStringOf source t p s .chunks))

@@ -1,13 +1,15 @@
-// Sums of a measure over a desk's fragments: over the whole output, over the chunks alone.
+// Sums over a desk's fragments: the bytes of the whole output, a measure over the chunks alone.
 ghost use mathlib.Core.Path.{_≡_};
 ghost use Prim.Native.Nat.{_+_, _≤_, _<_};
 ghost use Rattle.memory_table.specs.Order.{countOf};
+ghost use lib.ListN.{length};
 ghost use Rattle.model.specs.Text.{sum};
+ghost use Rattle.model.specs.MagicString.{to-string};
 ghost use Rattle.memory.specs.Layout.{magicStringOf};
 ghost use Rattle.memory.specs.WellFormed.{WellFormed};
 ghost use Rattle.report_measures.specs.Measures.{measureOf};
 ghost use Rattle.memory_fragments.specs.Sections.{On, rest};
-ghost use Rattle.report_totals.specs.Totals.{Whole, OfChunks};
+ghost use Rattle.report_totals.specs.Totals.{OfChunks};
 use memory_fragments::Cursor;
 use report_measures::Measure;
 
@@ -37,16 +39,10 @@ fn total<'a>(
     n
 }
 
-// Over the whole output.
-pub fn output_total<'a>(
-    m: Measure,
-    source: &'a [u8],
-    chunks: &[u32],
-    pieces: &[u32],
-    store: &'a [u8],
-) -> u32
+// `output_len`: the bytes of the whole output.
+pub fn output_len<'a>(source: &'a [u8], chunks: &[u32], pieces: &[u32], store: &'a [u8]) -> u32
     requires { ⌜ WellFormed (now source) (now chunks) (now pieces) (now store) ⌝ }
-    ensures { λ r. ⌜ Whole m (magicStringOf (now (source .entry)) (now (chunks .entry)) (now (pieces .entry)) (now (store .entry))) r ⌝ }
+    ensures { λ r. ⌜ r ≡ length (to-string (magicStringOf (now (source .entry)) (now (chunks .entry)) (now (pieces .entry)) (now (store .entry)))) ⌝ }
 {
     let z = memory_table::get_row(chunks, 0);
     let first = Cursor {
@@ -54,10 +50,18 @@ pub fn output_total<'a>(
         row: 0,
         item: 0,
     };
-    total(m, source, chunks, pieces, store, first, z.start + 2)
+    total(
+        Measure::Bytes,
+        source,
+        chunks,
+        pieces,
+        store,
+        first,
+        z.start + 2,
+    )
 }
 
-// Over the chunks alone, without head and tail.
+// A measure over the chunks alone, without head and tail.
 pub fn chunks_total<'a>(
     m: Measure,
     source: &'a [u8],

@@ -56,9 +56,9 @@ impl RustCall {
       Call::GetIndentString { .. } => see(desk.get_indent_string().len()),
       Call::Len => see(desk.len()),
       Call::LenUtf16 => see(desk.len_utf16()),
-      // Added by document 01: there is no such call in the Rust, so its output
-      // is made and looked through.
-      Call::LineCount => see(desk.to_string().matches('\n').count()),
+      // There is no such call in the Rust (document 02, L3): its output is made and its
+      // lines are counted.
+      Call::LineCount => see(desk.to_string().lines().count()),
       Call::IsEmpty => see(desk.is_empty()),
       Call::HasChanged => see(desk.has_changed()),
       Call::LastChar => see(desk.last_char()),

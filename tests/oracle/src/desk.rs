@@ -170,10 +170,7 @@ fn report(desk: &Desk, call: &Call) -> Result<Answer, u32> {
     Call::GetIndentString { room } => Answer::written(text.get_indent_string().into(), room),
     Call::Len => Answer::value(text.len() as u32),
     Call::LenUtf16 => Answer::value(text.len_utf16() as u32),
-    // Added by document 01: one more than the line feeds in the output.
-    Call::LineCount => {
-      Answer::value(1 + text.to_string().bytes().filter(|&byte| byte == b'\n').count() as u32)
-    }
+    Call::LineCount => Answer::value(line_count(&text.to_string()) as u32),
     Call::IsEmpty => Answer::value(text.is_empty() as u32),
     Call::HasChanged => Answer::value(text.has_changed() as u32),
     Call::LastChar => Answer::value(text.last_char().map_or(u32::MAX, |last| last as u32)),
@@ -183,4 +180,13 @@ fn report(desk: &Desk, call: &Call) -> Result<Answer, u32> {
     Call::Dump => Answer::written(crate::dump::print(&desk.data()).into_bytes(), None),
     _ => unreachable!("{call} is no report"),
   })
+}
+
+/// Document 02, L3, for which the Rust has no call: the line feeds in the output, and
+/// one more if it is not empty and does not end in a line feed. A carriage return is a
+/// byte like any other.
+fn line_count(output: &str) -> usize {
+  let line_feeds = output.bytes().filter(|&byte| byte == b'\n').count();
+  let more = !output.is_empty() && !output.ends_with('\n');
+  line_feeds + more as usize
 }

@@ -2,7 +2,8 @@
 //! Rust's own are on here.
 
 use oracle::{
-  Desk, Limits, SETTINGS, Script, apply, check, generate::generate, keeps, number::*, parse,
+  Answer, Call, Desk, Limits, SETTINGS, Script, apply, check, generate::generate, keeps, number::*,
+  parse,
 };
 
 /// The numbers that the lines of a script get, on a desk with these limits.
@@ -66,9 +67,26 @@ fn moves_of_abc() {
   for place in 0..125 {
     let mut desk = Desk::open(Limits::FULL, b"abc").unwrap();
     let (start, end, to) = (place / 25, place / 5 % 5, place % 5);
-    met[apply(&mut desk, &oracle::Call::Relocate { start, end, to }).number as usize] += 1;
+    met[apply(&mut desk, &Call::Relocate { start, end, to }).number as usize] += 1;
   }
   assert_eq!(met, [34, 0, 0, 0, 50, 0, 0, 0, 35, 0, 6, 0, 0, 0, 0, 0]);
+}
+
+/// Document 02's L3, on every text of up to seven bytes `a`, line feed and carriage
+/// return: the lines are those of `str::lines`.
+#[test]
+fn lines_are_those_of_str() {
+  let mut texts = vec![String::new()];
+  for len in 0..=7 {
+    for text in &texts {
+      let mut desk = Desk::open(Limits::FULL, text.as_bytes()).unwrap();
+      let lines = Answer::value(text.lines().count() as u32);
+      assert_eq!(apply(&mut desk, &Call::LineCount), lines, "{text:?}");
+    }
+    assert_eq!(texts.len(), 3_usize.pow(len));
+    let longer = |text: &String| ["a", "\n", "\r"].map(|last| text.clone() + last);
+    texts = texts.iter().flat_map(longer).collect();
+  }
 }
 
 /// 13 is judged on the desk that would be left, whatever the call's own answer.

@@ -88,7 +88,8 @@ exported! {
     magic_string_len();
     /// The same in UTF-16 units.
     magic_string_len_utf16();
-    /// One more than the line feeds of the output.
+    /// The line feeds of the output, and one more if it is not empty and does not end in
+    /// one.
     magic_string_line_count();
     /// Whether the chunks' output is white space or empty.
     magic_string_is_empty();

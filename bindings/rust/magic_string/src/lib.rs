@@ -30,9 +30,9 @@
 //!   so is an update past the source.
 //! - Trims take the two patterns that string_wizard names. Names and source maps,
 //!   `filename`, `ignore_list`, `replace`, `snip` and the joiner are left out.
-//! - Added: [`MagicString::line_count`], a way to look at what is filed, chunk by
-//!   chunk ([`MagicString::chunks`]), and a whole paper in one call
-//!   ([`MagicString::run_sheet`]).
+//! - Added: [`MagicString::line_count`], which counts lines as [`str::lines`] does; a
+//!   way to look at what is filed, chunk by chunk ([`MagicString::chunks`]); and a whole
+//!   paper in one call ([`MagicString::run_sheet`]).
 //!
 //! Positions are byte offsets into the source.
 

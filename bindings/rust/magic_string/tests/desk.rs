@@ -115,9 +115,42 @@ fn reports() {
   assert_eq!(desk.get_indent_string(), "\t");
 
   let empty = MagicString::default();
-  assert_eq!((empty.len(), empty.is_empty(), empty.has_changed()), (0, true, false));
+  assert_eq!((empty.len(), empty.line_count()), (0, 0));
+  assert_eq!((empty.is_empty(), empty.has_changed()), (true, false));
   assert_eq!((empty.last_char(), empty.last_line()), (None, String::new()));
   assert_eq!(format!("[{:>3}]", MagicString::new("é").unwrap()), "[  é]");
+}
+
+/// Desks whose output is the text alone: in the head, an intro, the source, a
+/// replacement, an outro, and the tail.
+fn alone(text: &str) -> [MagicString; 6] {
+  let source = MagicString::new(text).unwrap();
+  let mut replaced = MagicString::new("ab\n").unwrap();
+  replaced.remove(0, 3).unwrap();
+  let [mut head, mut intro, mut outro, mut tail] = [(); 4].map(|()| replaced.clone());
+  head.prepend(text).unwrap();
+  intro.insert(0, text, Right, Back).unwrap();
+  replaced.update(0, 3, text).unwrap();
+  outro.insert(3, text, Left, Back).unwrap();
+  tail.append(text).unwrap();
+  [head, intro, source, replaced, outro, tail]
+}
+
+/// As `str::lines` counts them, wherever the last byte stands, also with an empty piece
+/// behind it.
+#[test]
+fn lines() {
+  for text in ["", "\n", "a", "a\n", "\r", "a\r", "\r\n", "\n\n", "a\nb"] {
+    for mut desk in alone(text) {
+      for _ in 0..2 {
+        assert_eq!(desk.to_string(), text);
+        assert_eq!(desk.line_count(), text.lines().count(), "{desk:?}");
+        desk.append("").unwrap();
+      }
+      desk.prepend("c\n").unwrap();
+      assert_eq!(desk.line_count(), 1 + text.lines().count(), "{desk:?}");
+    }
+  }
 }
 
 #[test]

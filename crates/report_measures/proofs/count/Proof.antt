@@ -18,20 +18,11 @@ enum-told-2 c = search needs
 utf16-len-requires : tie.Need-utf16-len-requires
 utf16-len-requires c κs = search needs
 
-enum-told-3 : tie.Need-enum-told-3
-enum-told-3 c = search needs
-
-line-feeds-requires : tie.Need-line-feeds-requires
-line-feeds-requires c κs = search needs
-
 returns : tie.Need-returns
 returns c = sym (ap (λ (m : Measure). measureOf m (c .before .before .before .args .t .now)) (c .enum-told .given .1))
 
 returns-2 : tie.Need-returns-2
 returns-2 c = c .utf16-len .ensures ∙ sym (ap (λ (m : Measure). measureOf m (c .before .before .before .before .args .t .now)) (c .before .enum-told2 .given .1))
-
-returns-3 : tie.Need-returns-3
-returns-3 c = c .line-feeds .ensures ∙ sym (ap (λ (m : Measure). measureOf m (c .before .before .before .before .args .t .now)) (c .before .enum-told3 .given .1))
 
 pub count-spec : {M : Type 1} → statement M
 count-spec =
@@ -41,8 +32,5 @@ count-spec =
     cast-result
     enum-told-2
     utf16-len-requires
-    enum-told-3
-    line-feeds-requires
     returns
-    returns-2
-    returns-3)
+    returns-2)

@@ -6,6 +6,7 @@ use lib.ListN.{length}
 use Rattle.utf8.specs.Rfc3629.{utf8}
 use Rattle.memory_table.specs.Order.{countOf}
 use Rattle.report_measures.specs.Measures.{measureOf}
+use Rattle.report_measures.proofs.ByCharacters.{measure-le}
 use Rattle.memory_fragments.specs.Sections.{rest}
 use Rattle.memory_fragments.proofs.Output.{ready}
 use Rattle.memory_fragments.proofs.Valid.{fragment-valid}
@@ -40,7 +41,7 @@ add-n c =
     let s = c .before .before .before .before .before .before .before .before .before in
     let l = c .before .before .before .before .loop in
     let a = s .args in
-    let b = rest-bound (a .m) (a .source .now) (a .chunks .now) (a .pieces .now) (a .store .now) (a .first .section) (a .first .item) (s .pre .0) in
+    let b = rest-bound (measureOf (a .m)) (measure-le (a .m)) (a .source .now) (a .chunks .now) (a .pieces .now) (a .store .now) (a .first .section) (a .first .item) (s .pre .0) in
     let e = counting-here (l .inv) (c .before .before .if1 .taken) (s .pre .1 .1 .2) in
     omega (arith, b, e, l .inv .sum-is, c .count .ensures, ap (measureOf (a .m)) (c .before .fragment .ensures))
 

@@ -1,8 +1,8 @@
 //! `differential SEED COUNT [SECONDS]`: papers whose answers are written down,
 //! then random papers on both sides, at least COUNT calls together, or as many as
-//! are made in SECONDS; and half as many trims and indents of blanks and line
-//! ends. At the first difference it prints the smallest paper that it finds and
-//! fails.
+//! are made in SECONDS; half as many trims and indents of blanks and line ends; and
+//! a tenth as many line counts. At the first difference it prints the smallest
+//! paper that it finds and fails.
 
 use std::{
   process::ExitCode,
@@ -42,7 +42,8 @@ fn main() -> ExitCode {
   println!("papers with written answers: {}", papers::fixed::papers().len());
   let all = random("all calls", papers::paper, &mut core, seed, count, most);
   let blanks = random("blanks and lines", papers::blanks::paper, &mut core, seed, count / 2, most);
-  if all && blanks { ExitCode::SUCCESS } else { ExitCode::FAILURE }
+  let lines = random("line counts", papers::lines::paper, &mut core, seed, count / 10, most);
+  if all && blanks && lines { ExitCode::SUCCESS } else { ExitCode::FAILURE }
 }
 
 /// Whether random papers of one kind show no difference.

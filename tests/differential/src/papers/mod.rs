@@ -5,6 +5,7 @@ mod calls;
 mod cuts;
 pub mod fixed;
 pub mod in_sheet;
+pub mod lines;
 mod positions;
 pub mod sized;
 mod sweep;

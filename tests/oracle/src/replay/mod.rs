@@ -4,6 +4,7 @@
 mod aimed;
 mod damage;
 mod digest;
+mod lines;
 mod record;
 mod sample;
 mod text;
@@ -19,6 +20,8 @@ pub fn file() -> String {
   aimed::papers(&mut writer);
   damage::papers(&mut writer);
   sample::papers(&mut writer);
+  // Last: what the sample takes depends on what is written before it.
+  lines::papers(&mut writer);
   format!("{HEAD}# {} calls\n{}", writer.calls, writer.lines)
 }
 

@@ -135,7 +135,23 @@ impl MagicString {
     reported(self.memory.len_utf16()) as usize
   }
 
-  /// One more than the line feeds of the output.
+  /// The lines of the output, what `to_string().lines().count()` gives: its line feeds,
+  /// and one more if it is not empty and does not end in one. A carriage return is a byte
+  /// like any other.
+  ///
+  /// # Example
+  /// ```
+  /// # use magic_string::MagicString;
+  /// assert_eq!(MagicString::default().line_count(), 0);
+  ///
+  /// let mut s = MagicString::new("a\nb").unwrap();
+  /// assert_eq!(s.line_count(), 2);
+  /// s.append("\n").unwrap();
+  /// assert_eq!(s.line_count(), 2);
+  /// s.append("\r").unwrap();
+  /// assert_eq!(s.line_count(), 3);
+  /// assert_eq!(s.to_string().lines().count(), 3);
+  /// ```
   pub fn line_count(&self) -> usize {
     reported(self.memory.line_count()) as usize
   }

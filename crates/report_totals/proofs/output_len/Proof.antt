@@ -1,12 +1,12 @@
--- `totals::output_total` meets its contract.
+-- `totals::output_len` meets its contract.
 use mathlib.Core.Path.{refl, ap}
 use native.Mathlib.Omega.{arith}
 use Rattle.memory_table.specs.declared.Row.{Row}
 use Rattle.memory_fragments.proofs.Output.{ready}
 use Rattle.memory_fragments.proofs.Sections.{on-first}
-use Rattle.report_totals.proofs.Counting.{whole-is}
-use Rattle.report_totals.proofs.output_total.Statement.{statement}
-use Rattle.report_totals.proofs.output_total.Tie as tie
+use Rattle.report_totals.proofs.Counting.{output-length}
+use Rattle.report_totals.proofs.output_len.Statement.{statement}
+use Rattle.report_totals.proofs.output_len.Tie as tie
 
 get-row-requires : tie.Need-get-row-requires
 get-row-requires c κs = omega (arith, c .before .before .before .before .pre .readable .linked .room)
@@ -25,7 +25,7 @@ returns c =
     let s = c .before .before .before .before .before .before .before in
     let a = s .args in
     let e = ap (λ (r : Row). r .start) (c .before .before .get-row .ensures) in
-    whole-is (a .m) (a .source .now) (a .chunks .now) (a .pieces .now) (a .store .now) _ _ (s .pre) (c .total .ensures) (omega (arith, e))
+    output-length (a .source .now) (a .chunks .now) (a .pieces .now) (a .store .now) _ _ (s .pre .readable .linked) (omega (arith, e)) (c .total .ensures)
 
-pub output-total-spec : {M : Type 1} → statement M
-output-total-spec = tie.close (tie.spec get-row-requires add-total total-requires returns)
+pub output-len-spec : {M : Type 1} → statement M
+output-len-spec = tie.close (tie.spec get-row-requires add-total total-requires returns)
