@@ -131,7 +131,8 @@ enum {
   MAGIC_STRING_BAD_SHEET = 16
 };
 
-/* The value is 0 after a refusal and where nothing is reported. */
+/* The value is what the call reports, and 0 where it reports nothing. A refused
+ * edit reports the cuts that remain (see "edits"), any other refused call 0. */
 typedef struct magic_string_answer {
   uint32_t number;
   uint32_t value;
@@ -160,11 +161,19 @@ magic_string_answer magic_string_open(MAGIC_STRING_DESK);
  * Numbers: 2. Value: 0. */
 magic_string_answer magic_string_well_formed(MAGIC_STRING_READ);
 
-/* ---- edits: the value is 0 ---- */
+/* ---- edits: the value is the number of cuts ---- */
+
+/* A cut at a position makes two chunks of the one that holds it. It makes none
+ * where a chunk ends already, at 0, and at the source's end or past it. Inside
+ * a non-empty replacement it is refused with 6.
+ *
+ * The value counts the cuts that made two chunks and remain, whether the edit
+ * was accepted or refused: it is how many chunks more the desk has. So it is 0
+ * with every number that leaves each byte of the tables as it was. */
 
 /* Removes the bytes from start up to end, and the pieces of their chunks. An
  * end past the source is accepted. Zero width does nothing.
- * Numbers: 2, 3, 4, 6; 13 in place of 0 and 6.
+ * Numbers: 2, 3, 4, 6; 13 in place of 0 and 6. Value: at most 2.
  * After 6: the cut at start stays, if that was made. */
 magic_string_answer magic_string_remove(MAGIC_STRING_DESK, uint32_t start,
                                         uint32_t end);
@@ -172,7 +181,8 @@ magic_string_answer magic_string_remove(MAGIC_STRING_DESK, uint32_t start,
 /* Replaces the bytes from start up to end by the text, which goes to the first
  * chunk of the range. The later ones become empty and lose their pieces; the
  * first one loses its own if overwrite says so.
- * Numbers: 2, 1, 3, 5, 4, 6, 10, 7; 13 in place of 0, 6, 10 and 7.
+ * Numbers: 2, 1, 3, 5, 4, 6, 10, 7; 13 in place of 0, 6, 10 and 7. Value: at
+ * most 2.
  * After 6: the cut at start stays, if that was made. After 10: the same. After
  * 7: both cuts stay, and so do the later chunks that were emptied before the
  * moved edge was met; the first chunk is as it was. */
@@ -183,7 +193,7 @@ magic_string_answer magic_string_update_with(MAGIC_STRING_DESK, uint32_t start,
 
 /* Undoes the edits of the bytes from start up to end: their chunks lose pieces
  * and replacements. Moves stay. Zero width does nothing.
- * Numbers: 2, 3, 4, 10, 6; 13 in place of 0 and 6.
+ * Numbers: 2, 3, 4, 10, 6; 13 in place of 0 and 6. Value: at most 2.
  * After 6: the cut at start stays, if that was made. */
 magic_string_answer magic_string_reset(MAGIC_STRING_DESK, uint32_t start,
                                        uint32_t end);
@@ -194,24 +204,24 @@ magic_string_answer magic_string_reset(MAGIC_STRING_DESK, uint32_t start,
  * intro of the chunk that starts there, or to the tail where none does: past
  * the source, and at its end if it is not empty. With front it is the first
  * piece of that list, without front the last.
- * Numbers: 2, 1, 3, 6; 13 in place of 0. */
+ * Numbers: 2, 1, 3, 6; 13 in place of 0. Value: at most 1. */
 magic_string_answer magic_string_insert(MAGIC_STRING_DESK, uint32_t at,
                                         const uint8_t *text, size_t text_len,
                                         uint32_t left, uint32_t front);
 
 /* Adds a piece at the back of the tail, the end of the output.
- * Numbers: 2, 1; 13 in place of 0. */
+ * Numbers: 2, 1; 13 in place of 0. Value: 0. */
 magic_string_answer magic_string_append(MAGIC_STRING_DESK, const uint8_t *text,
                                         size_t text_len);
 
 /* Adds a piece at the front of the head, the start of the output.
- * Numbers: 2, 1; 13 in place of 0. */
+ * Numbers: 2, 1; 13 in place of 0. Value: 0. */
 magic_string_answer magic_string_prepend(MAGIC_STRING_DESK, const uint8_t *text,
                                          size_t text_len);
 
 /* Moves the bytes from start up to end before the chunk that starts at `to`, or
  * to the end of the list where none does. Zero width does nothing.
- * Numbers: 2, 3, 8, 4, 10, 6, 9; 13 in place of 0, 6 and 9.
+ * Numbers: 2, 3, 8, 4, 10, 6, 9; 13 in place of 0, 6 and 9. Value: at most 3.
  * After 6: the cuts made before it stay, of start, end and to in this order.
  * After 9: all three stay. */
 magic_string_answer magic_string_relocate(MAGIC_STRING_DESK, uint32_t start,
@@ -220,20 +230,20 @@ magic_string_answer magic_string_relocate(MAGIC_STRING_DESK, uint32_t start,
 /* Takes white space (pattern 0) or line ends (pattern 1) off both ends of the
  * output, piece by piece: a piece of which nothing is left goes, and what is
  * left of a chunk's trimmed content is its replacement.
- * Numbers: 2, 15; 13 in place of 0. */
+ * Numbers: 2, 15; 13 in place of 0. Value: 0. */
 magic_string_answer magic_string_trim(MAGIC_STRING_DESK, uint32_t pattern);
 
 /* The same off the start alone. The tail is never touched.
- * Numbers: 2, 15; 13 in place of 0. */
+ * Numbers: 2, 15; 13 in place of 0. Value: 0. */
 magic_string_answer magic_string_trim_start(MAGIC_STRING_DESK,
                                             uint32_t pattern);
 
 /* The same off the end alone. The head is never touched.
- * Numbers: 2, 15; 13 in place of 0. */
+ * Numbers: 2, 15; 13 in place of 0. Value: 0. */
 magic_string_answer magic_string_trim_end(MAGIC_STRING_DESK, uint32_t pattern);
 
 /* trim with pattern 1.
- * Numbers: 2; 13 in place of 0. */
+ * Numbers: 2; 13 in place of 0. Value: 0. */
 magic_string_answer magic_string_trim_lines(MAGIC_STRING_DESK);
 
 /* Puts the indentor in front of each line of the head's pieces, the chunks'
@@ -244,7 +254,8 @@ magic_string_answer magic_string_trim_lines(MAGIC_STRING_DESK);
  * positions, start and end: source characters from start up to end are passed
  * over, and so is a replacement whose chunk starts there. An empty indentor does
  * nothing.
- * Numbers: 2, 15, 1, 3; 13 in place of 0. */
+ * Numbers: 2, 15, 1, 3; 13 in place of 0. Value: one for each line that it
+ * indents and that begins strictly inside a chunk without replacement. */
 magic_string_answer
 magic_string_indent_with(MAGIC_STRING_DESK, uint32_t has_indentor,
                          const uint8_t *indentor, size_t indentor_len,
@@ -286,7 +297,7 @@ magic_string_indent_with(MAGIC_STRING_DESK, uint32_t has_indentor,
  * Numbers: 2 for tables of other lengths, 16 for a sheet that breaks a rule, 13
  * for a source that is too long, 1 for one that is not UTF-8, 14 for fewer
  * bytes of answers than the sheet has records. Value: how many answers were
- * written.
+ * written; the cuts of its calls are not reported.
  * After 0: the tables hold the desk that the calls leave, over the source that
  * stands in the sheet from byte MAGIC_STRING_SHEET_FRONT on. Lend this part of
  * the sheet, without what follows it, as the source to later calls on the desk.

@@ -1,6 +1,6 @@
-/* A paper in C: a script is opened and edits are filed on it, with the running
- * text after each, refusals in words, and the desk chunk by chunk at the end.
- * Then a whole paper in a sheet.
+/* A paper in C: a script is opened and edits are filed on it, with the cuts
+ * that each made and the running text after it, refusals in words, and the desk
+ * chunk by chunk at the end. Then a whole paper in a sheet.
  *
  *   rt staticlib magic_string
  *   gcc -Iinclude examples/c/paper.c target/staticlib/libmagic_string.a -o
@@ -61,14 +61,21 @@ static uint32_t end(const char *text) {
   return start(text) + (uint32_t)strlen(text);
 }
 
-/* Says what a call answered, and shows the running text if it was done. */
-static void file(const char *call, magic_string_answer answer) {
-  printf("%s: %u, %s\n", call, (unsigned)answer.number, words[answer.number]);
+/* Shows the running text if a call was done. */
+static void show(magic_string_answer answer) {
   if (answer.number == 0) {
     uint32_t n = magic_string_to_string(DESK, out, sizeof out).value;
     fwrite(out, 1, n, stdout);
   }
   putchar('\n');
+}
+
+/* Says what an edit answered: its number, in words too, and how many cuts it
+ * made that remain, which a refused edit reports as well. */
+static void file(const char *call, magic_string_answer answer) {
+  printf("%s: %u, %s, cuts: %u\n", call, (unsigned)answer.number,
+         words[answer.number], (unsigned)answer.value);
+  show(answer);
 }
 
 /* Prints bytes between quotes, line feeds as \n. */
@@ -154,7 +161,9 @@ static void sheets(void) {
 }
 
 int main(void) {
-  file("open", magic_string_open(DESK));
+  magic_string_answer opened = magic_string_open(DESK);
+  printf("open: %u, %s\n", (unsigned)opened.number, words[opened.number]);
+  show(opened);
   file("replace north",
        magic_string_update_with(DESK, start("north"), end("north"),
                                 TEXT("north-west"), 0));

@@ -87,6 +87,37 @@ static void edits(void) {
   edit("trim 0", magic_string_trim(DESK, 0));
 }
 
+/* Cuts that remain, after refusals too. */
+static void cuts(void) {
+  static const uint32_t exclude[1] = {0};
+  static char too_long[MAGIC_STRING_STORE_BYTES + 2];
+  memset(too_long, 'x', sizeof too_long - 1);
+  edit("open", magic_string_open(DESK));
+  edit("update_with 4,6 XX",
+       magic_string_update_with(DESK, 4, 6, TEXT("XX"), 0));
+  edit("remove 3,5, cut at 3", magic_string_remove(DESK, 3, 5));
+  edit("remove 3,5, an edge at 3", magic_string_remove(DESK, 3, 5));
+  edit("insert 5", magic_string_insert(DESK, 5, TEXT("Y"), 0, 0));
+  edit("relocate 7,9,5, two cuts", magic_string_relocate(DESK, 7, 9, 5));
+  edit("update_with 8,99, cut at 8",
+       magic_string_update_with(DESK, 8, 99, TEXT(""), 0));
+  edit("reset 1,99", magic_string_reset(DESK, 1, 99));
+  edit("relocate 3,7,9", magic_string_relocate(DESK, 3, 7, 9));
+  edit("relocate 2,10,1, three cuts", magic_string_relocate(DESK, 2, 10, 1));
+  edit("open", magic_string_open(DESK));
+  edit("relocate 3,7,9", magic_string_relocate(DESK, 3, 7, 9));
+  edit("update_with 2,5, two cuts",
+       magic_string_update_with(DESK, 2, 5, TEXT("XX"), 0));
+  edit("insert 8, text too long",
+       magic_string_insert(DESK, 8, TEXT(too_long), 1, 0));
+  edit("open", magic_string_open(DESK));
+  edit("indent_with, line at 9",
+       magic_string_indent_with(DESK, 1, TEXT("|"), exclude, 0));
+  edit("indent_with, an edge there",
+       magic_string_indent_with(DESK, 0, TEXT(""), exclude, 0));
+  edit("trim_lines", magic_string_trim_lines(DESK));
+}
+
 static void reports(void) {
   filled("to_string", magic_string_to_string(DESK, OUT));
   filled("slice 2,3", magic_string_slice(DESK, 2, 1, 3, OUT));
@@ -175,6 +206,7 @@ int main(void) {
     return 1;
   memcpy(source, script, source_len);
   lines();
+  cuts();
   edit("open", magic_string_open(DESK));
   reported("line_count", magic_string_line_count(DESK));
   edits();

@@ -2,13 +2,14 @@
 use Prim.Native.Nat.{ℕ, _≤_}
 use mathlib.Core.Path.{_≡_, refl, sym, ap, _∙_, subst}
 use mathlib.Core.List.{List, map}
+use native.Mathlib.Omega.{arith}
 use lib.ListN.{length}
 use borrow.Author.Tests.{le-leb}
 use Rattle.utf8.specs.Chars.{All, nil, cons}
 use Rattle.model.specs.Text.{Text}
 use Rattle.model.specs.MagicString.{MagicString, Result, to-string}
 use Rattle.model.specs.Limits.{Limits}
-use Rattle.model.specs.Call.{Edit, Report, DeskCall, on-desk, Shown, run, show, perform, after}
+use Rattle.model.specs.Call.{Edit, Report, DeskCall, on-desk, Shown, run, cuts-left, show, perform, after}
 use Rattle.model.specs.Call as call
 use Rattle.memory.proofs.Desks.{full-as, limits-as}
 use Rattle.memory.specs.Calls.{Ran, Told}
@@ -20,8 +21,8 @@ use Rattle.any_order_exported.specs.Claim as claim
 
 -- ── edits ──
 -- what an edit leaves holds a desk again, of the same limits
-next-holds : {e : Edit} {source : List ℕ} {T T₁ : Tables} {number : ℕ} → Holds source T
-    → Ran e source (T .chunks) (T .pieces) (T .store) (T₁ .chunks) (T₁ .pieces) (T₁ .store) number → Holds source T₁
+next-holds : {e : Edit} {source : List ℕ} {T T₁ : Tables} {number value : ℕ} → Holds source T
+    → Ran e source (T .chunks) (T .pieces) (T .store) (T₁ .chunks) (T₁ .pieces) (T₁ .store) number value → Holds source T₁
 next-holds w ran = record { full = full-as (ran .lengths) (w .full); well-formed = ran .well-formed }
 
 pub record Follows (source : List ℕ) (L : List Edit) (T : Tables) (answers : List Answer) (T₁ : Tables) : Type 0 where
@@ -34,7 +35,7 @@ pub follows : {source : List ℕ} {L : List Edit} {T : Tables} {answers : List A
     → Follows source L T answers T₁
 follows runs.EditRun.done w = record { holds = w; same = refl; desk = refl; accepted = λ a. nil }
 follows {source} (runs.EditRun.next {L = L} {T = T} {T₁ = T₁} x r) w =
-    let ran = x .0 .well-formed w in
+    let ran = x .well-formed w in
     let f = follows r (next-holds {T = T} {T₁ = T₁} w ran) in
     let e : limits T₁ ≡ limits T = limits-as (ran .lengths) in
     record {
@@ -47,8 +48,8 @@ follows {source} (runs.EditRun.next {L = L} {T = T} {T₁ = T₁} x r) w =
     }
 
 -- ── later calls ──
-edit-gave : (a : Answer) (r : Result) → a .number ≡ r .number → a .value ≡ call.changed r .shown .value → Gave (runs.seen-edit a) (call.changed r .shown)
-edit-gave a r n v = record { number = n; value = v; buffer = refl }
+edit-gave : (a : Answer) (value : ℕ) (r : Result) → a .number ≡ r .number → a .value ≡ value → Gave (runs.seen-edit a) (call.changed value r .shown)
+edit-gave a value r n v = record { number = n; value = v; buffer = refl }
 
 told-gave : (q : Report) (m : MagicString) (x : Seen) → Told q m (x .before) (x .after) (x .answer .number) (x .answer .value) → Gave x (show q m)
 told-gave q m x d = record { number = d .number-is; value = d .value-is; buffer = d .written }
@@ -62,10 +63,10 @@ pub gives : {source : List ℕ} {calls : List DeskCall} {T : Tables} {seen : Lis
 unfolding perform
 gives runs.LaterRun.done w = claim.AllGave.nil
 gives {source} (runs.LaterRun.changed {e = e} {calls = calls} {T = T} {T₁ = T₁} {a = a} {seen = seen} x r) w =
-    let ran = x .0 .well-formed w in
+    let ran = x .well-formed w in
     let u : limits T₁ ≡ limits T = limits-as (ran .lengths) in
     let rest = gives r (next-holds {T = T} {T₁ = T₁} w ran) in
-    claim.AllGave.cons (edit-gave a (run (limits T) e (deskOf source T)) (ran .number-is) (x .1))
+    claim.AllGave.cons (edit-gave a (cuts-left (limits T) e (deskOf source T)) (run (limits T) e (deskOf source T)) (ran .number-is) (omega (arith, ran .value-is)))
     (subst (AllGave seen) (ap (λ (k : Limits). expected k calls (deskOf source T₁)) u ∙ ap (expected (limits T) calls) (ran .desk-is)) rest)
 gives {source} (runs.LaterRun.reported {q = q} {T = T} {x = y} x r) w = claim.AllGave.cons (told-gave q (deskOf source T) y (x .well-formed w)) (gives r w)
 

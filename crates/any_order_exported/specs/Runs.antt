@@ -1,6 +1,5 @@
 -- Runs of the exported functions, by their contracts: what a caller lends, what it gets back, and what it can see.
 use Prim.Native.Nat.{ℕ}
-use mathlib.Core.Path.{_≡_}
 use mathlib.Core.List.{List, [], _∷_}
 use Rattle.model.specs.MagicString.{MagicString}
 use Rattle.model.specs.Limits.{Limits}
@@ -34,7 +33,7 @@ pub record Answer : Type 0 where
 -- one edit, as the contract of its exported function has it (crates/magic_string/src/exported_edits.rt): on any tables, with its answer, and the tables after
 abbrev pub EditCall : List ℕ → Edit → Tables → Answer → Tables → Type 0
 EditCall source e T a T₁ =
-    Edited e source (T .chunks) (T .pieces) (T .store) (T₁ .chunks) (T₁ .pieces) (T₁ .store) (a .number) × (a .value ≡ 0)
+    Edited e source (T .chunks) (T .pieces) (T .store) (T₁ .chunks) (T₁ .pieces) (T₁ .store) (a .number) (a .value)
 
 -- "An order of L is run from D: each edit gets the desk that the one before it left, and nothing else changes that desk meanwhile": a list of edits, their answers, and the
 -- tables after

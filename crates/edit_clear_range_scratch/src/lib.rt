@@ -24,12 +24,12 @@ fn clear_range_by(
     requires { ⌜ a < b ⌝ }
     requires { ⌜ Marked «text_at» ⌝ }
     ensures { λ o. ⌜ RangeRan a b «text_at» (now (source .entry)) (now (chunks .entry)) (now (pieces .entry)) (now (store .entry))
-        (now (chunks .exit)) (now (pieces .exit)) (now (store .exit)) (o .number)
+        (now (chunks .exit)) (now (pieces .exit)) (now (store .exit)) (o .number) (o .cuts)
         × Above (now (chunks .exit)) (now (pieces .exit)) (now (store .exit)) (o .used) ⌝ }
 {
     edit_scratch::load(chunks, pieces, store, t, p, s);
-    let r = edit_clear_range_steps::clear_range_steps(t, a, b, text_at);
-    edit_room_above::finish(t, p, s, chunks, pieces, store, r)
+    let steps = edit_clear_range_steps::clear_range_steps(t, source.len(), a, b, text_at);
+    edit_room_above::finish(t, p, s, chunks, pieces, store, steps)
 }
 
 // The same with scratch tables of its own.
@@ -46,7 +46,7 @@ pub fn clear_range_scratch(
     requires { ⌜ a < b ⌝ }
     requires { ⌜ Marked «text_at» ⌝ }
     ensures { λ o. ⌜ RangeRan a b «text_at» (now (source .entry)) (now (chunks .entry)) (now (pieces .entry)) (now (store .entry))
-        (now (chunks .exit)) (now (pieces .exit)) (now (store .exit)) (o .number)
+        (now (chunks .exit)) (now (pieces .exit)) (now (store .exit)) (o .number) (o .cuts)
         × Above (now (chunks .exit)) (now (pieces .exit)) (now (store .exit)) (o .used) ⌝ }
 {
     let rows = memory_layout::SCRATCH_LEN;

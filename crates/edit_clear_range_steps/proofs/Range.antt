@@ -68,21 +68,21 @@ module _ (p s : List ℕ) (a b v : ℕ) where
     in-clear (cons {x = e} h k) = cons (in-one e h) (in-clear k)
 
 -- ── the steps ──
-pub range-refused : (a b v : ℕ) (t t' : List ℕ) (r : ℕ) → CutsDone (a ∷ b ∷ []) t t' r → (r ≡ 0 → ⊥) → RangeDone a b v t t' r
+pub range-refused : (a b v : ℕ) (t t' : List ℕ) (r c : ℕ) → CutsDone (a ∷ b ∷ []) t t' r c → (r ≡ 0 → ⊥) → RangeDone a b v t t' r c
 unfolding change-range
-range-refused a b v t t' r d n =
+range-refused a b v t t' r c d n =
     record {
-      leave = λ source p s h c.
-          let k = d .leave source p s h c in
+      leave = λ source p s h sp.
+          let k = d .leave source p s h sp in
           record {
             readable = k .readable;
             result = k .result (λ m. ok (with-chunks m (change-by-position (length (m .chunks)) (cleared-to v) a b (m .chunks))))
                 ∙ stop r (magicStringOf source t' p s) (λ m. ok
                 (with-chunks m (change-by-position (length (m .chunks)) (cleared-to v) a b (m .chunks)))) n;
+            cuts = d .count;
           };
       readable = d .readable;
       number = d .number;
-      count = omega (arith, d .count);
       kept = d .kept;
     }
 
@@ -91,9 +91,9 @@ unfolding ReplacementIn
 marked-in s v (inl h) n = omega arith
 marked-in s v (inr h) n = absurd (n h)
 
-pub range-done : (a b v : ℕ) (t t1 t2 : List ℕ) (r : ℕ) → a < b → Marked v → CutsDone (a ∷ b ∷ []) t t1 r → r ≡ 0 → ClearDone t1 t2 a b v → RangeDone a b v t t2 0
+pub range-done : (a b v : ℕ) (t t1 t2 : List ℕ) (r k : ℕ) → a < b → Marked v → CutsDone (a ∷ b ∷ []) t t1 r k → r ≡ 0 → ClearDone t1 t2 a b v → RangeDone a b v t t2 r k
 unfolding change-range
-range-done a b v t t1 t2 r ab mk d z c =
+range-done a b v t t1 t2 r n ab mk d z c =
     record {
       leave = λ source p s h sp.
           let k = d .leave source p s h sp in
@@ -111,11 +111,12 @@ range-done a b v t t1 t2 r ab mk d z c =
             result =
                 k .result (λ m. ok (with-chunks m (change-by-position (length (m .chunks)) (cleared-to v) a b (m .chunks))))
                 ∙ ap (λ (n : ℕ). and-then (err n m1) (λ m. ok (with-chunks m (change-by-position (length (m .chunks)) (cleared-to v) a b (m .chunks))))) z
-                ∙ ap ok (sym g);
+                ∙ ap ok (sym g)
+                ∙ ap (λ (n : ℕ). err n (magicStringOf source t2 p s)) (sym z);
+            cuts = omega (arith, d .count, ap startF (c .desk));
           };
       readable = λ p s h. cleared-readable p s (d .readable p s h);
-      number = inl refl;
-      count = omega (arith, d .count, ap startF (c .desk));
+      number = inl z;
       kept = kept-then (d .kept) (clear-kept t1 t2 a b v c);
     }
   where
@@ -127,27 +128,27 @@ range-done a b v t t1 t2 r ab mk d z c =
 
 -- ── the call, for either edit ──
 -- which answers may write
-range-writes : {a b v : ℕ} {t t' : List ℕ} {r : ℕ} → RangeDone a b v t t' r → (e : Edit) → idle e ≡ false → may-change e 6 ≡ true → may-write e r ≡ true
+range-writes : {a b v : ℕ} {t t' : List ℕ} {r c : ℕ} → RangeDone a b v t t' r c → (e : Edit) → idle e ≡ false → may-change e 6 ≡ true → may-write e r ≡ true
 range-writes {r = r} x e i j = ⊎-elim {C = may-write e r ≡ true} (λ (z : r ≡ 0). rw z (may-write-0 e i)) (λ (z : r ≡ 6). rw z (may-write-leaving e 5 j)) (x .number)
 
 -- on the lent rows themselves, where there is room for two chunks more
-pub range-in-place : {a b v : ℕ} {source t p s t' : List ℕ} {r : ℕ} → WellFormed source t p s → RangeDone a b v t t' r → length t' ≡ length t
-    → RangeRan a b v source t p s t' p s r
+pub range-in-place : {a b v : ℕ} {source t p s t' : List ℕ} {r c : ℕ} → WellFormed source t p s → RangeDone a b v t t' r c → length t' ≡ length t
+    → RangeRan a b v source t p s t' p s r c
 range-in-place {source = source} {p = p} {s = s} w x len e h q i j =
     let g = x .leave source p s (w .readable) (formed-spans w) in
-    ran-rows w h (record { readable = g .readable; result = q ∙ g .result }) (range-writes x e i j) len (x .kept)
+    ran-rows w h (record { readable = g .readable; result = q ∙ g .result; cuts = g .cuts }) (range-writes x e i j) len (x .kept)
 
 -- the bound of what the desk uses stays
-pub range-above : {a b v : ℕ} {t p s t' : List ℕ} {r : ℕ} {l : Used} → RangeDone a b v t t' r → Above t p s l → Above t' p s l
+pub range-above : {a b v : ℕ} {t p s t' : List ℕ} {r c : ℕ} {l : Used} → RangeDone a b v t t' r c → Above t p s l → Above t' p s l
 range-above x h = above-kept (x .kept) (x .readable _ _ (h .readable)) h
 
 -- on scratch rows
-pub range-ran : {a b v : ℕ} {source t p s t₀ p₀ s₀ t1 p1 s1 t2 t' p' s' : List ℕ} {r r' : ℕ} → WellFormed source t p s → Scratch t₀ p₀ s₀ → Loaded t p s t₀ p₀ s₀ t1 p1 s1
-    → RangeDone a b v t1 t2 r → Finished t2 p1 s1 t p s t' p' s' r r' → RangeRan a b v source t p s t' p' s' r'
+pub range-ran : {a b v : ℕ} {source t p s t₀ p₀ s₀ t1 p1 s1 t2 t' p' s' : List ℕ} {r c r' c' : ℕ} → WellFormed source t p s → Scratch t₀ p₀ s₀ → Loaded t p s t₀ p₀ s₀ t1 p1 s1
+    → RangeDone a b v t1 t2 r c → Finished t2 p1 s1 t p s t' p' s' r c r' c' → RangeRan a b v source t p s t' p' s' r' c'
 range-ran {source = source} {p = p} {s = s} w f d x y e h q i j =
     let g = did-loaded w f d (x .leave source p s (loaded-readable w f d) (loaded-spans w f d)) in
-    ran-finished w h (record { readable = g .readable; result = q ∙ g .result }) (range-writes x e i j) y
+    ran-finished w h (record { readable = g .readable; result = q ∙ g .result; cuts = g .cuts }) (range-writes x e i j) y
 
-pub range-readable : {a b v : ℕ} {source t p s t₀ p₀ s₀ t1 p1 s1 t2 : List ℕ} {r : ℕ} → WellFormed source t p s → Scratch t₀ p₀ s₀ → Loaded t p s t₀ p₀ s₀ t1 p1 s1
-    → RangeDone a b v t1 t2 r → Readable t2 p1 s1
+pub range-readable : {a b v : ℕ} {source t p s t₀ p₀ s₀ t1 p1 s1 t2 : List ℕ} {r c : ℕ} → WellFormed source t p s → Scratch t₀ p₀ s₀ → Loaded t p s t₀ p₀ s₀ t1 p1 s1
+    → RangeDone a b v t1 t2 r c → Readable t2 p1 s1
 range-readable {p = p} {s = s} {t2 = t2} w f d x = with-scratch w f d t2 (x .readable p s (loaded-readable w f d))

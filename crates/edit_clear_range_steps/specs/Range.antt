@@ -4,9 +4,8 @@ use mathlib.Core.Bool.{true, false, cond}
 use mathlib.Core.List.{List, []}
 use mathlib.Core.Option.{none, some}
 use mathlib.Core.Logic.{_⊎_}
-use Prim.Native.Nat.{ℕ, _+_, _≤_}
+use Prim.Native.Nat.{ℕ}
 use lib.Dec.{eqb}
-use Rattle.memory_table.specs.Order.{countOf}
 use Rattle.model.specs.Chunk.{Texts, bare}
 use Rattle.model.specs.Movement.{change-range}
 use Rattle.model.specs.Call.{Edit, steps, refused-before, may-change, idle}
@@ -22,11 +21,10 @@ use Rattle.edit_split_at.specs.Cuts.{Spans}
 abbrev pub cleared-to : ℕ → Texts → Texts
 cleared-to v x = bare (cond (eqb v NONE) none (some []))
 
-pub record RangeDone (a b v : ℕ) (t t' : List ℕ) (r : ℕ) : Type 0 where
-  pub leave : (source p s : List ℕ) → Readable t p s → Spans source t p s → Did (change-range (cleared-to v) a b) source t p s t' p s r
+pub record RangeDone (a b v : ℕ) (t t' : List ℕ) (r c : ℕ) : Type 0 where
+  pub leave : (source p s : List ℕ) → Readable t p s → Spans source t p s → Did (change-range (cleared-to v) a b) source t p s t' p s r c
   pub readable : (p s : List ℕ) → Readable t p s → Readable t' p s
   pub number : (r ≡ 0) ⊎ (r ≡ 6)
-  pub count : countOf t' ≤ countOf t + 2
   pub kept : Kept t t'
 
 -- ── the steps ──
@@ -35,8 +33,8 @@ abbrev pub Marked : ℕ → Type 0
 Marked v = (v ≡ 0) ⊎ (v ≡ NONE)
 
 -- ── the call, for either edit ──
-abbrev pub RangeRan : ℕ → ℕ → ℕ → List ℕ → List ℕ → List ℕ → List ℕ → List ℕ → List ℕ → List ℕ → ℕ → Type 0
-RangeRan a b v source t p s t' p' s' r =
+abbrev pub RangeRan : ℕ → ℕ → ℕ → List ℕ → List ℕ → List ℕ → List ℕ → List ℕ → List ℕ → List ℕ → ℕ → ℕ → Type 0
+RangeRan a b v source t p s t' p' s' r c =
     (e : Edit) → refused-before (magicStringOf source t p s) e ≡ 0
     → steps e (magicStringOf source t p s) ≡ change-range (cleared-to v) a b (magicStringOf source t p s) → idle e ≡ false → may-change e 6 ≡ true
-    → Ran e source t p s t' p' s' r
+    → Ran e source t p s t' p' s' r c

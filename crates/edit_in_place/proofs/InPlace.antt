@@ -26,21 +26,23 @@ pub lent-roomy : {source t p s : List ℕ} (n : ℕ) → WellFormed source t p s
 lent-roomy n w h = record { linked = w .readable .linked; room = h; narrow = omega (arith, w .sized .chunks) }
 
 -- the lent tables are what the steps left
-pub ran-in-place : {e : Edit} {source t p s t' p' s' : List ℕ} {r : ℕ} → WellFormed source t p s → refused-before (magicStringOf source t p s) e ≡ 0
-    → Did (steps e) source t p s t' p' s' r → may-write e r ≡ true → Lengths t p s t' p' s' → HoldsEach t' → Disjoint t' p'
-    → within (limitsOf t p s) (magicStringOf [] t' p' s') ≡ true → Ran e source t p s t' p' s' r
-ran-in-place {t = t} {p} {s} {t'} {p'} {s'} {r} w h d may z each apart k =
-    let f : Finished t' p' s' t p s t' p' s' r r =
+pub ran-in-place : {e : Edit} {source t p s t' p' s' : List ℕ} {r c : ℕ} → WellFormed source t p s → refused-before (magicStringOf source t p s) e ≡ 0
+    → Did (steps e) source t p s t' p' s' r c → may-write e r ≡ true → Lengths t p s t' p' s' → HoldsEach t' → Disjoint t' p'
+    → within (limitsOf t p s) (magicStringOf [] t' p' s') ≡ true → Ran e source t p s t' p' s' r c
+ran-in-place {t = t} {p} {s} {t'} {p'} {s'} {r} {c} w h d may z each apart k =
+    let f : Finished t' p' s' t p s t' p' s' r c r c =
     record {
       lengths = z;
       fits = λ _. (refl, record { readable = d .readable; each = each; disjoint = apart; desk = λ source. refl });
       breaks = λ b. no-tf (sym k ∙ b);
+      cuts = λ _. refl;
+      no-cuts = λ b. no-tf (sym k ∙ b);
     } in
     ran-finished w h d may f
 
 -- the chunk rows alone changed
-pub ran-rows : {e : Edit} {source t p s t' : List ℕ} {r : ℕ} → WellFormed source t p s → refused-before (magicStringOf source t p s) e ≡ 0
-    → Did (steps e) source t p s t' p s r → may-write e r ≡ true → length t' ≡ length t → Kept t t' → Ran e source t p s t' p s r
+pub ran-rows : {e : Edit} {source t p s t' : List ℕ} {r c : ℕ} → WellFormed source t p s → refused-before (magicStringOf source t p s) e ≡ 0
+    → Did (steps e) source t p s t' p s r c → may-write e r ≡ true → length t' ≡ length t → Kept t t' → Ran e source t p s t' p s r c
 ran-rows {source = source} {t} {p} {s} {t'} w h d may len k =
     ran-in-place w h d may (record { chunks = len; pieces = refl; store = refl }) (k .each (w .each)) (kept-apart k p (w .disjoint))
     (kept-within k (limitsOf t p s) source p s (w .desk .limits) (omega (arith, d .readable .linked .room)))

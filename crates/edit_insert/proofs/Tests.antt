@@ -27,23 +27,23 @@ given false text = record { options = refl; its-texts = refl; its-positions = re
 
 module _ {source t p s : List ℕ} (text : List ℕ) (w : WellFormed source t p s) where
   module _ (q : ℕ) (left front : Bool) where
-    pub insert-invalid : utf8 text ≡ false → Ran (insert q text left front) source t p s t p s 1
+    pub insert-invalid : utf8 text ≡ false → Ran (insert q text left front) source t p s t p s 1 0
     insert-invalid h = ran-before (insert q text left front) source t p s 0 1 w (refused-1 (insert q text left front) source t p s refl (rw h)) refl
 
-    pub insert-outside : utf8 text ≡ true → between source q ≡ false → Ran (insert q text left front) source t p s t p s 3
+    pub insert-outside : utf8 text ≡ true → between source q ≡ false → Ran (insert q text left front) source t p s t p s 3 0
     insert-outside h k = ran-before (insert q text left front) source t p s 2 3 w (refused-3 (insert q text left front) source t p s refl (rw h) (rw k)) refl
 
-    pub insert-ran : utf8 text ≡ true → between source q ≡ true → {t' p' s' : List ℕ} {r : ℕ}
-        → InsertRan left front q text source t p s t' p' s' r → Ran (insert q text left front) source t p s t' p' s' r
+    pub insert-ran : utf8 text ≡ true → between source q ≡ true → {t' p' s' : List ℕ} {r c : ℕ}
+        → InsertRan left front q text source t p s t' p' s' r c → Ran (insert q text left front) source t p s t' p' s' r c
     insert-ran h k f = f (insert q text left front) (not-refused (insert q text left front) source t p s refl (rw h) (rw k)) (λ m. refl) refl
 
-  pub addition-invalid : (tail : Bool) → utf8 text ≡ false → Ran (addition tail text) source t p s t p s 1
+  pub addition-invalid : (tail : Bool) → utf8 text ≡ false → Ran (addition tail text) source t p s t p s 1 0
   addition-invalid tail h =
       let g = given tail text in
       ran-before (addition tail text) source t p s 0 1 w (refused-1 (addition tail text) source t p s (g .options) (rw (g .its-texts, h))) refl
 
-  pub addition-ran : (tail : Bool) → utf8 text ≡ true → {t' p' s' : List ℕ} {r : ℕ} → WholeRan tail (not tail) text source t p s t' p' s' r
-      → Ran (addition tail text) source t p s t' p' s' r
+  pub addition-ran : (tail : Bool) → utf8 text ≡ true → {t' p' s' : List ℕ} {r c : ℕ} → WholeRan tail (not tail) text source t p s t' p' s' r c
+      → Ran (addition tail text) source t p s t' p' s' r c
   addition-ran tail h f =
       let e = addition tail text in
       let g = given tail text in

@@ -38,11 +38,13 @@ pub fn insert(
         }
         return Outcome {
             number: numbers::INSIDE_CHARACTER,
+            cuts: 0,
             used,
         };
     }
     Outcome {
         number: numbers::NOT_UTF8,
+        cuts: 0,
         used,
     }
 }
@@ -75,6 +77,7 @@ pub fn insert_whole(
     }
     Outcome {
         number: numbers::NOT_UTF8,
+        cuts: 0,
         used,
     }
 }

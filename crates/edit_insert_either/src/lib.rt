@@ -20,7 +20,7 @@ fn insert_anew(
 ) -> Outcome
     requires { ⌜ Desk (now source) (now chunks) (now pieces) (now store) used ⌝ }
     ensures { λ o. ⌜ InsertRan left front q (now (text .entry)) (now (source .entry)) (now (chunks .entry)) (now (pieces .entry)) (now (store .entry))
-        (now (chunks .exit)) (now (pieces .exit)) (now (store .exit)) (o .number)
+        (now (chunks .exit)) (now (pieces .exit)) (now (store .exit)) (o .number) (o .cuts)
         × Above (now (chunks .exit)) (now (pieces .exit)) (now (store .exit)) (o .used) ⌝ }
 {
     let o = edit_insert_small::insert_small(
@@ -54,7 +54,7 @@ fn whole_anew(
 ) -> Outcome
     requires { ⌜ Desk (now source) (now chunks) (now pieces) (now store) used ⌝ }
     ensures { λ o. ⌜ WholeRan outro front (now (text .entry)) (now (source .entry)) (now (chunks .entry)) (now (pieces .entry)) (now (store .entry))
-        (now (chunks .exit)) (now (pieces .exit)) (now (store .exit)) (o .number)
+        (now (chunks .exit)) (now (pieces .exit)) (now (store .exit)) (o .number) (o .cuts)
         × Above (now (chunks .exit)) (now (pieces .exit)) (now (store .exit)) (o .used) ⌝ }
 {
     let o = edit_insert_small::insert_small(
@@ -89,7 +89,7 @@ pub fn insert_either(
 ) -> Outcome
     requires { ⌜ Desk (now source) (now chunks) (now pieces) (now store) used ⌝ }
     ensures { λ o. ⌜ InsertRan left front q (now (text .entry)) (now (source .entry)) (now (chunks .entry)) (now (pieces .entry)) (now (store .entry))
-        (now (chunks .exit)) (now (pieces .exit)) (now (store .exit)) (o .number)
+        (now (chunks .exit)) (now (pieces .exit)) (now (store .exit)) (o .number) (o .cuts)
         × Above (now (chunks .exit)) (now (pieces .exit)) (now (store .exit)) (o .used) ⌝ }
 {
     let z = memory_table::get_row(chunks, 0);
@@ -129,7 +129,7 @@ pub fn whole_either(
 ) -> Outcome
     requires { ⌜ Desk (now source) (now chunks) (now pieces) (now store) used ⌝ }
     ensures { λ o. ⌜ WholeRan outro front (now (text .entry)) (now (source .entry)) (now (chunks .entry)) (now (pieces .entry)) (now (store .entry))
-        (now (chunks .exit)) (now (pieces .exit)) (now (store .exit)) (o .number)
+        (now (chunks .exit)) (now (pieces .exit)) (now (store .exit)) (o .number) (o .cuts)
         × Above (now (chunks .exit)) (now (pieces .exit)) (now (store .exit)) (o .used) ⌝ }
 {
     if edit_room_above::has_room(used, 0, text.len(), chunks.len(), pieces.len(), store.len()) {

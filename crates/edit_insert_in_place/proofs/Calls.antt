@@ -174,8 +174,8 @@ module _ (left front : Bool) (q : ℕ) (text P S t t' P' S' : List ℕ) (l : Use
       }
 
 -- ── the call ──
-module _ (left front : Bool) (q : ℕ) (text : List ℕ) {source t P S t1 : List ℕ} {l : Used} {r : ℕ} (w : Desk source t P S l)
-    (rm : Room (length t) (length P) (length S) l (countOf t + 1) (length text)) (c : CutsDone (q ∷ []) t t1 r) where
+module _ (left front : Bool) (q : ℕ) (text : List ℕ) {source t P S t1 : List ℕ} {l : Used} {r v : ℕ} (w : Desk source t P S l)
+    (rm : Room (length t) (length P) (length S) l (countOf t + 1) (length text)) (c : CutsDone (q ∷ []) t t1 r v) where
   cut-low : Readable t1 (rowsBelow l P) (bytesBelow l S)
   cut-low = c .readable (rowsBelow l P) (bytesBelow l S) (w .above .readable)
 
@@ -183,20 +183,21 @@ module _ (left front : Bool) (q : ℕ) (text : List ℕ) {source t P S t1 : List
   top-ready = ready-after text w rm cut-low (c .kept)
 
   few : countOf t1 ≤ length t / ROW - 1
-  few = omega (arith, c .count, rm .chunks)
+  few = omega (arith, c .count, c .few, rm .chunks)
 
   leave : CutsLeave (q ∷ []) source t P S t1 r
   leave = c .leave source P S (w .well-formed .readable) (formed-spans (w .well-formed))
 
-  pub top-refused : length t1 ≡ length t → (r ≡ 0 → ⊥) → InsertRan left front q text source t P S t1 P S r × Above t1 P S l
+  pub top-refused : length t1 ≡ length t → (r ≡ 0 → ⊥) → InsertRan left front q text source t P S t1 P S r v × Above t1 P S l
   unfolding by-edge-mut
   top-refused len n = (
     λ e h q' i.
         let z : t1 ≡ t = c .alone refl n in
         let step = insert-step q text left front in
-        subst (λ (u : List ℕ). Ran e source t P S u P S r) (sym z)
-        (ran-same e source t P S r (w .well-formed) h
-        (q' (magicStringOf source t P S) ∙ leave .result step ∙ stop r (magicStringOf source t1 P S) step n ∙ ap (λ (u : List ℕ). err r (magicStringOf source u P S)) z)),
+        let none : v ≡ 0 = omega (arith, c .count, ap countOf z) in
+        subst (λ (u : List ℕ). Ran e source t P S u P S r v) (sym z)
+        (rw none (ran-same e source t P S r (w .well-formed) h
+        (q' (magicStringOf source t P S) ∙ leave .result step ∙ stop r (magicStringOf source t1 P S) step n ∙ ap (λ (u : List ℕ). err r (magicStringOf source u P S)) z))),
     above-kept (c .kept) cut-low (w .above),
   )
 
@@ -211,7 +212,7 @@ module _ (left front : Bool) (q : ℕ) (text : List ℕ) {source t P S t1 : List
     unfolding by-edge-mut
     cut-made = leave .result (insert-step q text left front) ∙ ap (λ (n : ℕ). and-then (err n (magicStringOf source t1 P S)) (insert-step q text left front)) z
 
-    top-inserted : InsertRan left front q text source t P S t' P' S' 0
+    top-inserted : InsertRan left front q text source t P S t' P' S' 0 v
     top-inserted e h q' i =
         ran-in-place (w .well-formed) h
         (record {
@@ -220,6 +221,7 @@ module _ (left front : Bool) (q : ℕ) (text : List ℕ) {source t P S t1 : List
               q' (magicStringOf source t P S) ∙ cut-made
               ∙ ap (insert-step q text left front) (read-below t1 P S (l .row) (l .byte) cut-low source)
               ∙ x .did source .result;
+          cuts = omega (arith, c .count, x .did source .cuts);
         })
         (may-write-0 e i)
         (record { chunks = len ∙ len1; pieces = lp; store = ls })
@@ -230,7 +232,7 @@ module _ (left front : Bool) (q : ℕ) (text : List ℕ) {source t P S t1 : List
     top-above : Above t' P' S' (grown l row' (length text))
     top-above = above-after text w rm cut-low (c .kept) t' P' S' one-more row' (x .low) (x .to) lp ls
 
-    pub top-made : InsertRan left front q text source t P S t' P' S' 0 × Above t' P' S' (grown l row' (length text))
+    pub top-made : InsertRan left front q text source t P S t' P' S' 0 v × Above t' P' S' (grown l row' (length text))
     top-made = (top-inserted, top-above)
 
 -- ── head and tail ──
@@ -241,7 +243,7 @@ module _ (outro front : Bool) (text : List ℕ) {source t P S : List ℕ} {l : U
 
   module _ (t' P' S' : List ℕ) (row' : ℕ) (a : AddedOnTop outro front text (l .row) (l .byte) P S t t' P' S' 0 row') (len : length t' ≡ length t)
       (lp : length P' ≡ length P) (ls : length S' ≡ length S) where
-    did : (source : List ℕ) → Did (λ m. ok (whole-add outro front text m)) source t (rowsBelow l P) (bytesBelow l S) t' P' S' 0
+    did : (source : List ℕ) → Did (λ m. ok (whole-add outro front text m)) source t (rowsBelow l P) (bytesBelow l S) t' P' S' 0 0
     did = whole-added outro front text (rowsBelow l P) (bytesBelow l S) t t' P' S' (w .above .readable) (a .added) len
 
     whole-one-more : OneMore text (magicStringOf [] t (rowsBelow l P) (bytesBelow l S)) (magicStringOf [] t' P' S')
@@ -249,7 +251,7 @@ module _ (outro front : Bool) (text : List ℕ) {source t P S : List ℕ} {l : U
         let m = magicStringOf [] t (rowsBelow l P) (bytesBelow l S) in
         subst (OneMore text m) (ap (λ (y : Result). y .desk) (did [] .result)) (whole-more (not outro) front text m)
 
-    whole-top-ran : WholeRan outro front text source t P S t' P' S' 0
+    whole-top-ran : WholeRan outro front text source t P S t' P' S' 0 0
     whole-top-ran e h q i =
         let top = whole-on-top outro front text (l .row) (l .byte) P S t t' P' S' row' a (w .above .readable) len (w .above .row) (w .above .byte) in
         ran-in-place (w .well-formed) h
@@ -259,6 +261,7 @@ module _ (outro front : Bool) (text : List ℕ) {source t P S : List ℕ} {l : U
               q (magicStringOf source t P S)
               ∙ ap (λ (m : MagicString). ok (whole-add outro front text m)) (read-below t P S (l .row) (l .byte) (w .above .readable) source)
               ∙ did source .result;
+          cuts = did source .cuts;
         })
         (may-write-0 e i)
         (record { chunks = len; pieces = lp; store = ls })
@@ -273,5 +276,5 @@ module _ (outro front : Bool) (text : List ℕ) {source t P S : List ℕ} {l : U
         (cut outro front text (l .row) (l .byte) P S t t' P' S' 0 row' a (w .above .readable) len (w .above .row) (w .above .byte)) len [] .readable)
         (a .to) lp ls
 
-    pub whole-made : WholeRan outro front text source t P S t' P' S' 0 × Above t' P' S' (grown l row' (length text))
+    pub whole-made : WholeRan outro front text source t P S t' P' S' 0 0 × Above t' P' S' (grown l row' (length text))
     whole-made = (whole-top-ran, whole-top-above)

@@ -62,16 +62,17 @@ fn insert_rows_in_place(
     add_in_place(chunks, pieces, store, text, i, left, front, row, byte)
 }
 
-// The outcome of an insertion that is made: a piece more, a row above all again, and the bytes of the text.
-fn grown(l: Used, row: usize, len: usize) -> Outcome
+// The outcome of an insertion that is made: its cuts, a piece more, a row above all again, and the bytes of the text.
+fn grown(l: Used, row: usize, len: usize, cuts: u32) -> Outcome
     requires { ⌜ l .pieces + 1 < 2 ^ 32 ⌝ }
     requires { ⌜ l .byte + len < 2 ^ 32 ⌝ }
-    ensures { λ o. ⌜ (o .number ≡ 0) × (o .used ≡ grown l row len) ⌝ }
+    ensures { λ o. ⌜ (o .number ≡ 0) × (o .cuts ≡ cuts) × (o .used ≡ grown l row len) ⌝ }
 {
     let pieces = l.pieces + 1;
     let byte = l.byte + len;
     Outcome {
         number: 0,
+        cuts,
         used: Used { pieces, row, byte },
     }
 }
@@ -91,15 +92,19 @@ pub fn insert_in_place(
     requires { ⌜ Desk (now source) (now chunks) (now pieces) (now store) l ⌝ }
     requires { ⌜ Room (length (now chunks)) (length (now pieces)) (length (now store)) l (countOf (now chunks) + 1) (length (now text)) ⌝ }
     ensures { λ o. ⌜ InsertRan left front q (now (text .entry)) (now (source .entry)) (now (chunks .entry)) (now (pieces .entry)) (now (store .entry))
-        (now (chunks .exit)) (now (pieces .exit)) (now (store .exit)) (o .number)
+        (now (chunks .exit)) (now (pieces .exit)) (now (store .exit)) (o .number) (o .cuts)
         × Above (now (chunks .exit)) (now (pieces .exit)) (now (store .exit)) (o .used) ⌝ }
 {
-    let number = edit_split_at::split_at(chunks, q);
-    if number != 0 {
-        return Outcome { number, used: l };
+    let cut = edit_split_at::split_one(chunks, source.len(), q);
+    if cut.number != 0 {
+        return Outcome {
+            number: cut.number,
+            cuts: cut.value,
+            used: l,
+        };
     }
     let row = insert_rows_in_place(chunks, pieces, store, text, q, left, front, l);
-    grown(l, row, text.len())
+    grown(l, row, text.len(), cut.value)
 }
 
 // The piece for the tail or the head: as `insert_in_place`, without a cut.
@@ -116,9 +121,9 @@ pub fn whole_in_place(
     requires { ⌜ Desk (now source) (now chunks) (now pieces) (now store) l ⌝ }
     requires { ⌜ Room (length (now chunks)) (length (now pieces)) (length (now store)) l 0 (length (now text)) ⌝ }
     ensures { λ o. ⌜ WholeRan outro front (now (text .entry)) (now (source .entry)) (now (chunks .entry)) (now (pieces .entry)) (now (store .entry))
-        (now (chunks .exit)) (now (pieces .exit)) (now (store .exit)) (o .number)
+        (now (chunks .exit)) (now (pieces .exit)) (now (store .exit)) (o .number) (o .cuts)
         × Above (now (chunks .exit)) (now (pieces .exit)) (now (store .exit)) (o .used) ⌝ }
 {
     let top = add_in_place(chunks, pieces, store, text, 0, outro, front, l.row, l.byte);
-    grown(l, top, text.len())
+    grown(l, top, text.len(), 0)
 }

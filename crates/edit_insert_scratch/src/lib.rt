@@ -10,6 +10,7 @@ ghost use Rattle.edit_scratch.specs.Tables.{Roomy};
 ghost use Rattle.memory_table.specs.Sides.{side};
 ghost use Rattle.edit_insert_side.specs.Piece.{Spare, PieceAdded, LongScratch};
 ghost use Rattle.edit_insert_side.specs.Calls.{Inserted, InsertSteps, InsertRan, WholeRan};
+use memory::Answer;
 use memory_layout::numbers;
 use memory_list::Found;
 use memory_used::Outcome;
@@ -73,7 +74,7 @@ fn insert_rows(
     add_piece(pieces, store, text, t, p, s, i, left, front);
 }
 
-// The cut, then the piece. 13 where the text alone is longer than the store.
+// The cut over a source of n bytes, then the piece. 13 where the text alone is longer than the store.
 fn insert_steps(
     pieces: &[u32],
     store: &[u8],
@@ -81,25 +82,29 @@ fn insert_steps(
     t: &mut [u32],
     p: &mut [u32],
     s: &mut [u8],
+    n: usize,
     q: u32,
     left: bool,
     front: bool,
-) -> u32
+) -> Answer
     requires { ⌜ Roomy 1 (now t) ⌝ }
     requires { ⌜ Readable (now t) (now pieces) (now store) ⌝ }
     requires { ⌜ DeskSmall (now t) (now pieces) (now store) ⌝ }
     requires { ⌜ Spare (now pieces) (now store) (now p) (now s) ⌝ }
-    ensures { λ r. ⌜ InsertSteps left front q (now (text .entry)) (now (pieces .entry)) (now (store .entry)) (now (t .entry)) (now (t .exit)) (now (p .exit)) (now (s .exit)) r ⌝ }
+    ensures { λ r. ⌜ InsertSteps left front q (now (text .entry)) (now (pieces .entry)) (now (store .entry)) (now (t .entry)) (now (t .exit)) (now (p .exit)) (now (s .exit)) (r .number) (r .value) ⌝ }
 {
-    let r = edit_split_at::split_at(t, q);
-    if r != 0 {
-        return r;
+    let cut = edit_split_at::split_one(t, n, q);
+    if cut.number != 0 {
+        return cut;
     }
     if text.len() > memory_layout::STORE_LEN {
-        return numbers::LIMIT;
+        return Answer {
+            number: numbers::LIMIT,
+            value: 0,
+        };
     }
     insert_rows(pieces, store, text, t, p, s, q, left, front);
-    0
+    cut
 }
 
 // An insertion with scratch tables lent. Where the steps refuse, the lent tables stay as they are.
@@ -119,15 +124,15 @@ fn insert_by(
     requires { ⌜ WellFormed (now source) (now chunks) (now pieces) (now store) ⌝ }
     requires { ⌜ LongScratch (now t) (now p) (now s) ⌝ }
     ensures { λ o. ⌜ InsertRan left front q (now (text .entry)) (now (source .entry)) (now (chunks .entry)) (now (pieces .entry)) (now (store .entry))
-        (now (chunks .exit)) (now (pieces .exit)) (now (store .exit)) (o .number)
+        (now (chunks .exit)) (now (pieces .exit)) (now (store .exit)) (o .number) (o .cuts)
         × Above (now (chunks .exit)) (now (pieces .exit)) (now (store .exit)) (o .used) ⌝ }
 {
     edit_scratch::load(chunks, pieces, store, t, p, s);
-    let r = insert_steps(pieces, store, text, t, p, s, q, left, front);
-    if r != 0 {
-        return edit_room_above::counted(chunks, pieces, store, r);
+    let steps = insert_steps(pieces, store, text, t, p, s, source.len(), q, left, front);
+    if steps.number != 0 {
+        return edit_room_above::counted(chunks, pieces, store, steps);
     }
-    edit_room_above::finish(t, p, s, chunks, pieces, store, 0)
+    edit_room_above::finish(t, p, s, chunks, pieces, store, steps)
 }
 
 // The same with scratch tables of its own.
@@ -143,7 +148,7 @@ pub fn insert_scratch(
 ) -> Outcome
     requires { ⌜ WellFormed (now source) (now chunks) (now pieces) (now store) ⌝ }
     ensures { λ o. ⌜ InsertRan left front q (now (text .entry)) (now (source .entry)) (now (chunks .entry)) (now (pieces .entry)) (now (store .entry))
-        (now (chunks .exit)) (now (pieces .exit)) (now (store .exit)) (o .number)
+        (now (chunks .exit)) (now (pieces .exit)) (now (store .exit)) (o .number) (o .cuts)
         × Above (now (chunks .exit)) (now (pieces .exit)) (now (store .exit)) (o .used) ⌝ }
 {
     let rows = memory_layout::SCRATCH_LEN;
@@ -184,12 +189,16 @@ fn whole_by(
     requires { ⌜ LongScratch (now t) (now p) (now s) ⌝ }
     requires { ⌜ length (now text) ≤ STORE-LEN ⌝ }
     ensures { λ o. ⌜ WholeRan outro front (now (text .entry)) (now (source .entry)) (now (chunks .entry)) (now (pieces .entry)) (now (store .entry))
-        (now (chunks .exit)) (now (pieces .exit)) (now (store .exit)) (o .number)
+        (now (chunks .exit)) (now (pieces .exit)) (now (store .exit)) (o .number) (o .cuts)
         × Above (now (chunks .exit)) (now (pieces .exit)) (now (store .exit)) (o .used) ⌝ }
 {
     edit_scratch::load(chunks, pieces, store, t, p, s);
     add_piece(pieces, store, text, t, p, s, 0, outro, front);
-    edit_room_above::finish(t, p, s, chunks, pieces, store, 0)
+    let steps = Answer {
+        number: 0,
+        value: 0,
+    };
+    edit_room_above::finish(t, p, s, chunks, pieces, store, steps)
 }
 
 // The same with scratch tables of its own. 13 where the text alone is longer than the store.
@@ -204,11 +213,15 @@ pub fn whole_scratch(
 ) -> Outcome
     requires { ⌜ WellFormed (now source) (now chunks) (now pieces) (now store) ⌝ }
     ensures { λ o. ⌜ WholeRan outro front (now (text .entry)) (now (source .entry)) (now (chunks .entry)) (now (pieces .entry)) (now (store .entry))
-        (now (chunks .exit)) (now (pieces .exit)) (now (store .exit)) (o .number)
+        (now (chunks .exit)) (now (pieces .exit)) (now (store .exit)) (o .number) (o .cuts)
         × Above (now (chunks .exit)) (now (pieces .exit)) (now (store .exit)) (o .used) ⌝ }
 {
     if text.len() > memory_layout::STORE_LEN {
-        return edit_room_above::counted(chunks, pieces, store, numbers::LIMIT);
+        let refused = Answer {
+            number: numbers::LIMIT,
+            value: 0,
+        };
+        return edit_room_above::counted(chunks, pieces, store, refused);
     }
     let rows = memory_layout::SCRATCH_LEN;
     let words = memory_layout::INSERT_PIECES_LEN;

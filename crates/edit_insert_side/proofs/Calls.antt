@@ -1,5 +1,5 @@
 -- Laws of what `Calls` in specs/ defines.
-use mathlib.Core.Path.{_≡_, refl, sym, ap, _∙_}
+use mathlib.Core.Path.{_≡_, refl, sym, ap, _∙_, subst}
 use mathlib.Core.Bool.{Bool, true, false, _||_, not, cond}
 use mathlib.Core.List.{List, [], _∷_}
 use mathlib.Core.Option.{Option, none, some}
@@ -8,6 +8,7 @@ use Prim.Native.Nat.{ℕ, _≤_, _<_}
 use native.Mathlib.Omega.{arith}
 use lib.Dec.{leb, eqb}
 use lib.ListN.{length}
+use Rattle.memory_table.specs.Order.{countOf}
 use Rattle.model.specs.Text.{Text, sum, is-some}
 use Rattle.model.specs.Chunk.{Chunk, Texts, with-texts}
 use Rattle.model.specs.MagicString.{MagicString, Result, ok, err, and-then, with-chunks, with-whole, edge, by-edge, by-end, at-edge, holder, refuses-split, split-holder}
@@ -22,7 +23,7 @@ use Rattle.memory.proofs.Desks.{desk-full}
 use Rattle.memory.specs.Calls.{Ran}
 use Rattle.edit_rebuild.specs.Rebuilt.{Finished}
 use Rattle.edit_scratch.specs.Loaded.{Loaded}
-use Rattle.edit_scratch.proofs.Tables.{past-bytes, loaded-desk, ran-finished, ran-same, ran-past-limits, may-write-0}
+use Rattle.edit_scratch.proofs.Tables.{past-bytes, loaded-desk, loaded-count, ran-finished, ran-same, ran-past-limits, may-write-0}
 use Rattle.edit_scratch.specs.Tables.{Did}
 use Rattle.edit_split_at.specs.Lift.{DeskSmall}
 use Rattle.edit_split_at.proofs.Lift.{desk-small}
@@ -74,8 +75,8 @@ cut-refused q m n = go (eqb q 0 || (leb (length (m .source)) q || is-some (by-en
     go false true k h = refl
     go false false k h = absurd (omega (arith, ap (λ (x : Result). x .number) (h ok)))
 
-module _ (left front : Bool) (q : ℕ) (text p s t t1 p1 s1 : List ℕ) (r : ℕ) (h : Readable t p s) (c : CutsDone (q ∷ []) t t1 r) where
-  pub steps-refused : (r ≡ 0 → ⊥) → InsertSteps left front q text p s t t1 p1 s1 r
+module _ (left front : Bool) (q : ℕ) (text p s t t1 p1 s1 : List ℕ) (r v : ℕ) (h : Readable t p s) (c : CutsDone (q ∷ []) t t1 r v) where
+  pub steps-refused : (r ≡ 0 → ⊥) → InsertSteps left front q text p s t t1 p1 s1 r v
   unfolding by-edge-mut
   steps-refused n =
       let six-is = six (c .number) n in
@@ -88,6 +89,7 @@ module _ (left front : Bool) (q : ℕ) (text p s t t1 p1 s1 : List ℕ) (r : ℕ
             (cut-refused q m (magicStringOf source t1 p s) (λ step. k step ∙ ap (λ (y : ℕ). and-then (err y (magicStringOf source t1 p s)) step) six-is));
         long = λ z. absurd (omega (arith, six-is));
         number = inr (inl six-is);
+        no-cuts = λ _. omega (arith, c .count, ap countOf (c .alone refl n));
       }
 
   module _ (z : r ≡ 0) where
@@ -96,7 +98,7 @@ module _ (left front : Bool) (q : ℕ) (text p s t t1 p1 s1 : List ℕ) (r : ℕ
     cut-made source v =
         c .leave source p s h v .result (insert-step q text left front) ∙ ap (λ (n : ℕ). and-then (err n (magicStringOf source t1 p s)) (insert-step q text left front)) z
 
-    pub steps-long : full .most-bytes < length text → InsertSteps left front q text p s t t1 p1 s1 13
+    pub steps-long : full .most-bytes < length text → InsertSteps left front q text p s t t1 p1 s1 13 0
     steps-long l =
         record {
           leave = λ z. absurd (omega arith);
@@ -105,20 +107,22 @@ module _ (left front : Bool) (q : ℕ) (text p s t t1 p1 s1 : List ℕ) (r : ℕ
               ap (λ (x : Result). within full (x .desk)) (cut-made source v)
               ∙ past-bytes (insert-step q text left front (magicStringOf source t1 p s) .desk) (omega (arith, step-big left front q text (magicStringOf source t1 p s)));
           number = inr (inr refl);
+          no-cuts = λ _. refl;
         }
 
-    pub steps-done : (t' p' s' : List ℕ) → Inserted left front q text t1 p s t' p' s' → InsertSteps left front q text p s t t' p' s' 0
+    pub steps-done : (t' p' s' : List ℕ) → Inserted left front q text t1 p s t' p' s' → InsertSteps left front q text p s t t' p' s' r v
     steps-done t' p' s' d =
         record {
-          leave = λ _ source v. record { readable = d source .readable; result = cut-made source v ∙ d source .result };
+          leave = λ _ source sp. record { readable = d source .readable; result = cut-made source sp ∙ d source .result; cuts = omega (arith, c .count, d source .cuts) };
           refused = λ y. absurd (omega arith);
           long = λ y. absurd (omega arith);
-          number = inl refl;
+          number = inl z;
+          no-cuts = λ n. absurd (n z);
         }
 
 -- ── the call ──
-module _ {left front : Bool} {q : ℕ} {text source t p s t₀ p₀ s₀ t1 p1 s1 t2 p2 s2 : List ℕ} {r : ℕ} (w : WellFormed source t p s) (f : LongScratch t₀ p₀ s₀)
-    (d : Loaded t p s t₀ p₀ s₀ t1 p1 s1) (x : InsertSteps left front q text p s t1 t2 p2 s2 r) where
+module _ {left front : Bool} {q : ℕ} {text source t p s t₀ p₀ s₀ t1 p1 s1 t2 p2 s2 : List ℕ} {r c : ℕ} (w : WellFormed source t p s) (f : LongScratch t₀ p₀ s₀)
+    (d : Loaded t p s t₀ p₀ s₀ t1 p1 s1) (x : InsertSteps left front q text p s t1 t2 p2 s2 r c) where
   spans : Spans source t1 p s
   spans = loaded-spans w (f .scratch) d
 
@@ -131,33 +135,38 @@ module _ {left front : Bool} {q : ℕ} {text source t p s t₀ p₀ s₀ t1 p1 s
   loaded-steps e q' = q' (magicStringOf source t p s) ∙ ap (insert q text left front) (sym (loaded-desk w (f .scratch) d))
 
   -- 6 and 13: the lent tables are as they were
-  pub insert-refused : (r ≡ 0 → ⊥) → InsertRan left front q text source t p s t p s r
+  pub insert-refused : (r ≡ 0 → ⊥) → InsertRan left front q text source t p s t p s r c
   insert-refused n e h q' i = go (x .number)
     where
-      go : (r ≡ 0) ⊎ ((r ≡ 6) ⊎ (r ≡ 13)) → Ran e source t p s t p s r
+      go : (r ≡ 0) ⊎ ((r ≡ 6) ⊎ (r ≡ 13)) → Ran e source t p s t p s r c
       go (inl z) = absurd (n z)
-      go (inr (inl z)) = rw z (ran-same e source t p s 6 w h (loaded-steps e q' ∙ x .refused z source spans ∙ ap (err 6) (loaded-desk w (f .scratch) d)))
-      go (inr (inr z)) = rw z (ran-past-limits e source t p s w h (ap (λ (y : Result). within full (y .desk)) (loaded-steps e q') ∙ x .long z source spans))
+      go (inr (inl z)) = rw (z, x .no-cuts n) (ran-same e source t p s 6 w h (loaded-steps e q' ∙ x .refused z source spans ∙ ap (err 6) (loaded-desk w (f .scratch) d)))
+      go (inr (inr z)) = rw (z, x .no-cuts n) (ran-past-limits e source t p s w h (ap (λ (y : Result). within full (y .desk)) (loaded-steps e q') ∙ x .long z source spans))
 
-  pub insert-ran : {t' p' s' : List ℕ} {r' : ℕ} → r ≡ 0 → Finished t2 p2 s2 t p s t' p' s' 0 r' → InsertRan left front q text source t p s t' p' s' r'
-  insert-ran z y e h q' i =
+  pub insert-ran : {t' p' s' : List ℕ} {r' c' : ℕ} → r ≡ 0 → Finished t2 p2 s2 t p s t' p' s' r c r' c' → InsertRan left front q text source t p s t' p' s' r' c'
+  insert-ran {t'} {p'} {s'} {r'} {c'} z y e h q' i =
       let g = x .leave z source spans in
-      ran-finished w h (record { readable = g .readable; result = loaded-steps e q' ∙ g .result }) (may-write-0 e i) y
+      ran-finished w h (record { readable = g .readable; result = loaded-steps e q' ∙ g .result; cuts = omega (arith, g .cuts, loaded-count w (f .scratch) d) }) (may-write-0 e i)
+      (subst (λ (n : ℕ). Finished t2 p2 s2 t p s t' p' s' n c r' c') z y)
 
 -- ── head and tail ──
 module _ (outro front : Bool) (text : List ℕ) {source t p s : List ℕ} (w : WellFormed source t p s) where
-  pub whole-long : full .most-bytes < length text → WholeRan outro front text source t p s t p s 13
+  pub whole-long : full .most-bytes < length text → WholeRan outro front text source t p s t p s 13 0
   whole-long l e h q i =
       let m = magicStringOf source t p s in
       ran-past-limits e source t p s w h (ap (λ (y : Result). within full (y .desk)) (q m) ∙ past-bytes (whole-add outro front text m) (omega (arith, whole-big (not outro) front text m)))
 
-  pub whole-ran : {t₀ p₀ s₀ t1 p1 s1 t2 p2 s2 t' p' s' : List ℕ} {r' : ℕ} → LongScratch t₀ p₀ s₀ → Loaded t p s t₀ p₀ s₀ t1 p1 s1
-      → ((source : List ℕ) → Did (λ m. ok (whole-add outro front text m)) source t1 p s t2 p2 s2 0) → Finished t2 p2 s2 t p s t' p' s' 0 r'
-      → WholeRan outro front text source t p s t' p' s' r'
+  pub whole-ran : {t₀ p₀ s₀ t1 p1 s1 t2 p2 s2 t' p' s' : List ℕ} {r' c' : ℕ} → LongScratch t₀ p₀ s₀ → Loaded t p s t₀ p₀ s₀ t1 p1 s1
+      → ((source : List ℕ) → Did (λ m. ok (whole-add outro front text m)) source t1 p s t2 p2 s2 0 0) → Finished t2 p2 s2 t p s t' p' s' 0 0 r' c'
+      → WholeRan outro front text source t p s t' p' s' r' c'
   whole-ran f d x y e h q i =
       let g = x source in
       ran-finished w h
-      (record { readable = g .readable; result = q (magicStringOf source t p s) ∙ ap (λ (m : MagicString). ok (whole-add outro front text m)) (sym (loaded-desk w (f .scratch) d)) ∙ g .result })
+      (record {
+        readable = g .readable;
+        result = q (magicStringOf source t p s) ∙ ap (λ (m : MagicString). ok (whole-add outro front text m)) (sym (loaded-desk w (f .scratch) d)) ∙ g .result;
+        cuts = omega (arith, g .cuts, loaded-count w (f .scratch) d);
+      })
       (may-write-0 e i) y
 
 -- what the loaded rows and the lent tables give the piece

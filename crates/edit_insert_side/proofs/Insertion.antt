@@ -12,7 +12,7 @@ use Rattle.utf8.proofs.CharLaws.{all-front, all-back}
 use Rattle.memory_table.specs.declared.Row.{Row}
 use Rattle.memory_table.specs.Ring.{Each}
 use Rattle.memory_table.specs.Table.{rowAt, Put}
-use Rattle.memory_table.specs.Order.{Entry, entryOf, entryAt, entries, order, Linked}
+use Rattle.memory_table.specs.Order.{Entry, entryOf, entryAt, entries, order, countOf, Linked}
 use Rattle.memory_table.proofs.Order.{inside-at}
 use Rattle.model.specs.Text.{Text}
 use Rattle.model.specs.Chunk.{Chunk, with-texts}
@@ -137,6 +137,9 @@ module _ (outro front : Bool) (text p s y z t t' : List ℕ) (i : ℕ) (run : Pl
   front-in : All (EntryIn p s) (map (entryAt t) us)
   front-in = all-front (EntryIn p s) (map (entryAt t) us) (entryAt t i ∷ map (entryAt t) bs) old
 
+  same-count : countOf t' ≡ countOf t + 0
+  same-count = omega (arith, set .count)
+
   piece-readable : Readable t' (p ++ y) (s ++ z)
   piece-readable =
       record {
@@ -164,7 +167,7 @@ module _ (outro front : Bool) (text p s y z t t' : List ℕ) (i : ℕ) (run : Pl
 
 -- ── the two ends of the search ──
 pub inserted-found : (left front : Bool) (q : ℕ) (text p s t t' p' s' : List ℕ) (i : ℕ) → Readable t p s → First (meets (key-of left) q) t i
-    → PieceAdded left front text p s t t' p' s' i → length t' ≡ length t → (source : List ℕ) → Did (insert-step q text left front) source t p s t' p' s' 0
+    → PieceAdded left front text p s t t' p' s' i → length t' ≡ length t → (source : List ℕ) → Did (insert-step q text left front) source t p s t' p' s' 0 0
 inserted-found left front q text p s t t' p' s' i h w d len source =
     let l = d .longer in
     let y = l .behind in
@@ -180,10 +183,11 @@ inserted-found left front q text p s t t' p' s' i h w d len source =
       result =
           step-found left front q text m _ (chunkOf p s (entryAt t i)) _ ch (none-keyed left p s q t (w .us) (w .none)) (here-keyed left p s q (entryAt t i) (w .here))
           ∙ ap ok (sym (piece-desk left front text p s y z t t' i (d .run) (w .us) (w .bs) (w .place) h (d .put) len tx ri source));
+      cuts = same-count left front text p s y z t t' i (d .run) (w .us) (w .bs) (w .place) h (d .put) len tx ri;
     })
 
 pub whole-added : (outro front : Bool) (text p s t t' p' s' : List ℕ) → Readable t p s → PieceAdded outro front text p s t t' p' s' 0 → length t' ≡ length t
-    → (source : List ℕ) → Did (λ m. ok (whole-add outro front text m)) source t p s t' p' s' 0
+    → (source : List ℕ) → Did (λ m. ok (whole-add outro front text m)) source t p s t' p' s' 0 0
 whole-added outro front text p s t t' p' s' h d len source =
     let l = d .longer in
     let y = l .behind in
@@ -195,10 +199,11 @@ whole-added outro front text p s t t' p' s' h d len source =
     (record {
       readable = whole-in p s y z front text (d .run) outro t t' ri h k;
       result = ap ok (sym (lift-whole p s y z front text (d .run) outro source t t' tx h k));
+      cuts = omega (arith, k .count);
     })
 
 pub inserted-whole : (left front : Bool) (q : ℕ) (text p s t t' p' s' : List ℕ) → Readable t p s → Each (λ x. meets (key-of left) q (entryAt t x) ≡ false) (order t)
-    → PieceAdded (not left) front text p s t t' p' s' 0 → length t' ≡ length t → (source : List ℕ) → Did (insert-step q text left front) source t p s t' p' s' 0
+    → PieceAdded (not left) front text p s t t' p' s' 0 → length t' ≡ length t → (source : List ℕ) → Did (insert-step q text left front) source t p s t' p' s' 0 0
 inserted-whole left front q text p s t t' p' s' h n d len source =
     let g = whole-added (not left) front text p s t t' p' s' h d len source in
     let m = magicStringOf source t p s in
@@ -207,6 +212,7 @@ inserted-whole left front q text p s t t' p' s' h n d len source =
       result =
           step-whole left front q text m (subst (All (λ c. keyed left q c ≡ false)) (sym (chunks-of source t p s)) (none-keyed left p s q t (order t) n))
           ∙ ap (λ (b : Bool). ok (with-whole b m (push front text))) (sym (not-not left)) ∙ g .result;
+      cuts = g .cuts;
     }
 
 -- ── the run of the row that was found, and of row 0 ──

@@ -9,6 +9,7 @@ ghost use Rattle.memory.specs.WellFormed.{limitsBy, WellFormed};
 ghost use Rattle.memory_used.specs.Above.{Desk};
 ghost use Rattle.edit_small_tables.specs.Small.{Fits, Attempted, Tried};
 ghost use Rattle.edit_insert_small.specs.Adding.{adding};
+use memory::Answer;
 use memory_layout::numbers;
 use memory_used::Outcome;
 use memory_used::Used;
@@ -24,17 +25,23 @@ fn attempt_insert(
     left: bool,
     front: bool,
     l: Used,
-) -> u32
+) -> Answer
     requires { ⌜ Desk (now source) (now t) (now p) (now s) l ⌝ }
     ensures { λ r. ⌜ Attempted (adding false left front q (now (text .entry))) (now (source .entry)) (now (t .entry)) (now (p .entry)) (now (s .entry))
-        (now (t .exit)) (now (p .exit)) (now (s .exit)) r ⌝ }
+        (now (t .exit)) (now (p .exit)) (now (s .exit)) (r .number) (r .value) ⌝ }
 {
     let z = memory_table::get_row(t, 0);
     if edit_room_above::has_room(l, z.start + 1, text.len(), t.len(), p.len(), s.len()) {
         let o = edit_insert_in_place::insert_in_place(source, t, p, s, text, q, left, front, l);
-        return o.number;
+        return Answer {
+            number: o.number,
+            value: o.cuts,
+        };
     }
-    numbers::LIMIT
+    Answer {
+        number: numbers::LIMIT,
+        value: 0,
+    }
 }
 
 // The same for the tail or the head, without a cut.
@@ -47,16 +54,22 @@ fn attempt_whole(
     outro: bool,
     front: bool,
     l: Used,
-) -> u32
+) -> Answer
     requires { ⌜ Desk (now source) (now t) (now p) (now s) l ⌝ }
     ensures { λ r. ⌜ Attempted (adding true outro front 0 (now (text .entry))) (now (source .entry)) (now (t .entry)) (now (p .entry)) (now (s .entry))
-        (now (t .exit)) (now (p .exit)) (now (s .exit)) r ⌝ }
+        (now (t .exit)) (now (p .exit)) (now (s .exit)) (r .number) (r .value) ⌝ }
 {
     if edit_room_above::has_room(l, 0, text.len(), t.len(), p.len(), s.len()) {
         let o = edit_insert_in_place::whole_in_place(source, t, p, s, text, outro, front, l);
-        return o.number;
+        return Answer {
+            number: o.number,
+            value: o.cuts,
+        };
     }
-    numbers::LIMIT
+    Answer {
+        number: numbers::LIMIT,
+        value: 0,
+    }
 }
 
 // The one or the other.
@@ -71,10 +84,10 @@ fn attempt(
     left: bool,
     front: bool,
     l: Used,
-) -> u32
+) -> Answer
     requires { ⌜ Desk (now source) (now t) (now p) (now s) l ⌝ }
     ensures { λ r. ⌜ Attempted (adding whole left front q (now (text .entry))) (now (source .entry)) (now (t .entry)) (now (p .entry)) (now (s .entry))
-        (now (t .exit)) (now (p .exit)) (now (s .exit)) r ⌝ }
+        (now (t .exit)) (now (p .exit)) (now (s .exit)) (r .number) (r .value) ⌝ }
 {
     if whole {
         return attempt_whole(source, t, p, s, text, left, front, l);
@@ -103,8 +116,8 @@ fn insert_by(
         (now (chunks .exit)) (now (pieces .exit)) (now (store .exit)) o ⌝ }
 {
     let l = edit_small_tables::lay(chunks, pieces, store, t, p, s);
-    let r = attempt(source, t, p, s, text, whole, q, left, front, l);
-    edit_small_tables::finish(t, p, s, chunks, pieces, store, r)
+    let edit = attempt(source, t, p, s, text, whole, q, left, front, l);
+    edit_small_tables::finish(t, p, s, chunks, pieces, store, edit)
 }
 
 // The same with small tables of its own.
@@ -175,6 +188,7 @@ pub fn insert_small(
     }
     Outcome {
         number: numbers::LIMIT,
+        cuts: 0,
         used,
     }
 }

@@ -15,8 +15,10 @@ pub record Rebuilt (t p s t' p' s' : List ℕ) : Type 0 where
   pub disjoint : Disjoint t' p'
   pub desk : (source : List ℕ) → magicStringOf source t' p' s' ≡ magicStringOf source t p s
 
--- t p s the scratch tables; t₀ p₀ s₀ the lent tables before, t' p' s' after; r the answer of the steps, r' the call's
-pub record Finished (t p s t₀ p₀ s₀ t' p' s' : List ℕ) (r r' : ℕ) : Type 0 where
+-- t p s the scratch tables; t₀ p₀ s₀ the lent tables before, t' p' s' after; r and c the number and the cuts of the steps, r' and c' the call's
+pub record Finished (t p s t₀ p₀ s₀ t' p' s' : List ℕ) (r c r' c' : ℕ) : Type 0 where
   pub lengths : Lengths t₀ p₀ s₀ t' p' s'
   pub fits : within (limitsOf t₀ p₀ s₀) (magicStringOf [] t p s) ≡ true → (r' ≡ r) × Rebuilt t p s t' p' s'
   pub breaks : within (limitsOf t₀ p₀ s₀) (magicStringOf [] t p s) ≡ false → (r' ≡ 13) × Same t₀ p₀ s₀ t' p' s'
+  pub cuts : within (limitsOf t₀ p₀ s₀) (magicStringOf [] t p s) ≡ true → c' ≡ c
+  pub no-cuts : within (limitsOf t₀ p₀ s₀) (magicStringOf [] t p s) ≡ false → c' ≡ 0

@@ -29,8 +29,12 @@ fn relocate_either(
         (now (chunks .exit)) (now (pieces .exit)) (now (store .exit)) o ⌝ }
 {
     if edit_in_place::has_rows(chunks, 3) {
-        let number = edit_relocate_steps::relocate_steps(chunks, a, b, to);
-        return Outcome { number, used };
+        let steps = edit_relocate_steps::relocate_steps(chunks, source.len(), a, b, to);
+        return Outcome {
+            number: steps.number,
+            cuts: steps.value,
+            used,
+        };
     }
     edit_relocate_scratch::relocate_scratch(source, chunks, pieces, store, a, b, to)
 }
@@ -77,21 +81,28 @@ pub fn relocate(
         if inside {
             return Outcome {
                 number: numbers::INTO_ITSELF,
+                cuts: 0,
                 used,
             };
         }
         if nothing {
-            return Outcome { number: 0, used };
+            return Outcome {
+                number: 0,
+                cuts: 0,
+                used,
+            };
         }
         if end < start {
             return Outcome {
                 number: numbers::END_BEFORE_START,
+                cuts: 0,
                 used,
             };
         }
         if source.len() < end as usize {
             return Outcome {
                 number: numbers::PAST_SOURCE,
+                cuts: 0,
                 used,
             };
         }
@@ -99,6 +110,7 @@ pub fn relocate(
     }
     Outcome {
         number: numbers::INSIDE_CHARACTER,
+        cuts: 0,
         used,
     }
 }

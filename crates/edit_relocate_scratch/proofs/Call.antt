@@ -73,15 +73,15 @@ module _ {a b to : ℕ} {source t p s : List ℕ} (w : WellFormed source t p s) 
         filled = omega (arith, k .movable .ascends, k .inside);
       }
 
-  pub relocated-in-place : {t' : List ℕ} {r : ℕ} → RelocateDone a b to t t' r → length t' ≡ length t → Ran (relocate a b to) source t p s t' p s r
+  pub relocated-in-place : {t' : List ℕ} {r c : ℕ} → RelocateDone a b to t t' r c → length t' ≡ length t → Ran (relocate a b to) source t p s t' p s r c
   relocated-in-place {r = r} x len =
       let m = magicStringOf source t p s in
       let q = steps-move a b to m (k .movable .outside) (k .movable .ascends) (omega (arith, k .inside, ap length (source-of source t p s))) in
       let g = x .leave source p s (w .readable) (formed-spans w) in
-      ran-rows w (k .placed) (record { readable = g .readable; result = q ∙ g .result }) (writes a b to r (k .movable .ascends) (x .number)) len (x .kept)
+      ran-rows w (k .placed) (record { readable = g .readable; result = q ∙ g .result; cuts = g .cuts }) (writes a b to r (k .movable .ascends) (x .number)) len (x .kept)
 
 -- the bound of what the desk uses stays
-pub relocated-above : {a b to : ℕ} {t p s t' : List ℕ} {r : ℕ} {l : Used} → RelocateDone a b to t t' r → Above t p s l → Above t' p s l
+pub relocated-above : {a b to : ℕ} {t p s t' : List ℕ} {r c : ℕ} {l : Used} → RelocateDone a b to t t' r c → Above t p s l → Above t' p s l
 relocated-above x h = above-kept (x .kept) (x .readable _ _ (h .readable)) h
 
 -- ── past the tests, on scratch rows ──
@@ -98,39 +98,39 @@ module _ {a b to : ℕ} {source t p s t₀ p₀ s₀ t1 p1 s1 : List ℕ} (w : W
         filled = omega (arith, k .movable .ascends, k .inside);
       }
 
-  module _ {t2 : List ℕ} {r : ℕ} (x : RelocateDone a b to t1 t2 r) where
-    did : Did (cuts-then (a ∷ b ∷ to ∷ []) (move-step a b to)) source t p s t2 p1 s1 r
+  module _ {t2 : List ℕ} {r c : ℕ} (x : RelocateDone a b to t1 t2 r c) where
+    did : Did (cuts-then (a ∷ b ∷ to ∷ []) (move-step a b to)) source t p s t2 p1 s1 r c
     did = did-loaded w f d (x .leave source p s (loaded-readable w f d) (loaded-spans w f d))
 
     pub relocated-readable : Readable t2 p1 s1
     relocated-readable = did .readable
 
-    pub relocated : {t' p' s' : List ℕ} {r' : ℕ} → Finished t2 p1 s1 t p s t' p' s' r r' → Ran (relocate a b to) source t p s t' p' s' r'
+    pub relocated : {t' p' s' : List ℕ} {r' c' : ℕ} → Finished t2 p1 s1 t p s t' p' s' r c r' c' → Ran (relocate a b to) source t p s t' p' s' r' c'
     relocated y =
         let m = magicStringOf source t p s in
         let q = steps-move a b to m (k .movable .outside) (k .movable .ascends) (omega (arith, k .inside, ap length (source-of source t p s))) in
-        ran-finished w (k .placed) (record { readable = did .readable; result = q ∙ did .result }) (writes a b to r (k .movable .ascends) (x .number)) y
+        ran-finished w (k .placed) (record { readable = did .readable; result = q ∙ did .result; cuts = did .cuts }) (writes a b to r (k .movable .ascends) (x .number)) y
 
 -- ── the tests ──
 module _ {source t p s : List ℕ} (a b to : ℕ) (w : WellFormed source t p s) where
-  pub relocate-outside : all (between source) (a ∷ b ∷ to ∷ []) ≡ false → Ran (relocate a b to) source t p s t p s 3
+  pub relocate-outside : all (between source) (a ∷ b ∷ to ∷ []) ≡ false → Ran (relocate a b to) source t p s t p s 3 0
   relocate-outside h = ran-before (relocate a b to) source t p s 2 3 w (refused-3 (relocate a b to) source t p s refl refl h) refl
 
   module _ (h : all (between source) (a ∷ b ∷ to ∷ []) ≡ true) where
     placed : refused-before (magicStringOf source t p s) (relocate a b to) ≡ 0
     placed = not-refused (relocate a b to) source t p s refl refl h
 
-    pub relocate-inside : leb a to && leb to b ≡ true → Ran (relocate a b to) source t p s t p s 8
+    pub relocate-inside : leb a to && leb to b ≡ true → Ran (relocate a b to) source t p s t p s 8 0
     relocate-inside i = ran-same (relocate a b to) source t p s 8 w placed (steps-inside a b to (magicStringOf source t p s) i)
 
     module _ (o : leb a to && leb to b ≡ false) where
-      pub relocate-nothing : a ≡ b → Ran (relocate a b to) source t p s t p s 0
+      pub relocate-nothing : a ≡ b → Ran (relocate a b to) source t p s t p s 0 0
       relocate-nothing e = ran-same (relocate a b to) source t p s 0 w placed (steps-same a b to (magicStringOf source t p s) o e)
 
-      pub relocate-reversed : b < a → Ran (relocate a b to) source t p s t p s 4
+      pub relocate-reversed : b < a → Ran (relocate a b to) source t p s t p s 4 0
       relocate-reversed e = ran-same (relocate a b to) source t p s 4 w placed (steps-reversed a b to (magicStringOf source t p s) o e)
 
-      pub relocate-past : a < b → length source < b → Ran (relocate a b to) source t p s t p s 10
+      pub relocate-past : a < b → length source < b → Ran (relocate a b to) source t p s t p s 10 0
       relocate-past e l =
           ran-same (relocate a b to) source t p s 10 w placed
           (steps-past a b to (magicStringOf source t p s) o e (omega (arith, l, ap length (source-of source t p s))))

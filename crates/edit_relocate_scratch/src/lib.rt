@@ -26,8 +26,8 @@ fn relocate_by(
         (now (chunks .exit)) (now (pieces .exit)) (now (store .exit)) o ⌝ }
 {
     edit_scratch::load(chunks, pieces, store, t, p, s);
-    let r = edit_relocate_steps::relocate_steps(t, a, b, to);
-    edit_room_above::finish(t, p, s, chunks, pieces, store, r)
+    let steps = edit_relocate_steps::relocate_steps(t, source.len(), a, b, to);
+    edit_room_above::finish(t, p, s, chunks, pieces, store, steps)
 }
 
 // The same with scratch tables of its own.

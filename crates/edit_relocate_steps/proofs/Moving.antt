@@ -61,7 +61,7 @@ each-swap P s h =
 -- ── behind the cuts ──
 stays-put : (a b to : ℕ) (t : List ℕ) (r : ℕ) → ((source p s : List ℕ) → move-step a b to (magicStringOf source t p s) ≡ err r (magicStringOf source t p s)) →
     (r ≡ 0) ⊎ (r ≡ 9) → RangeMoved a b to t t r
-stays-put a b to t r f n = record { leave = λ source p s h. record { readable = h; result = f source p s }; number = n; count = refl; kept = kept-same t }
+stays-put a b to t r f n = record { leave = λ source p s h. record { readable = h; result = f source p s; cuts = omega arith }; number = n; kept = kept-same t }
 
 module _ (a b to : ℕ) (t : List ℕ) where
   as-rows : (source p s : List ℕ) {z : Segment} → segment a b (chunksAt t p s (order t)) ≡ z → move-step a b to (magicStringOf source t p s) ≡ move-segment to (magicStringOf source t p s) z
@@ -204,23 +204,22 @@ module _ (a b to : ℕ) (t : List ℕ) where
                           ∙ ap (λ (cs : List Chunk). ok (with-chunks m cs))
                           (ap (insert-before to (chunksAt t p s (f ∷ xs))) (sym (chunks-append t p s us ys)) ∙ g .result p s)
                           ∙ ap ok (sym (with-entries t p s t' h reordered source));
+                      cuts = omega (arith, ap startF (c .rest 0));
                     };
                 number = inl refl;
-                count = ap startF (c .rest 0);
                 kept = move-kept t t' f l n moved-at c;
               }
 
 -- ── the cuts, and what is behind them ──
-module _ (a b to : ℕ) (t t' : List ℕ) (r : ℕ) (d : CutsDone (a ∷ b ∷ to ∷ []) t t' r) where
-  pub rows-refused : (r ≡ 0 → ⊥) → RelocateDone a b to t t' r
+module _ (a b to : ℕ) (t t' : List ℕ) (r c : ℕ) (d : CutsDone (a ∷ b ∷ to ∷ []) t t' r c) where
+  pub rows-refused : (r ≡ 0 → ⊥) → RelocateDone a b to t t' r c
   rows-refused n =
       record {
         leave = λ source p s h v.
             let k = d .leave source p s h v in
-            record { readable = k .readable; result = k .result (move-step a b to) ∙ stop r (magicStringOf source t' p s) (move-step a b to) n };
+            record { readable = k .readable; result = k .result (move-step a b to) ∙ stop r (magicStringOf source t' p s) (move-step a b to) n; cuts = d .count };
         readable = d .readable;
         number = ⊎-elim (λ e. absurd (n e)) (λ e. inr (inl e)) (d .number);
-        count = omega (arith, d .count);
         kept = d .kept;
       }
 
@@ -237,18 +236,18 @@ module _ (a b to : ℕ) (t t' : List ℕ) (r : ℕ) (d : CutsDone (a ∷ b ∷ t
         filled = y .filled;
       }
 
-  pub rows-moved : r ≡ 0 → (t'' : List ℕ) (r' : ℕ) → RangeMoved a b to t' t'' r' → RelocateDone a b to t t'' r'
+  pub rows-moved : r ≡ 0 → (t'' : List ℕ) (r' : ℕ) → RangeMoved a b to t' t'' r' → RelocateDone a b to t t'' r' c
   rows-moved z t'' r' v =
       record {
-        leave = λ source p s h c.
-            let k = d .leave source p s h c in
+        leave = λ source p s h sp.
+            let k = d .leave source p s h sp in
             let u = v .leave source p s (k .readable) in
             record {
               readable = u .readable;
               result = k .result (move-step a b to) ∙ ap (λ (n : ℕ). and-then (err n (magicStringOf source t' p s)) (move-step a b to)) z ∙ u .result;
+              cuts = omega (arith, d .count, u .cuts);
             };
         readable = λ p s h. v .leave [] p s (d .readable p s h) .readable;
         number = ⊎-elim (λ e. inl e) (λ e. inr (inr e)) (v .number);
-        count = omega (arith, d .count, v .count);
         kept = kept-then (d .kept) (v .kept);
       }

@@ -3,11 +3,11 @@ use mathlib.Core.Path.{_≡_}
 use mathlib.Core.Bool.{false, _&&_}
 use mathlib.Core.List.{List, [], _∷_}
 use mathlib.Core.Logic.{_⊎_}
-use Prim.Native.Nat.{ℕ, _+_, _≤_, _<_}
+use Prim.Native.Nat.{ℕ, _<_}
 use lib.Dec.{leb}
 use lib.ListN.{length}
 use Rattle.memory_table.specs.Ring.{Each}
-use Rattle.memory_table.specs.Order.{entryAt, order, countOf}
+use Rattle.memory_table.specs.Order.{entryAt, order}
 use Rattle.model.specs.MagicString.{MagicString, Result}
 use Rattle.model.specs.Movement.{segment, move-segment}
 use Rattle.memory.specs.WellFormed.{Readable}
@@ -41,15 +41,13 @@ abbrev pub move-step : ℕ → ℕ → ℕ → MagicString → Result
 move-step a b to m = move-segment to m (segment a b (m .chunks))
 
 pub record RangeMoved (a b to : ℕ) (t t' : List ℕ) (r : ℕ) : Type 0 where
-  pub leave : (source p s : List ℕ) → Readable t p s → Did (move-step a b to) source t p s t' p s r
+  pub leave : (source p s : List ℕ) → Readable t p s → Did (move-step a b to) source t p s t' p s r 0
   pub number : (r ≡ 0) ⊎ (r ≡ 9)
-  pub count : countOf t' ≡ countOf t
   pub kept : Kept t t'
 
 -- the cuts too
-pub record RelocateDone (a b to : ℕ) (t t' : List ℕ) (r : ℕ) : Type 0 where
-  pub leave : (source p s : List ℕ) → Readable t p s → Spans source t p s → Did (cuts-then (a ∷ b ∷ to ∷ []) (move-step a b to)) source t p s t' p s r
+pub record RelocateDone (a b to : ℕ) (t t' : List ℕ) (r c : ℕ) : Type 0 where
+  pub leave : (source p s : List ℕ) → Readable t p s → Spans source t p s → Did (cuts-then (a ∷ b ∷ to ∷ []) (move-step a b to)) source t p s t' p s r c
   pub readable : (p s : List ℕ) → Readable t p s → Readable t' p s
   pub number : (r ≡ 0) ⊎ ((r ≡ 6) ⊎ (r ≡ 9))
-  pub count : countOf t' ≤ countOf t + 3
   pub kept : Kept t t'

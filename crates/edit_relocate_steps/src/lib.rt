@@ -5,20 +5,25 @@ ghost use Rattle.edit_scratch.specs.Tables.{Roomy};
 ghost use Rattle.edit_split_at.specs.Cuts.{CutsDone};
 ghost use Rattle.edit_relocate_steps.specs.Relocated.{PlaceIn, Spanned, Movable, RangeMoved, RelocateDone};
 use edit_relocate_range::Range;
+use memory::Answer;
 use memory_layout::numbers;
 use memory_list::Found;
 use memory_list::Key;
 
-// Three cuts, each where the one before it is not refused.
-fn split_three(t: &mut [u32], a: u32, b: u32, to: u32) -> u32
+// Three cuts over a source of n bytes, each where the one before it is not refused.
+fn split_three(t: &mut [u32], n: usize, a: u32, b: u32, to: u32) -> Answer
     requires { ⌜ Roomy 3 (now t) ⌝ }
-    ensures { λ r. ⌜ CutsDone (a ∷ b ∷ to ∷ []) (now (t .entry)) (now (t .exit)) r ⌝ }
+    ensures { λ r. ⌜ CutsDone (a ∷ b ∷ to ∷ []) (now (t .entry)) (now (t .exit)) (r .number) (r .value) ⌝ }
 {
-    let r = edit_split_at::split_at(t, a);
-    if r != 0 {
-        return r;
+    let first = edit_split_at::split_one(t, n, a);
+    if first.number != 0 {
+        return first;
     }
-    edit_split_at::split_both(t, b, to)
+    let others = edit_split_at::split_both(t, n, b, to);
+    Answer {
+        number: others.number,
+        value: first.value + others.value,
+    }
 }
 
 // The row that the range goes before: that of the chunk that starts at `to`, or else row 0, which stands behind the last chunk.
@@ -51,15 +56,19 @@ fn move_range(t: &mut [u32], a: u32, b: u32, to: u32) -> u32
 }
 
 // `relocate` past its tests: the cuts and the move.
-pub fn relocate_steps(t: &mut [u32], a: u32, b: u32, to: u32) -> u32
+pub fn relocate_steps(t: &mut [u32], n: usize, a: u32, b: u32, to: u32) -> Answer
     requires { ⌜ Roomy 3 (now t) ⌝ }
     requires { ⌜ Spanned (now t) ⌝ }
     requires { ⌜ Movable a b to ⌝ }
-    ensures { λ r. ⌜ RelocateDone a b to (now (t .entry)) (now (t .exit)) r ⌝ }
+    ensures { λ r. ⌜ RelocateDone a b to (now (t .entry)) (now (t .exit)) (r .number) (r .value) ⌝ }
 {
-    let r = split_three(t, a, b, to);
-    if r != 0 {
-        return r;
+    let cuts = split_three(t, n, a, b, to);
+    if cuts.number != 0 {
+        return cuts;
     }
-    move_range(t, a, b, to)
+    let number = move_range(t, a, b, to);
+    Answer {
+        number,
+        value: cuts.value,
+    }
 }

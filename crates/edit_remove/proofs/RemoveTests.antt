@@ -33,15 +33,15 @@ busy : (a b : ℕ) → a < b → idle (remove a b) ≡ false
 busy a b h = ne-eqb a b (λ e. omega arith)
 
 module _ {source t p s : List ℕ} (a b : ℕ) (w : WellFormed source t p s) where
-  pub remove-outside : all (between source) (a ∷ b ∷ []) ≡ false → Ran (remove a b) source t p s t p s 3
+  pub remove-outside : all (between source) (a ∷ b ∷ []) ≡ false → Ran (remove a b) source t p s t p s 3 0
   remove-outside h = ran-before (remove a b) source t p s 2 3 w (refused-3 (remove a b) source t p s refl refl h) refl
 
   module _ (h : all (between source) (a ∷ b ∷ []) ≡ true) where
-    pub remove-nothing : a ≡ b → Ran (remove a b) source t p s t p s 0
+    pub remove-nothing : a ≡ b → Ran (remove a b) source t p s t p s 0 0
     remove-nothing e = ran-same (remove a b) source t p s 0 w (not-refused (remove a b) source t p s refl refl h) (steps-same a b (magicStringOf source t p s) e)
 
-    pub remove-reversed : b < a → Ran (remove a b) source t p s t p s 4
+    pub remove-reversed : b < a → Ran (remove a b) source t p s t p s 4 0
     remove-reversed e = ran-same (remove a b) source t p s 4 w (not-refused (remove a b) source t p s refl refl h) (steps-reversed a b (magicStringOf source t p s) e)
 
-    pub remove-range : a < b → {t' p' s' : List ℕ} {r : ℕ} → RangeRan a b 0 source t p s t' p' s' r → Ran (remove a b) source t p s t' p' s' r
+    pub remove-range : a < b → {t' p' s' : List ℕ} {r c : ℕ} → RangeRan a b 0 source t p s t' p' s' r c → Ran (remove a b) source t p s t' p' s' r c
     remove-range e f = f (remove a b) (not-refused (remove a b) source t p s refl refl h) (steps-range a b (magicStringOf source t p s) e) (busy a b e) refl

@@ -23,12 +23,16 @@ pub fn clear_range_either(
     requires { ⌜ a < b ⌝ }
     requires { ⌜ Marked «text_at» ⌝ }
     ensures { λ o. ⌜ RangeRan a b «text_at» (now (source .entry)) (now (chunks .entry)) (now (pieces .entry)) (now (store .entry))
-        (now (chunks .exit)) (now (pieces .exit)) (now (store .exit)) (o .number)
+        (now (chunks .exit)) (now (pieces .exit)) (now (store .exit)) (o .number) (o .cuts)
         × Above (now (chunks .exit)) (now (pieces .exit)) (now (store .exit)) (o .used) ⌝ }
 {
     if edit_in_place::has_rows(chunks, 2) {
-        let number = edit_clear_range_steps::clear_range_steps(chunks, a, b, text_at);
-        return Outcome { number, used };
+        let steps = edit_clear_range_steps::clear_range_steps(chunks, source.len(), a, b, text_at);
+        return Outcome {
+            number: steps.number,
+            cuts: steps.value,
+            used,
+        };
     }
     edit_clear_range_scratch::clear_range_scratch(source, chunks, pieces, store, a, b, text_at)
 }
@@ -49,11 +53,16 @@ pub fn remove(
 {
     if memory_texts::between_both(source, start, end) {
         if start == end {
-            return Outcome { number: 0, used };
+            return Outcome {
+                number: 0,
+                cuts: 0,
+                used,
+            };
         }
         if end < start {
             return Outcome {
                 number: numbers::END_BEFORE_START,
+                cuts: 0,
                 used,
             };
         }
@@ -61,6 +70,7 @@ pub fn remove(
     }
     Outcome {
         number: numbers::INSIDE_CHARACTER,
+        cuts: 0,
         used,
     }
 }

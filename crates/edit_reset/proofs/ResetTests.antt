@@ -43,18 +43,18 @@ module _ {source t p s : List ℕ} (a b : ℕ) (w : WellFormed source t p s) whe
   size : length (magicStringOf source t p s .source) ≡ length source
   size = ap length (source-of source t p s)
 
-  pub reset-outside : all (between source) (a ∷ b ∷ []) ≡ false → Ran (reset a b) source t p s t p s 3
+  pub reset-outside : all (between source) (a ∷ b ∷ []) ≡ false → Ran (reset a b) source t p s t p s 3 0
   reset-outside h = ran-before (reset a b) source t p s 2 3 w (refused-3 (reset a b) source t p s refl refl h) refl
 
   module _ (h : all (between source) (a ∷ b ∷ []) ≡ true) where
-    pub reset-nothing : a ≡ b → Ran (reset a b) source t p s t p s 0
+    pub reset-nothing : a ≡ b → Ran (reset a b) source t p s t p s 0 0
     reset-nothing e = ran-same (reset a b) source t p s 0 w (not-refused (reset a b) source t p s refl refl h) (steps-same a b (magicStringOf source t p s) e)
 
-    pub reset-reversed : b < a → Ran (reset a b) source t p s t p s 4
+    pub reset-reversed : b < a → Ran (reset a b) source t p s t p s 4 0
     reset-reversed e = ran-same (reset a b) source t p s 4 w (not-refused (reset a b) source t p s refl refl h) (steps-reversed a b (magicStringOf source t p s) e)
 
-    pub reset-past : a < b → length source < b → Ran (reset a b) source t p s t p s 10
+    pub reset-past : a < b → length source < b → Ran (reset a b) source t p s t p s 10 0
     reset-past e k = ran-same (reset a b) source t p s 10 w (not-refused (reset a b) source t p s refl refl h) (steps-past a b (magicStringOf source t p s) e (omega (arith, size)))
 
-    pub reset-range : a < b → b ≤ length source → {t' p' s' : List ℕ} {r : ℕ} → RangeRan a b NONE source t p s t' p' s' r → Ran (reset a b) source t p s t' p' s' r
+    pub reset-range : a < b → b ≤ length source → {t' p' s' : List ℕ} {r c : ℕ} → RangeRan a b NONE source t p s t' p' s' r c → Ran (reset a b) source t p s t' p' s' r c
     reset-range e k f = f (reset a b) (not-refused (reset a b) source t p s refl refl h) (steps-range a b (magicStringOf source t p s) e (omega (arith, size))) (busy a b e) refl

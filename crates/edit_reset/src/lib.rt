@@ -22,17 +22,23 @@ pub fn reset(
 {
     if memory_texts::between_both(source, start, end) {
         if start == end {
-            return Outcome { number: 0, used };
+            return Outcome {
+                number: 0,
+                cuts: 0,
+                used,
+            };
         }
         if end < start {
             return Outcome {
                 number: numbers::END_BEFORE_START,
+                cuts: 0,
                 used,
             };
         }
         if source.len() < end as usize {
             return Outcome {
                 number: numbers::PAST_SOURCE,
+                cuts: 0,
                 used,
             };
         }
@@ -49,6 +55,7 @@ pub fn reset(
     }
     Outcome {
         number: numbers::INSIDE_CHARACTER,
+        cuts: 0,
         used,
     }
 }

@@ -24,7 +24,7 @@ formed-usable {source} {t} {p} {s} w =
     record { readable = w .readable; within-is = within-any (limitsOf t p s) source t p s (short-source w) ∙ w .desk .limits; sized = w .sized }
 
 -- what the end of a call on scratch tables leaves in the lent ones
-pub finished-usable : {t p s t2 p2 s2 t' p' s' : List ℕ} {r r' : ℕ} → Usable t p s → Finished t2 p2 s2 t p s t' p' s' r r' → Usable t' p' s'
+pub finished-usable : {t p s t2 p2 s2 t' p' s' : List ℕ} {r c r' c' : ℕ} → Usable t p s → Finished t2 p2 s2 t p s t' p' s' r c r' c' → Usable t' p' s'
 finished-usable {t} {p} {s} {t2} {p2} {s2} {t'} {p'} {s'} u f =
     bool-elim (within (limitsOf t p s) (magicStringOf [] t2 p2 s2))
     (λ e.

@@ -13,6 +13,7 @@ ghost use Rattle.memory_used.specs.Above.{Above};
 ghost use Rattle.edit_rebuild.specs.Rebuilt.{Finished};
 ghost use Rattle.edit_room_above.specs.Live.{LiveIn, TopRow, RunLive, EntryLive, Usable, Small, Room};
 ghost use Rattle.edit_room_above.specs.Run.{TopRoom, Lengthened};
+use memory::Answer;
 use memory_used::Outcome;
 use memory_used::Used;
 
@@ -124,12 +125,16 @@ pub fn live(t: &[u32], p: &[u32], s: &[u8]) -> Used
 }
 
 // An outcome with what the desk uses counted anew.
-pub fn counted(t: &[u32], p: &[u32], s: &[u8], number: u32) -> Outcome
+pub fn counted(t: &[u32], p: &[u32], s: &[u8], answer: Answer) -> Outcome
     requires { ⌜ Usable (now t) (now p) (now s) ⌝ }
-    ensures { λ o. ⌜ (o .number ≡ number) × Above (now (t .entry)) (now (p .entry)) (now (s .entry)) (o .used) ⌝ }
+    ensures { λ o. ⌜ (o .number ≡ answer .number) × (o .cuts ≡ answer .value) × Above (now (t .entry)) (now (p .entry)) (now (s .entry)) (o .used) ⌝ }
 {
     let used = live(t, p, s);
-    Outcome { number, used }
+    Outcome {
+        number: answer.number,
+        cuts: answer.value,
+        used,
+    }
 }
 
 // The end of a call on scratch tables, with what the desk then uses.
@@ -140,16 +145,16 @@ pub fn finish(
     chunks: &mut [u32],
     pieces: &mut [u32],
     store: &mut [u8],
-    r: u32,
+    steps: Answer,
 ) -> Outcome
     requires { ⌜ Readable (now t) (now p) (now s) ⌝ }
     requires { ⌜ Usable (now chunks) (now pieces) (now store) ⌝ }
     ensures { λ o. ⌜ Finished (now (t .entry)) (now (p .entry)) (now (s .entry)) (now (chunks .entry)) (now (pieces .entry)) (now (store .entry))
-        (now (chunks .exit)) (now (pieces .exit)) (now (store .exit)) r (o .number)
+        (now (chunks .exit)) (now (pieces .exit)) (now (store .exit)) (steps .number) (steps .value) (o .number) (o .cuts)
         × Above (now (chunks .exit)) (now (pieces .exit)) (now (store .exit)) (o .used) ⌝ }
 {
-    let number = edit_scratch::finish(t, p, s, chunks, pieces, store, r);
-    counted(chunks, pieces, store, number)
+    let answer = edit_scratch::finish(t, p, s, chunks, pieces, store, steps);
+    counted(chunks, pieces, store, answer)
 }
 
 // Whether n chunks and a piece more keep the limits, and the tables have room on top for any run with a piece more, and for len bytes.

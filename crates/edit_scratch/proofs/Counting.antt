@@ -150,9 +150,16 @@ pub three-counts : (c a x y w r s u v : ℕ) → r ≡ min (a + x) c → s ≡ m
 three-counts c a x y w r s u v e f g h = omega arith
 
 -- ── the end of every edit ──
-pub finish-fits : {t p s t₀ p₀ s₀ t' p' s' : List ℕ} {r : ℕ} → within (limitsOf t₀ p₀ s₀) (magicStringOf [] t p s) ≡ true → Lengths t₀ p₀ s₀ t' p' s' → Rebuilt t p s t' p' s'
-    → Finished t p s t₀ p₀ s₀ t' p' s' r r
-finish-fits e l d = record { lengths = l; fits = λ _. (refl, d); breaks = λ f. no-tf (sym e ∙ f) }
+pub finish-fits : {t p s t₀ p₀ s₀ t' p' s' : List ℕ} {r c : ℕ} → within (limitsOf t₀ p₀ s₀) (magicStringOf [] t p s) ≡ true → Lengths t₀ p₀ s₀ t' p' s'
+    → Rebuilt t p s t' p' s' → Finished t p s t₀ p₀ s₀ t' p' s' r c r c
+finish-fits e l d = record { lengths = l; fits = λ _. (refl, d); breaks = λ f. no-tf (sym e ∙ f); cuts = λ _. refl; no-cuts = λ f. no-tf (sym e ∙ f) }
 
-pub finish-breaks : {t p s t' p' s' : List ℕ} {r : ℕ} → within (limitsOf t' p' s') (magicStringOf [] t p s) ≡ false → Finished t p s t' p' s' t' p' s' r 13
-finish-breaks {t' = t'} {p'} {s'} e = record { lengths = same-lengths t' p' s'; fits = λ f. no-tf (sym f ∙ e); breaks = λ _. (refl, record { chunks = refl; pieces = refl; store = refl }) }
+pub finish-breaks : {t p s t' p' s' : List ℕ} {r c : ℕ} → within (limitsOf t' p' s') (magicStringOf [] t p s) ≡ false → Finished t p s t' p' s' t' p' s' r c 13 0
+finish-breaks {t' = t'} {p'} {s'} e =
+    record {
+      lengths = same-lengths t' p' s';
+      fits = λ f. no-tf (sym f ∙ e);
+      breaks = λ _. (refl, record { chunks = refl; pieces = refl; store = refl });
+      cuts = λ f. no-tf (sym f ∙ e);
+      no-cuts = λ _. refl;
+    }

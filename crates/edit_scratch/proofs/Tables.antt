@@ -67,6 +67,10 @@ module _ {source t p s t₀ p₀ s₀ t1 p1 s1 : List ℕ} (w : WellFormed sourc
   pub loaded-desk : magicStringOf source t1 p s ≡ magicStringOf source t p s
   loaded-desk = loaded .1 source
 
+  -- as many chunks
+  pub loaded-count : countOf t1 ≡ countOf t
+  loaded-count = omega (arith, ap (λ (x : MagicString). length (x .chunks)) loaded-desk, chunk-count source t p s, chunk-count source t1 p s)
+
   -- with room for three chunks
   pub loaded-roomy : Roomy 3 t1
   loaded-roomy =
@@ -103,10 +107,11 @@ judged-out k m r e = rw e
 
 -- nothing is written where the call leaves the desk as it was
 still : (e : Edit) (source t p s : List ℕ) (r : ℕ) → WellFormed source t p s → run (limitsOf t p s) e (magicStringOf source t p s) ≡ err r (magicStringOf source t p s)
-    → Ran e source t p s t p s r
+    → Ran e source t p s t p s r 0
 still e source t p s r w q =
     record {
       number-is = sym (ap (λ (x : Result). x .number) q);
+      value-is = omega (arith, ap (λ (x : Result). length (x .desk .chunks)) q);
       desk-is = sym (ap (λ (x : Result). x .desk) q);
       well-formed = w;
       lengths = same-lengths t p s;
@@ -128,30 +133,31 @@ module _ (e : Edit) (source t p s : List ℕ) (o : options-valid e ≡ true) whe
   not-refused h k = rw (o, h, k)
 
 pub ran-before : (e : Edit) (source t p s : List ℕ) (n r : ℕ) → WellFormed source t p s → refused-before (magicStringOf source t p s) e ≡ suc n → r ≡ suc n
-    → Ran e source t p s t p s r
+    → Ran e source t p s t p s r 0
 ran-before e source t p s n r w h q = still e source t p s r w (run-refused (limitsOf t p s) e (magicStringOf source t p s) n h ∙ rw q)
 
 -- a refusal that changes nothing, and a no-op
 pub ran-same : (e : Edit) (source t p s : List ℕ) (r : ℕ) → WellFormed source t p s → refused-before (magicStringOf source t p s) e ≡ 0
-    → steps e (magicStringOf source t p s) ≡ err r (magicStringOf source t p s) → Ran e source t p s t p s r
+    → steps e (magicStringOf source t p s) ≡ err r (magicStringOf source t p s) → Ran e source t p s t p s r 0
 ran-same e source t p s r w h q =
     let m = magicStringOf source t p s in
     still e source t p s r w (run-judged (limitsOf t p s) e m h ∙ ap (judged (limitsOf t p s) m) q ∙ judged-in (limitsOf t p s) m (err r m) (w .desk .limits))
 
 -- 13 where the steps would leave too much
 pub ran-past-limits : (e : Edit) (source t p s : List ℕ) → WellFormed source t p s → refused-before (magicStringOf source t p s) e ≡ 0
-    → within full (steps e (magicStringOf source t p s) .desk) ≡ false → Ran e source t p s t p s 13
+    → within full (steps e (magicStringOf source t p s) .desk) ≡ false → Ran e source t p s t p s 13 0
 ran-past-limits e source t p s w h q =
     let m = magicStringOf source t p s in
     still e source t p s 13 w (run-judged (limitsOf t p s) e m h ∙ judged-out (limitsOf t p s) m (steps e m) (past-full (w .sized) (steps e m .desk) q))
 
 -- steps on the loaded rows alone, and the scratch pieces and store as they were loaded
-pub did-loaded : {f : MagicString → Result} {source t p s t₀ p₀ s₀ t1 p1 s1 t2 : List ℕ} {r : ℕ} → WellFormed source t p s → Scratch t₀ p₀ s₀ → Loaded t p s t₀ p₀ s₀ t1 p1 s1
-    → Did f source t1 p s t2 p s r → Did f source t p s t2 p1 s1 r
+pub did-loaded : {f : MagicString → Result} {source t p s t₀ p₀ s₀ t1 p1 s1 t2 : List ℕ} {r k : ℕ} → WellFormed source t p s → Scratch t₀ p₀ s₀ → Loaded t p s t₀ p₀ s₀ t1 p1 s1
+    → Did f source t1 p s t2 p s r k → Did f source t p s t2 p1 s1 r k
 did-loaded {f} {source} {t2 = t2} {r = r} w c d l =
     record {
       readable = with-scratch w c d t2 (l .readable);
       result = ap f (sym (loaded-desk w c d)) ∙ l .result ∙ ap (err r) (sym (with-scratch-desk w c d t2 (l .readable)));
+      cuts = omega (arith, l .cuts, loaded-count w c d);
     }
 
 -- ── which answers may write ──
@@ -165,14 +171,15 @@ unfolding may-write
 may-write-leaving e n h = rw (h, ne-eqb (suc n) 0 (λ z. omega arith))
 
 -- the steps, and their end
-pub ran-finished : {e : Edit} {source t p s t2 p2 s2 t' p' s' : List ℕ} {r r' : ℕ} → WellFormed source t p s → refused-before (magicStringOf source t p s) e ≡ 0
-    → Did (steps e) source t p s t2 p2 s2 r → may-write e r ≡ true → Finished t2 p2 s2 t p s t' p' s' r r' → Ran e source t p s t' p' s' r'
-ran-finished {e} {source} {t} {p} {s} {t2} {p2} {s2} {t'} {p'} {s'} {r} {r'} w h d may f =
+pub ran-finished : {e : Edit} {source t p s t2 p2 s2 t' p' s' : List ℕ} {r c r' c' : ℕ} → WellFormed source t p s → refused-before (magicStringOf source t p s) e ≡ 0
+    → Did (steps e) source t p s t2 p2 s2 r c → may-write e r ≡ true → Finished t2 p2 s2 t p s t' p' s' r c r' c' → Ran e source t p s t' p' s' r' c'
+ran-finished {e} {source} {t} {p} {s} {t2} {p2} {s2} {t'} {p'} {s'} {r} w h d may f =
     let m = magicStringOf source t p s in
     let n = magicStringOf source t2 p2 s2 in
     let k₀ = limitsOf t p s in
     let q : run k₀ e m ≡ judged k₀ m (err r n) = run-judged k₀ e m h ∙ ap (judged k₀ m) (d .result) in
     let i : within k₀ (magicStringOf [] t2 p2 s2) ≡ within k₀ n = within-any k₀ source t2 p2 s2 (short-source w) in
+    let chunks : Result → ℕ = λ (y : Result). length (y .desk .chunks) in
     bool-elim (within k₀ n)
     (λ k.
     let g = f .fits (i ∙ k) in
@@ -180,6 +187,7 @@ ran-finished {e} {source} {t} {p} {s} {t2} {p2} {s2} {t'} {p'} {s'} {r} {r'} w h
     let x : magicStringOf source t' p' s' ≡ run k₀ e m .desk = g .1 .desk source ∙ sym (ap (λ (y : Result). y .desk) o) in
     record {
       number-is = g .0 ∙ sym (ap (λ (y : Result). y .number) o);
+      value-is = omega (arith, f .cuts (i ∙ k), d .cuts, ap chunks o, chunk-count source t p s, chunk-count source t2 p2 s2);
       desk-is = x;
       well-formed =
           record {
@@ -199,6 +207,7 @@ ran-finished {e} {source} {t} {p} {s} {t2} {p2} {s2} {t'} {p'} {s'} {r} {r'} w h
     let x : magicStringOf source t' p' s' ≡ m = rw (a .chunks, a .pieces, a .store) refl in
     record {
       number-is = g .0 ∙ sym (ap (λ (y : Result). y .number) o);
+      value-is = omega (arith, f .no-cuts (i ∙ k), ap chunks o);
       desk-is = x ∙ sym (ap (λ (y : Result). y .desk) o);
       well-formed = rw (a .chunks, a .pieces, a .store) w;
       lengths = f .lengths;

@@ -27,14 +27,15 @@ pub record Roomy (n : ℕ) (t : List ℕ) : Type 0 where
   pub narrow : length t ≤ 4294967296
 
 -- ── 1 and 3 ──
--- what steps show: the desk of t p s before, the desk of t2 p2 s2 after, and r, their answer, are the model's
-pub record Did (f : MagicString → Result) (source t p s t2 p2 s2 : List ℕ) (r : ℕ) : Type 0 where
+-- what steps show: the desk of t p s before, the desk of t2 p2 s2 after, and r, their number, are the model's; c is by how many the chunks grow
+pub record Did (f : MagicString → Result) (source t p s t2 p2 s2 : List ℕ) (r c : ℕ) : Type 0 where
   pub readable : Readable t2 p2 s2
   pub result : f (magicStringOf source t p s) ≡ err r (magicStringOf source t2 p2 s2)
+  pub cuts : countOf t2 ≡ countOf t + c
 
 -- a call whose steps are f, past its tests
-abbrev pub StepsRan : (MagicString → Result) → List ℕ → List ℕ → List ℕ → List ℕ → List ℕ → List ℕ → List ℕ → ℕ → Type 0
-StepsRan f source t p s t' p' s' r =
+abbrev pub StepsRan : (MagicString → Result) → List ℕ → List ℕ → List ℕ → List ℕ → List ℕ → List ℕ → List ℕ → ℕ → ℕ → Type 0
+StepsRan f source t p s t' p' s' r c =
     (e : Edit) → refused-before (magicStringOf source t p s) e ≡ 0
     → ((m : MagicString) → steps e m ≡ f m) → idle e ≡ false
-    → Ran e source t p s t' p' s' r
+    → Ran e source t p s t' p' s' r c

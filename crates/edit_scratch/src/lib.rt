@@ -11,6 +11,7 @@ ghost use Rattle.memory.specs.Layout.{runOf, chunkOf, magicStringOf};
 ghost use Rattle.memory.specs.WellFormed.{limitsBy, RunIn, EntryIn, Readable, Sized};
 ghost use Rattle.edit_rebuild.specs.Rebuilt.{Finished};
 ghost use Rattle.edit_scratch.specs.Loaded.{Loaded};
+use memory::Answer;
 use memory_layout::numbers;
 
 // The lent tables, at the front of the scratch tables.
@@ -129,7 +130,7 @@ pub fn keeps(
     bytes <= most_bytes
 }
 
-// The end of such a call: the desk of the scratch tables written into the lent tables with the answer r; or 13, and nothing written.
+// The end of such a call: the desk of the scratch tables written into the lent tables, with the number and the cuts of the steps; or 13, and nothing written, so that no cut remains.
 pub fn finish(
     t: &[u32],
     p: &[u32],
@@ -137,12 +138,12 @@ pub fn finish(
     chunks: &mut [u32],
     pieces: &mut [u32],
     store: &mut [u8],
-    r: u32,
-) -> u32
+    steps: Answer,
+) -> Answer
     requires { ⌜ Readable (now t) (now p) (now s) ⌝ }
     requires { ⌜ Sized (now chunks) (now pieces) (now store) ⌝ }
     ensures { λ q. ⌜ Finished (now (t .entry)) (now (p .entry)) (now (s .entry)) (now (chunks .entry)) (now (pieces .entry)) (now (store .entry))
-        (now (chunks .exit)) (now (pieces .exit)) (now (store .exit)) r q ⌝ }
+        (now (chunks .exit)) (now (pieces .exit)) (now (store .exit)) (steps .number) (steps .value) (q .number) (q .value) ⌝ }
 {
     let most = (chunks.len() / memory_layout::ROW - 1) as u32;
     if keeps(
@@ -154,7 +155,10 @@ pub fn finish(
         store.len(),
     ) {
         edit_rebuild::rebuild(t, p, s, chunks, pieces, store);
-        return r;
+        return steps;
     }
-    numbers::LIMIT
+    Answer {
+        number: numbers::LIMIT,
+        value: 0,
+    }
 }

@@ -25,18 +25,19 @@ pub record LaidIn (t p s t1 p1 s1 : List ℕ) (l : Used) : Type 0 where
   pub fits : Fits t p s t1 p1 s1
   pub above : Above t1 p1 s1 l
 
--- r is the answer of the edit, which left t p s; r' the call's. t₀ p₀ s₀ are the lent tables before, t' p' s' after
-pub record Ended (t p s t₀ p₀ s₀ t' p' s' : List ℕ) (r r' : ℕ) : Type 0 where
-  pub made : r ≡ 0 → Finished t p s t₀ p₀ s₀ t' p' s' 0 r'
+-- r and c are the number and the cuts of the edit, which left t p s; r' and c' the call's. t₀ p₀ s₀ are the lent tables before, t' p' s' after
+pub record Ended (t p s t₀ p₀ s₀ t' p' s' : List ℕ) (r c r' c' : ℕ) : Type 0 where
+  pub made : r ≡ 0 → Finished t p s t₀ p₀ s₀ t' p' s' r c r' c'
   pub refused : (r ≡ 0 → ⊥) → (r' ≡ r) × Same t₀ p₀ s₀ t' p' s'
+  pub no-cuts : (r ≡ 0 → ⊥) → c' ≡ 0
 
 -- a call whose steps are f, on the small tables, but where it answers 13
-pub record Attempted (f : MagicString → Result) (source t p s t' p' s' : List ℕ) (r : ℕ) : Type 0 where
-  pub ran : (r ≡ 13 → ⊥) → StepsRan f source t p s t' p' s' r
+pub record Attempted (f : MagicString → Result) (source t p s t' p' s' : List ℕ) (r c : ℕ) : Type 0 where
+  pub ran : (r ≡ 13 → ⊥) → StepsRan f source t p s t' p' s' r c
   pub readable : r ≡ 0 → Readable t' p' s'
 
 -- the call is made, or 13 and nothing written: then it is to be made in another way
 pub record Tried (f : MagicString → Result) (source t p s t' p' s' : List ℕ) (o : Outcome) : Type 0 where
-  pub ran : (o .number ≡ 13 → ⊥) → StepsRan f source t p s t' p' s' (o .number)
+  pub ran : (o .number ≡ 13 → ⊥) → StepsRan f source t p s t' p' s' (o .number) (o .cuts)
   pub same : o .number ≡ 13 → Same t p s t' p' s'
   pub above : Above t' p' s' (o .used)

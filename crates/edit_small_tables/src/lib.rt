@@ -5,6 +5,7 @@ ghost use Rattle.memory.specs.WellFormed.{Readable};
 ghost use Rattle.memory_used.specs.Above.{Above};
 ghost use Rattle.edit_room_above.specs.Live.{Usable};
 ghost use Rattle.edit_small_tables.specs.Small.{Fits, LaidIn, Ended};
+use memory::Answer;
 use memory_used::Outcome;
 use memory_used::Used;
 
@@ -25,7 +26,7 @@ pub fn lay(
     edit_room_above::live(t, p, s)
 }
 
-// The end of an edit there: the desk that it left, written into the lent tables; or nothing, where it was refused.
+// The end of an edit there: the desk that it left, written into the lent tables; or nothing, where it was refused, so that no cut remains.
 pub fn finish(
     t: &[u32],
     p: &[u32],
@@ -33,16 +34,20 @@ pub fn finish(
     chunks: &mut [u32],
     pieces: &mut [u32],
     store: &mut [u8],
-    number: u32,
+    edit: Answer,
 ) -> Outcome
-    requires { ⌜ (number ≡ 0 → Readable (now t) (now p) (now s)) ⌝ }
+    requires { ⌜ (edit .number ≡ 0 → Readable (now t) (now p) (now s)) ⌝ }
     requires { ⌜ Usable (now chunks) (now pieces) (now store) ⌝ }
     ensures { λ o. ⌜ Ended (now (t .entry)) (now (p .entry)) (now (s .entry)) (now (chunks .entry)) (now (pieces .entry)) (now (store .entry))
-        (now (chunks .exit)) (now (pieces .exit)) (now (store .exit)) number (o .number)
+        (now (chunks .exit)) (now (pieces .exit)) (now (store .exit)) (edit .number) (edit .value) (o .number) (o .cuts)
         × Above (now (chunks .exit)) (now (pieces .exit)) (now (store .exit)) (o .used) ⌝ }
 {
-    if number != 0 {
-        return edit_room_above::counted(chunks, pieces, store, number);
+    if edit.number != 0 {
+        let refused = Answer {
+            number: edit.number,
+            value: 0,
+        };
+        return edit_room_above::counted(chunks, pieces, store, refused);
     }
-    edit_room_above::finish(t, p, s, chunks, pieces, store, 0)
+    edit_room_above::finish(t, p, s, chunks, pieces, store, edit)
 }

@@ -1,30 +1,29 @@
 -- Laws of what `Cuts` in specs/ defines.
 use mathlib.Core.Path.{_≡_, refl, sym, ap, ap₂, _∙_, subst}
-use mathlib.Core.Bool.{Bool, true, false, not, and-true}
+use mathlib.Core.Bool.{true, false, cond}
 use mathlib.Core.List.{List, [], _∷_, _++_, map, map-append}
 use mathlib.Core.Logic.{inl, inr}
-use Prim.Native.Nat.{ℕ, zero, suc}
+use Prim.Native.Nat.{ℕ, zero, suc, _+_}
 use native.Mathlib.Omega.{arith}
 use lib.ListN.{length}
 use Rattle.utf8.specs.Chars.{All, nil, cons}
 use Rattle.utf8.proofs.CharLaws.{all-front, all-back}
 use Rattle.memory_table.specs.Ring.{Each}
 use Rattle.memory_table.specs.Order.{Entry, entryAt, entries, order, Linked}
-use Rattle.model.specs.Text.{all}
 use Rattle.model.specs.Chunk.{Chunk, contains, is-filled, first-half, second-half}
 use Rattle.model.specs.MagicString.{MagicString, Result, ok, err, and-then, with-chunks, split-at}
-use Rattle.model.specs.WellFormed.{covers}
-use Rattle.model.proofs.Lists.{sum-append, first-of, rest-of, all-append}
+use Rattle.model.specs.Cut.{made, refused, cut-at}
+use Rattle.model.proofs.Lists.{first-of, rest-of, all-append}
 use Rattle.memory.specs.Layout.{chunkOf, magicStringOf}
 use Rattle.memory.specs.WellFormed.{EntryIn, Readable, WellFormed}
 use Rattle.memory.proofs.Desks.{chunks-of, source-of}
 use Rattle.model.proofs.Lists as lists
-use Rattle.model.proofs.Spans.{covers-in}
-use Rattle.model_closed_forms.specs.Plan.{cut, cut-all, splittable}
-use Rattle.model_closed_forms.proofs.Cuts.{Contains, contains-true, contains-of, split-in, cut-append, cut-none}
-use Rattle.model_closed_forms.proofs.Spans.{none-cover, Once, formed-cover}
+use Rattle.model_closed_forms.specs.Plan.{cut, cut-all}
+use Rattle.model_closed_forms.proofs.Cuts.{Contains, contains-true, contains-of}
+use Rattle.model_closed_forms.proofs.Spans.{formed-cover}
 use Rattle.model_closed_forms.specs.Spans.{Cover}
-use Rattle.model_closed_forms.proofs.SplitAt.{cover-once, cover-cut-all, split-at-cover, aligned-splittable}
+use Rattle.model_closed_forms.proofs.CutAt.{cut-nothing, cut-refused, cut-made, cut-at-inside}
+use Rattle.model_closed_forms.proofs.SplitAt.{cover-cut-all}
 use Rattle.model_closed_forms.specs.SplitAt.{cuts-then}
 use Rattle.memory_list.specs.declared.Key.the-variants.{Inside}
 use Rattle.memory_list.specs.Find.{meets, First}
@@ -40,46 +39,6 @@ use Rattle.edit_split_at.proofs.Lift.{same-head, same-tail, first-small
 use Rattle.edit_split_at.proofs.Lift.{lift-filled, not-filled}
 use Rattle.edit_split_at.specs.Cuts.{filled, Spans, CutsLeave, CutsDone}
 
--- ── the model's cut, where the chunk that contains the position is known ──
--- no other chunk contains it
-others : (q : ℕ) (xs : List Chunk) (c : Chunk) (ys : List Chunk) → Once (xs ++ c ∷ ys) → Contains q c → All (λ d. Contains q d → ⊥) xs × All (λ d. Contains q d → ⊥) ys
-others q xs c ys o i =
-    let a = sum-append (covers q) xs (c ∷ ys) in
-    let b = covers-in q c (omega arith) in
-    let n = o q in (
-      lists.all-map (λ d k j. k (omega arith)) (none-cover q xs (omega arith)),
-      lists.all-map (λ d k j. k (omega arith)) (none-cover q ys (omega arith)),
-    )
-
-all-mid : {A : Type 0} (f : A → Bool) (xs : List A) (c : A) (ys : List A) → all f xs ≡ true → all f ys ≡ true → all f (xs ++ c ∷ ys) ≡ f c
-all-mid f [] c ys a b = rw b (and-true (f c))
-all-mid f (x ∷ xs) c ys a b = rw (lists.and-left (f x) (all f xs) a) (all-mid f xs c ys (lists.and-right (f x) (all f xs) a) b)
-
-module _ (q : ℕ) (m : MagicString) (v : Cover (m .source) (m .chunks)) where
-  pub cut-nothing : All (λ c. Contains q c → ⊥) (m .chunks) → (split-at q m ≡ ok m) × (cut q (m .chunks) ≡ m .chunks)
-  cut-nothing n = (split-at-cover q m v ∙ rw (aligned-splittable q n, cut-none q n), cut-none q n)
-
-  module _ (xs : List Chunk) (c : Chunk) (ys : List Chunk) (e : m .chunks ≡ xs ++ c ∷ ys) (i : Contains q c) where
-    apart : All (λ d. Contains q d → ⊥) xs × All (λ d. Contains q d → ⊥) ys
-    apart = others q xs c ys (subst Once e (cover-once v)) i
-
-    can : all (splittable q) (m .chunks) ≡ not (is-filled (c .texts .edited-content))
-    unfolding splittable
-    can =
-        ap (all (splittable q)) e
-        ∙ all-mid (splittable q) xs c ys (aligned-splittable q (apart .0)) (aligned-splittable q (apart .1))
-        ∙ rw (contains-true q c i)
-
-    cut-is : cut q (m .chunks) ≡ xs ++ first-half q c ∷ second-half q c ∷ ys
-    cut-is = ap (cut q) e ∙ cut-append q xs (c ∷ ys) ∙ rw (split-in q c i, cut-none q (apart .0), cut-none q (apart .1))
-
-    pub cut-refused : is-filled (c .texts .edited-content) ≡ true → split-at q m ≡ err 6 m
-    cut-refused f = split-at-cover q m v ∙ rw (can, f)
-
-    pub cut-made : is-filled (c .texts .edited-content) ≡ false
-        → (split-at q m ≡ ok (with-chunks m (xs ++ first-half q c ∷ second-half q c ∷ ys))) × (cut q (m .chunks) ≡ xs ++ first-half q c ∷ second-half q c ∷ ys)
-    cut-made f = (split-at-cover q m v ∙ rw (can, f, cut-is), cut-is)
-
 -- ── one cut of the rows ──
 -- what is left to say of one cut
 one-cut : {q : ℕ} {source t p s t' : List ℕ} {r : ℕ} → Readable t' p s → split-at q (magicStringOf source t p s) ≡ err r (magicStringOf source t' p s)
@@ -93,19 +52,24 @@ each-all p s q t (x ∷ xs) h =
     let n : Contains q (chunkOf p s (entryAt t x)) → ⊥ = λ i. lists.clash (contains-true q (chunkOf p s (entryAt t x)) i) (h .0) in
     cons n (each-all p s q t xs (h .1))
 
-pub none-found : (q : ℕ) (t : List ℕ) → Linked t → Each (λ x. meets Inside q (entryAt t x) ≡ false) (order t) → CutsDone (q ∷ []) t t 0
+pub none-contain : (source t p s : List ℕ) (q : ℕ) → Each (λ x. meets Inside q (entryAt t x) ≡ false) (order t)
+    → All (λ d. Contains q d → ⊥) (magicStringOf source t p s .chunks)
+none-contain source t p s q n = subst (All (λ d. Contains q d → ⊥)) (sym (chunks-of source t p s)) (each-all p s q t (order t) n)
+
+pub none-found : (q : ℕ) (t : List ℕ) → Linked t → Each (λ x. meets Inside q (entryAt t x) ≡ false) (order t) → CutsDone (q ∷ []) t t 0 0
 none-found q t l n =
     record {
       leave = λ source p s h v.
           let m = magicStringOf source t p s in
           let c = cut-nothing q m (subst (λ x. Cover x (m .chunks)) (sym (source-of source t p s)) v)
-          (subst (All (λ d. Contains q d → ⊥)) (sym (chunks-of source t p s)) (each-all p s q t (order t) n)) in
+          (none-contain source t p s q n) in
           one-cut h (c .0) (λ _. sym (c .1));
       readable = λ p s h. h;
       small = λ p s h. h;
       number = inl refl;
       linked = l;
       count = omega arith;
+      few = omega arith;
       kept = kept-same t;
       none = λ _. refl;
       alone = λ _ _. refl;
@@ -143,6 +107,9 @@ module _ (q : ℕ) (t : List ℕ) (i : ℕ) (w : First (meets Inside q) t i) whe
 
     fills : is-filled (chunkOf p s (entryAt t i) .texts .edited-content) ≡ filled (entryAt t i)
     fills = lift-filled s (entryAt t i) (first-of mid-in .replacement)
+
+    pub found-case : cut-at q m ≡ cond (filled (entryAt t i)) refused made
+    found-case = cut-at-inside q m v' (map (chunkOf p s) xs) (chunkOf p s (entryAt t i)) (map (chunkOf p s) ys) chunks-at here ∙ rw fills
 
     refused-leave : filled (entryAt t i) ≡ true → CutsLeave (q ∷ []) source t p s t 6
     refused-leave f =
@@ -193,7 +160,7 @@ module _ (q : ℕ) (t : List ℕ) (i : ℕ) (w : First (meets Inside q) t i) whe
               (all-append (all-front (EntrySmall p s) xs (e ∷ ys) a) (cons (first-small p s q e (first-of b)) (cons (second-small p s q e (first-of b)) (rest-of b))));
         }
 
-  pub found-filled : Linked t → filled (entryAt t i) ≡ true → CutsDone (q ∷ []) t t 6
+  pub found-filled : Linked t → filled (entryAt t i) ≡ true → CutsDone (q ∷ []) t t 6 0
   found-filled l f = record {
     leave = λ source p s h v. refused-leave source p s h v f;
     readable = λ p s h. h;
@@ -202,12 +169,13 @@ module _ (q : ℕ) (t : List ℕ) (i : ℕ) (w : First (meets Inside q) t i) whe
     linked =
         l;
     count = omega arith;
+    few = omega arith;
     kept = kept-same t;
     none = λ (z : length (q ∷ []) ≡ 0). absurd (omega arith);
     alone = λ _ _. refl;
   }
 
-  pub found-split : Linked t → (t' : List ℕ) → SplitRow t t' i q → filled (entryAt t i) ≡ false → CutsDone (q ∷ []) t t' 0
+  pub found-split : Linked t → (t' : List ℕ) → SplitRow t t' i q → filled (entryAt t i) ≡ false → CutsDone (q ∷ []) t t' 0 1
   found-split l t' d f =
       record {
         leave = λ source p s h v. made-leave source p s h v t' d f;
@@ -216,6 +184,7 @@ module _ (q : ℕ) (t : List ℕ) (i : ℕ) (w : First (meets Inside q) t i) whe
         number = inl refl;
         linked = d .linked;
         count = omega (arith, d .count);
+        few = omega arith;
         kept = split-kept t t' i q l (record { us = w .us; bs = w .bs; place = w .place }) d (not-filled (entryAt t i) f);
         none = λ _. refl;
         alone = λ _ n. absurd (n refl);
@@ -227,8 +196,8 @@ pub stop : (r : ℕ) (m : MagicString) (f : MagicString → Result) → (r ≡ 0
 stop zero m f n = absurd (n refl)
 stop (suc r) m f n = refl
 
-pub cuts-stop : (q : ℕ) (ps : List ℕ) (t t' : List ℕ) (r : ℕ) → CutsDone (q ∷ []) t t' r → (r ≡ 0 → ⊥) → CutsDone (q ∷ ps) t t' r
-cuts-stop q ps t t' r d n =
+pub cuts-stop : (q : ℕ) (ps : List ℕ) (t t' : List ℕ) (r c : ℕ) → CutsDone (q ∷ []) t t' r c → (r ≡ 0 → ⊥) → CutsDone (q ∷ ps) t t' r c
+cuts-stop q ps t t' r c d n =
     record {
       leave = λ source p s h v.
           let k = d .leave source p s h v in
@@ -241,7 +210,8 @@ cuts-stop q ps t t' r d n =
       small = d .small;
       number = d .number;
       linked = d .linked;
-      count = omega (arith, d .count);
+      count = d .count;
+      few = omega (arith, d .few);
       kept = d .kept;
       none = λ (z : length (q ∷ ps) ≡ 0). absurd (omega arith);
       alone = λ _ _. d .alone refl n;
@@ -250,8 +220,8 @@ cuts-stop q ps t t' r d n =
 pub cuts-spans : {ps : List ℕ} {source t p s t' : List ℕ} {r : ℕ} → CutsLeave ps source t p s t' r → r ≡ 0 → Spans source t p s → Spans source t' p s
 cuts-spans {ps} {source} k z v = subst (Cover source) (sym (k .chunks z)) (cover-cut-all ps v)
 
-pub cuts-more : (q : ℕ) (ps : List ℕ) (t t' t'' : List ℕ) (r r' : ℕ) → CutsDone (q ∷ []) t t' r → r ≡ 0 → CutsDone ps t' t'' r' → CutsDone (q ∷ ps) t t'' r'
-cuts-more q ps t t' t'' r r' d z e =
+pub cuts-more : (q : ℕ) (ps : List ℕ) (t t' t'' : List ℕ) (r c r' c' : ℕ) → CutsDone (q ∷ []) t t' r c → r ≡ 0 → CutsDone ps t' t'' r' c' → CutsDone (q ∷ ps) t t'' r' (c + c')
+cuts-more q ps t t' t'' r c r' c' d z e =
     record {
       leave = λ source p s h v.
           let k = d .leave source p s h v in
@@ -266,13 +236,14 @@ cuts-more q ps t t' t'' r r' d z e =
       number = e .number;
       linked = e .linked;
       count = omega (arith, d .count, e .count);
+      few = omega (arith, d .few, e .few);
       kept = kept-then (d .kept) (e .kept);
       none = λ (z : length (q ∷ ps) ≡ 0). absurd (omega arith);
       alone = λ (l : length (q ∷ ps) ≡ 1) n. absurd (n (e .none (omega arith)));
     }
 
-pub cut-roomy : {n : ℕ} {q : ℕ} {t t' : List ℕ} {r : ℕ} → Roomy (suc n) t → CutsDone (q ∷ []) t t' r → length t' ≡ length t → Roomy n t'
-cut-roomy y d e = record { linked = d .linked; room = omega (arith, y .room, d .count); narrow = omega (arith, y .narrow) }
+pub cut-roomy : {n : ℕ} {q : ℕ} {t t' : List ℕ} {r c : ℕ} → Roomy (suc n) t → CutsDone (q ∷ []) t t' r c → length t' ≡ length t → Roomy n t'
+cut-roomy y d e = record { linked = d .linked; room = omega (arith, y .room, d .count, d .few); narrow = omega (arith, y .narrow) }
 
 -- ── a well-formed desk's spans cover the source, and so do the loaded desk's ──
 pub formed-spans : {source t p s : List ℕ} → WellFormed source t p s → Spans source t p s

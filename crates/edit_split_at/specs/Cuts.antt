@@ -23,19 +23,21 @@ filled e = lift.filled e
 abbrev pub Spans : List ℕ → List ℕ → List ℕ → List ℕ → Type 0
 Spans source t p s = Cover source (magicStringOf source t p s .chunks)
 
--- the cuts at ps, one after another, with whatever is done behind them: r is 0 where all are made, or 6
+-- the cuts at ps, one after another, with whatever is done behind them: r is 0 where none is refused, or 6
 pub record CutsLeave (ps : List ℕ) (source t p s t' : List ℕ) (r : ℕ) : Type 0 where
   pub readable : Readable t' p s
   pub result : (step : MagicString → Result) → cuts-then ps step (magicStringOf source t p s) ≡ and-then (err r (magicStringOf source t' p s)) step
   pub chunks : r ≡ 0 → magicStringOf source t' p s .chunks ≡ cut-all ps (magicStringOf source t p s .chunks)
 
-pub record CutsDone (ps : List ℕ) (t t' : List ℕ) (r : ℕ) : Type 0 where
+-- c is how many of them made two chunks
+pub record CutsDone (ps : List ℕ) (t t' : List ℕ) (r c : ℕ) : Type 0 where
   pub leave : (source p s : List ℕ) → Readable t p s → Spans source t p s → CutsLeave ps source t p s t' r
   pub readable : (p s : List ℕ) → Readable t p s → Readable t' p s
   pub small : (p s : List ℕ) → DeskSmall t p s → DeskSmall t' p s
   pub number : (r ≡ 0) ⊎ (r ≡ 6)
   pub linked : Linked t'
-  pub count : countOf t' ≤ countOf t + length ps
+  pub count : countOf t' ≡ countOf t + c
+  pub few : c ≤ length ps
   pub kept : Kept t t'
   -- where there is nothing to cut nothing is refused, and a single cut that is refused writes nothing
   pub none : length ps ≡ 0 → r ≡ 0

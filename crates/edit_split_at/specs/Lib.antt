@@ -1,2 +1,3 @@
 pub mod Lift
 pub mod Cuts
+pub mod Says

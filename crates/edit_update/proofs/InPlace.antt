@@ -97,8 +97,8 @@ text-few : (s : List ℕ) (x : Place) → replacement-bytes (replacementOf s x) 
 unfolding replacementOf
 text-few s x = bool-elim (eqb (x .0) NONE) (λ e. rw e (omega arith)) (λ e. rw e (simp length-take (omega arith)))
 
-module _ {a b : ℕ} {text : List ℕ} {o : Bool} {n m : ℕ} {source t P S t' S' : List ℕ} {l : Used} {r : ℕ} (w : WellFormed source t P S) (lv : Above t P S l)
-    (rm : Room (length t) (length P) (length S) l m (length text)) (x : UpdateSteps a b text o n (l .byte) t S t' S' r) where
+module _ {a b : ℕ} {text : List ℕ} {o : Bool} {n m : ℕ} {source t P S t' S' : List ℕ} {l : Used} {r c : ℕ} (w : WellFormed source t P S) (lv : Above t P S l)
+    (rm : Room (length t) (length P) (length S) l m (length text)) (x : UpdateSteps a b text o n (l .byte) t S t' S' r c) where
   -- the rows and bytes in use
   abbrev rows-used : List ℕ
   rows-used = take (l .row * 2) P
@@ -154,14 +154,14 @@ module _ {a b : ℕ} {text : List ℕ} {o : Bool} {n m : ℕ} {source t P S t' S
 
     -- ── the call ──
     pub update-top-ran : a < b → m ≡ countOf t + 2 → refused-before (magicStringOf source t P S) (update-with a b text o) ≡ 0 → length t' ≡ length t → length S' ≡ length S
-        → Ran (update-with a b text o) source t P S t' P S' r
+        → Ran (update-with a b text o) source t P S t' P S' r c
     update-top-ran ab em h lt ls =
         let same = read-below t P S (l .row) (l .byte) (lv .readable) source in
-        let g : Did (update-past a b text o) source t rows-used bytes-used t' P S' r =
-        subst (λ (u : List ℕ). Did (update-past a b text o) source t rows-used bytes-used t' u S' r) (take-append-drop (l .row * 2) P)
+        let g : Did (update-past a b text o) source t rows-used bytes-used t' P S' r c =
+        subst (λ (u : List ℕ). Did (update-past a b text o) source t rows-used bytes-used t' u S' r c) (take-append-drop (l .row * 2) P)
         (steps-did x no-13 source rows-used bytes-used (drop (l .row * 2) P) (drop (l .byte) S) ln (lv .readable) spans (sym (take-append-drop (l .byte) S)) (length-take-le (l .byte) S (lv .byte))) in
         ran-in-place w h
-        (record { readable = g .readable; result = update-is a b text o (magicStringOf source t P S) ab ∙ ap (update-past a b text o) same ∙ g .result })
+        (record { readable = g .readable; result = update-is a b text o (magicStringOf source t P S) ab ∙ ap (update-past a b text o) same ∙ g .result; cuts = g .cuts })
         (x .writes no-13)
         (record { chunks = lt; pieces = refl; store = ls })
         (x .replaced .each (w .each))
@@ -169,7 +169,7 @@ module _ {a b : ℕ} {text : List ℕ} {o : Bool} {n m : ℕ} {source t P S t' S
         (replaced-within (omega (arith, x .count, rm .chunks)))
 
     -- the bound that the call hands back
-    pub update-top-above : {out : Outcome} {end : ℕ} → length S' ≡ length S → end ≡ l .byte + length text → Settled r l end out → Above t' P S' (out .used)
+    pub update-top-above : {out : Outcome} {end : ℕ} → length S' ≡ length S → end ≡ l .byte + length text → Settled r c l end out → Above t' P S' (out .used)
     update-top-above {end = end} ls ee q =
         elim (ℕ-discrete r 0) [
           | yes e ↦ rw (q .came e) (stored-above ls end (omega (arith, ap length (stored-text r text e))))

@@ -5,17 +5,21 @@ ghost use Rattle.model.specs.Call.{update-with, refused-before};
 ghost use Rattle.memory.specs.Layout.{magicStringOf};
 ghost use Rattle.memory_used.specs.Above.{Desk, Leaves};
 ghost use Rattle.edit_update.specs.Calls.{Settled};
+use memory::Answer;
 use memory_layout::numbers;
 use memory_used::Outcome;
 use memory_used::Used;
 
 // The outcome of steps on the lent tables: a text that they stored ends at `end`.
-fn settled(number: u32, used: Used, end: usize) -> Outcome
-    ensures { λ o. ⌜ Settled number used end o ⌝ }
+fn settled(steps: Answer, used: Used, end: usize) -> Outcome
+    ensures { λ o. ⌜ Settled (steps .number) (steps .value) used end o ⌝ }
 {
+    let number = steps.number;
+    let cuts = steps.value;
     if number == 0 {
         return Outcome {
             number,
+            cuts,
             used: Used {
                 pieces: used.pieces,
                 row: used.row,
@@ -23,7 +27,7 @@ fn settled(number: u32, used: Used, end: usize) -> Outcome
             },
         };
     }
-    Outcome { number, used }
+    Outcome { number, cuts, used }
 }
 
 // `update_with` past 5 and 4: on the lent tables themselves where 13 cannot arise and there is room above all texts in use; else on scratch tables.
@@ -53,7 +57,7 @@ fn update_either(
         pieces.len(),
         store.len(),
     ) {
-        let number = edit_update_steps::update_steps(
+        let steps = edit_update_steps::update_steps(
             text,
             chunks,
             store,
@@ -63,7 +67,7 @@ fn update_either(
             overwrite,
             used.byte,
         );
-        return settled(number, used, used.byte + text.len());
+        return settled(steps, used, used.byte + text.len());
     }
     edit_update_scratch::update_scratch(source, chunks, pieces, store, start, end, text, overwrite)
 }
@@ -89,12 +93,14 @@ pub fn update_with(
             if start == end {
                 return Outcome {
                     number: numbers::ZERO_WIDTH,
+                    cuts: 0,
                     used,
                 };
             }
             if end < start {
                 return Outcome {
                     number: numbers::END_BEFORE_START,
+                    cuts: 0,
                     used,
                 };
             }
@@ -112,11 +118,13 @@ pub fn update_with(
         }
         return Outcome {
             number: numbers::INSIDE_CHARACTER,
+            cuts: 0,
             used,
         };
     }
     Outcome {
         number: numbers::NOT_UTF8,
+        cuts: 0,
         used,
     }
 }

@@ -31,7 +31,7 @@ fn update_by(
         (now (chunks .exit)) (now (pieces .exit)) (now (store .exit)) o ⌝ }
 {
     edit_scratch::load(chunks, pieces, store, t, p, s);
-    let r = edit_update_steps::update_steps(
+    let steps = edit_update_steps::update_steps(
         text,
         t,
         s,
@@ -41,10 +41,10 @@ fn update_by(
         overwrite,
         store.len(),
     );
-    if r == numbers::LIMIT {
-        return edit_room_above::counted(chunks, pieces, store, r);
+    if steps.number == numbers::LIMIT {
+        return edit_room_above::counted(chunks, pieces, store, steps);
     }
-    edit_room_above::finish(t, p, s, chunks, pieces, store, r)
+    edit_room_above::finish(t, p, s, chunks, pieces, store, steps)
 }
 
 // The same with scratch tables of its own.

@@ -44,24 +44,30 @@ busy : (a b : ℕ) (text : List ℕ) (o : Bool) → idle (update-with a b text o
 busy a b text o = refl
 
 -- steps that store nothing
-kept : {f : MagicString → Result} {source t p s t' : List ℕ} {r : ℕ} (y z : List ℕ) → Did f source t p s t' p s r → Did f source t p s t' (p ++ y) (s ++ z) r
+kept : {f : MagicString → Result} {source t p s t' : List ℕ} {r c : ℕ} (y z : List ℕ) → Did f source t p s t' p s r c → Did f source t p s t' (p ++ y) (s ++ z) r c
 kept {source = source} {p = p} {s = s} {t' = t'} {r = r} y z d =
     let g = desk-front p s y z t' (d .readable) in
-    record { readable = g .0; result = d .result ∙ ap (err r) (sym (g .1 source)) }
+    record { readable = g .0; result = d .result ∙ ap (err r) (sym (g .1 source)); cuts = d .cuts }
 
-module _ (a b : ℕ) (text : List ℕ) (o : Bool) (n at : ℕ) (t t1 s1 : List ℕ) (r : ℕ) (c : CutsDone (a ∷ b ∷ []) t t1 r) where
-  pub update-refused : (r ≡ 0 → ⊥) → UpdateSteps a b text o n at t s1 t1 s1 r
+module _ (a b : ℕ) (text : List ℕ) (o : Bool) (n at : ℕ) (t t1 s1 : List ℕ) (r v : ℕ) (c : CutsDone (a ∷ b ∷ []) t t1 r v) where
+  pub update-refused : (r ≡ 0 → ⊥) → UpdateSteps a b text o n at t s1 t1 s1 r v
   update-refused h =
       record {
         leave = λ _ source p s y z ln rd sp ls.
             let k = c .leave source p s rd sp in
             rw (stored-none r text h)
-            (kept y z (record { readable = k .readable; result = k .result (update-step a b text o) ∙ stop r (magicStringOf source t1 p s) (update-step a b text o) h }));
+            (kept y z
+            (record {
+              readable = k .readable;
+              result = k .result (update-step a b text o) ∙ stop r (magicStringOf source t1 p s) (update-step a b text o) h;
+              cuts = c .count;
+            }));
         long = λ z. absurd (⊎-elim {C = ⊥} (λ (w : r ≡ 0). h w) (λ (w : r ≡ 6). omega arith) (c .number));
+        no-cuts = λ z. absurd (⊎-elim {C = ⊥} (λ (w : r ≡ 0). h w) (λ (w : r ≡ 6). omega arith) (c .number));
         writes = λ _. ⊎-elim {C = may-write (update-with a b text o) r ≡ true} (λ (w : r ≡ 0). absurd (h w)) (λ (w : r ≡ 6). rw w (may-write-leaving (update-with a b text o) 5 refl)) (c .number);
         short = λ _ z. ⊎-elim {C = ⊥} (λ (w : r ≡ 0). h w) (λ (w : r ≡ 6). omega arith) (c .number);
         replaced = kept-replaced (at, length text) (c .kept);
-        count = c .count;
+        count = omega (arith, c .count, c .few);
         store = over-nil s1 at ∙ ap (over s1 at) (sym (stored-none r text h));
       }
 
@@ -73,7 +79,7 @@ module _ (a b : ℕ) (text : List ℕ) (o : Bool) (n at : ℕ) (t t1 s1 : List �
     size : (source p s : List ℕ) → length source ≡ n → length (magicStringOf source t1 p s .source) ≡ n
     size source p s ln = ap length (source-of source t1 p s) ∙ ln
 
-    pub update-either-end : n < b → UpdateSteps a b text o n at t s1 t1 s1 10
+    pub update-either-end : n < b → UpdateSteps a b text o n at t s1 t1 s1 10 v
     update-either-end h =
         record {
           leave = λ _ source p s y z ln rd sp ls.
@@ -81,12 +87,14 @@ module _ (a b : ℕ) (text : List ℕ) (o : Bool) (n at : ℕ) (t t1 s1 : List �
               (record {
                 readable = c .readable p s rd;
                 result = cut source p s rd sp ∙ rw (lt-ltb (length (magicStringOf source t1 p s .source)) b (omega (arith, size source p s ln)));
+                cuts = c .count;
               });
           long = λ z. absurd (omega arith);
+          no-cuts = λ z. absurd (omega arith);
           writes = λ _. may-write-10 a b text o;
           short = λ _ z. omega arith;
           replaced = kept-replaced (at, length text) (c .kept);
-          count = c .count;
+          count = omega (arith, c .count, c .few);
           store = over-nil s1 at;
         }
 
@@ -95,7 +103,7 @@ module _ (a b : ℕ) (text : List ℕ) (o : Bool) (n at : ℕ) (t t1 s1 : List �
           update-chunks a b text o (magicStringOf source t1 p s)
       inside source p s ln rd sp = cut source p s rd sp ∙ rw (le-ltb (length (magicStringOf source t1 p s .source)) b (omega (arith, size source p s ln)))
 
-      pub update-broken : (t2 : List ℕ) → Walked a b t1 t2 Nothing → UpdateSteps a b text o n at t s1 t2 s1 7
+      pub update-broken : (t2 : List ℕ) → Walked a b t1 t2 Nothing → UpdateSteps a b text o n at t s1 t2 s1 7 v
       update-broken t2 d =
           record {
             leave = λ _ source p s y z ln rd sp ls.
@@ -104,12 +112,14 @@ module _ (a b : ℕ) (text : List ℕ) (o : Bool) (n at : ℕ) (t t1 s1 : List �
                 (record {
                   readable = walked-readable a b text o source p s t1 t2 rd1 d;
                   result = inside source p s ln rd sp ∙ walk-refused a b text o source p s t1 t2 rd1 d (d .ended);
+                  cuts = omega (arith, c .count, walked-count d);
                 });
             long = λ z. absurd (omega arith);
+            no-cuts = λ z. absurd (omega arith);
             writes = λ _. may-write-leaving (update-with a b text o) 6 refl;
             short = λ _ z. omega arith;
             replaced = kept-replaced (at, length text) (kept-then (c .kept) (walked-kept d));
-            count = omega (arith, c .count, walked-count d);
+            count = omega (arith, c .count, c .few, walked-count d);
             store = over-nil s1 at;
           }
 
@@ -118,7 +128,7 @@ module _ (a b : ℕ) (text : List ℕ) (o : Bool) (n at : ℕ) (t t1 s1 : List �
             → update-past a b text o (magicStringOf source t p s) ≡ ok (with-chunks (magicStringOf source t2 p s) (at-start a (edit text o) (magicStringOf source t2 p s .chunks)))
         came source p s ln rd sp = inside source p s ln rd sp ∙ walk-done a b text o source p s t1 t2 (c .readable p s rd) d (d .ended .0)
 
-        pub update-long : STORE-LEN < length text → UpdateSteps a b text o n at t s1 t2 s1 13
+        pub update-long : STORE-LEN < length text → UpdateSteps a b text o n at t s1 t2 s1 13 0
         update-long l =
             record {
               leave = λ k. absurd (k refl);
@@ -126,14 +136,15 @@ module _ (a b : ℕ) (text : List ℕ) (o : Bool) (n at : ℕ) (t t1 s1 : List �
                   ap (λ (x : Result). within full (x .desk)) (came source p s ln rd sp)
                   ∙ past-bytes (with-chunks (magicStringOf source t2 p s) (at-start a (edit text o) (magicStringOf source t2 p s .chunks)))
                   (omega (arith, edited-big a o text p s t2 i (d .ended .1) source));
+              no-cuts = λ _. refl;
               writes = λ k. absurd (k refl);
               short = λ k _. omega arith;
               replaced = kept-replaced (at, length text) (kept-then (c .kept) (walked-kept d));
-              count = omega (arith, c .count, walked-count d);
+              count = omega (arith, c .count, c .few, walked-count d);
               store = over-nil s1 at;
             }
 
-        pub update-done : (t3 s3 : List ℕ) → at ≤ STORE-LEN → FirstEdited o at text t2 s1 t3 s3 i → length t3 ≡ length t2 → UpdateSteps a b text o n at t s1 t3 s3 0
+        pub update-done : (t3 s3 : List ℕ) → at ≤ STORE-LEN → FirstEdited o at text t2 s1 t3 s3 i → length t3 ≡ length t2 → UpdateSteps a b text o n at t s1 t3 s3 0 v
         update-done t3 s3 few f len =
             record {
               leave = λ _ source p s y z ln rd sp ls.
@@ -141,12 +152,14 @@ module _ (a b : ℕ) (text : List ℕ) (o : Bool) (n at : ℕ) (t t1 s1 : List �
                   record {
                     readable = edit-readable a o at text p s y z t2 t3 i (f .row) (d .ended .1) rd2 few ls (f .edited) (f .put) len;
                     result = came source p s ln rd sp ∙ ap ok (sym (edit-desk a o at text p s y z t2 t3 i (f .row) (d .ended .1) rd2 few ls (f .edited) (f .put) len source));
+                    cuts = omega (arith, c .count, walked-count d, edited-count first f (d .linked) len);
                   };
               long = λ z. absurd (omega arith);
+              no-cuts = λ z. absurd (omega arith);
               writes = λ _. may-write-0 (update-with a b text o) (busy a b text o);
               short = λ _ z. omega arith;
               replaced = replaced-then (kept-then (c .kept) (walked-kept d)) (edited-replaced first f (d .linked) len);
-              count = omega (arith, c .count, walked-count d, edited-count first f (d .linked) len);
+              count = omega (arith, c .count, c .few, walked-count d, edited-count first f (d .linked) len);
               store = f .store;
             }
           where
@@ -154,8 +167,8 @@ module _ (a b : ℕ) (text : List ℕ) (o : Bool) (n at : ℕ) (t t1 s1 : List �
             first = let w = d .ended .1 in record { us = w .us; bs = w .bs; place = w .place }
 
 -- what they leave in a store that began with all texts in use
-pub steps-did : {a b : ℕ} {text : List ℕ} {o : Bool} {n at : ℕ} {t s1 t' s1' : List ℕ} {r : ℕ} → UpdateSteps a b text o n at t s1 t' s1' r → (r ≡ 13 → ⊥)
-    → (source p s y z : List ℕ) → length source ≡ n → Readable t p s → Spans source t p s → s1 ≡ s ++ z → length s ≡ at → Did (update-past a b text o) source t p s t' (p ++ y) s1' r
+pub steps-did : {a b : ℕ} {text : List ℕ} {o : Bool} {n at : ℕ} {t s1 t' s1' : List ℕ} {r c : ℕ} → UpdateSteps a b text o n at t s1 t' s1' r c → (r ≡ 13 → ⊥)
+    → (source p s y z : List ℕ) → length source ≡ n → Readable t p s → Spans source t p s → s1 ≡ s ++ z → length s ≡ at → Did (update-past a b text o) source t p s t' (p ++ y) s1' r c
 steps-did {text = text} {at = at} {r = r} x k source p s y z ln rd sp e ls =
     let q = x .store ∙ ap (λ (l : List ℕ). over l at (stored r text)) e ∙ over-behind s z (stored r text) at (sym ls) in
     rw q (x .leave k source p s y (drop (length (stored r text)) z) ln rd sp ls)

@@ -23,11 +23,12 @@ abbrev pub stored : ℕ → List ℕ → List ℕ
 stored r text = cond (eqb r 0) text []
 
 -- all texts in use stand in s, and what is stored goes to the byte behind it; y and z stand behind all that is in use
-pub record UpdateSteps (a b : ℕ) (text : List ℕ) (o : Bool) (n at : ℕ) (t s1 t' s1' : List ℕ) (r : ℕ) : Type 0 where
+pub record UpdateSteps (a b : ℕ) (text : List ℕ) (o : Bool) (n at : ℕ) (t s1 t' s1' : List ℕ) (r c : ℕ) : Type 0 where
   pub leave : (r ≡ 13 → ⊥) → (source p s y z : List ℕ) → length source ≡ n → Readable t p s → Spans source t p s → length s ≡ at
-      → Did (update-past a b text o) source t p s t' (p ++ y) (s ++ (stored r text ++ z)) r
+      → Did (update-past a b text o) source t p s t' (p ++ y) (s ++ (stored r text ++ z)) r c
   pub long : r ≡ 13 → (source p s : List ℕ) → length source ≡ n → Readable t p s → Spans source t p s
       → within full (update-past a b text o (magicStringOf source t p s) .desk) ≡ false
+  pub no-cuts : r ≡ 13 → c ≡ 0
   pub writes : (r ≡ 13 → ⊥) → may-write (update-with a b text o) r ≡ true
   pub short : length text ≤ STORE-LEN → r ≡ 13 → ⊥
   pub replaced : Replaced t t' (at, length text)

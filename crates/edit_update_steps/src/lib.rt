@@ -8,6 +8,7 @@ ghost use Rattle.edit_update_steps.specs.Walk.{Emptied, RunCleared, Walk
 ghost use Rattle.edit_scratch.specs.Tables.{Roomy};
 ghost use Rattle.edit_update_steps.specs.Steps.{EditedRow, FirstEdited};
 ghost use Rattle.edit_update_steps.specs.Stored.{UpdateSteps};
+use memory::Answer;
 use memory_layout::numbers;
 use memory_list::Found;
 use memory_list::Key;
@@ -111,25 +112,29 @@ pub fn update_steps(
     end: u32,
     overwrite: bool,
     byte: usize,
-) -> u32
+) -> Answer
     requires { ⌜ Roomy 2 (now t) ⌝ }
     requires { ⌜ byte ≤ STORE-LEN ⌝ }
     requires { ⌜ (length (now text) ≤ STORE-LEN → byte + length (now text) ≤ length (now s)) ⌝ }
-    ensures { λ r. ⌜ UpdateSteps start end (now (text .entry)) overwrite len byte (now (t .entry)) (now (s .entry)) (now (t .exit)) (now (s .exit)) r ⌝ }
+    ensures { λ r. ⌜ UpdateSteps start end (now (text .entry)) overwrite len byte (now (t .entry)) (now (s .entry)) (now (t .exit)) (now (s .exit)) (r .number) (r .value) ⌝ }
 {
-    let r = edit_split_at::split_both(t, start, end);
-    if r != 0 {
-        return r;
+    let mut answer = edit_split_at::split_both(t, len, start, end);
+    if answer.number != 0 {
+        return answer;
     }
     if len < end as usize {
-        return numbers::PAST_SOURCE;
+        answer.number = numbers::PAST_SOURCE;
+        return answer;
     }
     let Found::At(i) = update_walk(t, start, end) else {
-        return numbers::ACROSS_MOVED_EDGE;
+        answer.number = numbers::ACROSS_MOVED_EDGE;
+        return answer;
     };
     if text.len() > memory_layout::STORE_LEN {
-        return numbers::LIMIT;
+        answer.number = numbers::LIMIT;
+        answer.value = 0;
+        return answer;
     }
     edit_first(text, t, s, i, overwrite, byte);
-    0
+    answer
 }

@@ -10,10 +10,10 @@ use native.Mathlib.Numerals.{add-one}
 use borrow.Author.Tests.{eq-eqb, ne-eqb}
 use Rattle.utf8.specs.Rfc3629.{utf8, between}
 use Rattle.model.specs.Text.{Text, TAB, all, is-nil}
-use Rattle.model.specs.MagicString.{MagicString, ok}
+use Rattle.model.specs.MagicString.{ok}
 use Rattle.model.specs.Indent.{get-indent-string, indent-by}
 use Rattle.model.specs.Indent as indent-rs
-use Rattle.model.specs.Call.{Edit, indent-with, options-valid, refused-before}
+use Rattle.model.specs.Call.{indent-with, options-valid}
 use Rattle.model.proofs.Lists.{nil-true}
 use Rattle.memory.specs.Layout.{magicStringOf}
 use Rattle.memory.specs.WellFormed.{WellFormed}
@@ -21,7 +21,7 @@ use Rattle.memory.specs.Calls.{Ran, indentor-of}
 use Rattle.memory.proofs.Desks.{source-of}
 use Rattle.memory_used.specs.declared.Outcome.{Outcome}
 use Rattle.memory_used.specs.Above.{Leaves}
-use Rattle.edit_scratch.proofs.Tables.{ran-before, ran-same, refused-1, refused-3, not-refused}
+use Rattle.edit_scratch.proofs.Tables.{refused-15, ran-before, ran-same, refused-1, refused-3, not-refused}
 use Rattle.report_indent_string.specs.declared.Indentor.{Indentor}
 use Rattle.report_indent_string.specs.Guess.{indentor-text, Guessed}
 use Rattle.indent_scratch.specs.Ran.{IndentRan}
@@ -44,10 +44,6 @@ module _ (f : ℕ → Bool) (l : List ℕ) (i : ℕ) (e : all f l ≡ all f (dro
 
 -- ---- the tests: 15, 1, 3
 
-refused-15 : (e : Edit) (m : MagicString) → options-valid e ≡ false → refused-before m e ≡ 15
-unfolding refused-before
-refused-15 e m h = rw h
-
 pub even-options : (exclude : List ℕ) → length exclude % 2 ≡ 0 → options-valid (indent-with none exclude) ≡ true
 even-options exclude h = eq-eqb (length exclude % 2) 0 h
 
@@ -60,38 +56,38 @@ module _ (has : Bool) (indentor : Text) {exclude source t p s t' p' s' : List �
   with-none e x = subst (λ (b : Bool). Leaves (indent-with (indentor-of b indentor) exclude) source t p s t' p' s' o) (sym e) x
 
 module _ {source t p s : List ℕ} (w : WellFormed source t p s) where
-  pub odd-refused : (i : Option Text) (exclude : List ℕ) → (length exclude % 2 ≡ 0 → ⊥) → Ran (indent-with i exclude) source t p s t p s 15
+  pub odd-refused : (i : Option Text) (exclude : List ℕ) → (length exclude % 2 ≡ 0 → ⊥) → Ran (indent-with i exclude) source t p s t p s 15 0
   odd-refused i exclude n =
       ran-before (indent-with i exclude) source t p s 14 15 w (refused-15 (indent-with i exclude) (magicStringOf source t p s) (ne-eqb (length exclude % 2) 0 n)) refl
 
   module _ (exclude : List ℕ) (o : options-valid (indent-with none exclude) ≡ true) where
-    pub none-inside : all (between source) exclude ≡ false → Ran (indent-with none exclude) source t p s t p s 3
+    pub none-inside : all (between source) exclude ≡ false → Ran (indent-with none exclude) source t p s t p s 3 0
     none-inside k = ran-before (indent-with none exclude) source t p s 2 3 w (refused-3 (indent-with none exclude) source t p s o refl k) refl
 
     -- the guess
-    pub none-ran : all (between source) exclude ≡ true → (indentor : Text) → indentor ≡ get-indent-string source → {t' p' s' : List ℕ} {r : ℕ}
-        → IndentRan indentor exclude source t p s t' p' s' r → Ran (indent-with none exclude) source t p s t' p' s' r
+    pub none-ran : all (between source) exclude ≡ true → (indentor : Text) → indentor ≡ get-indent-string source → {t' p' s' : List ℕ} {r c : ℕ}
+        → IndentRan indentor exclude source t p s t' p' s' r c → Ran (indent-with none exclude) source t p s t' p' s' r c
     unfolding indent-rs.indent-with
     none-ran k indentor g f =
         f (indent-with none exclude) (not-refused (indent-with none exclude) source t p s o refl k)
         (ap (λ (x : Text). indent-by x exclude (magicStringOf source t p s)) (ap get-indent-string (source-of source t p s) ∙ sym g)) refl
 
     module _ (indentor : Text) where
-      pub given-invalid : utf8 indentor ≡ false → Ran (indent-with (some indentor) exclude) source t p s t p s 1
+      pub given-invalid : utf8 indentor ≡ false → Ran (indent-with (some indentor) exclude) source t p s t p s 1 0
       given-invalid h = ran-before (indent-with (some indentor) exclude) source t p s 0 1 w (refused-1 (indent-with (some indentor) exclude) source t p s o (rw h)) refl
 
-      pub given-inside : utf8 indentor ≡ true → all (between source) exclude ≡ false → Ran (indent-with (some indentor) exclude) source t p s t p s 3
+      pub given-inside : utf8 indentor ≡ true → all (between source) exclude ≡ false → Ran (indent-with (some indentor) exclude) source t p s t p s 3 0
       given-inside h k = ran-before (indent-with (some indentor) exclude) source t p s 2 3 w (refused-3 (indent-with (some indentor) exclude) source t p s o (rw h) k) refl
 
       -- an empty indentor
-      pub given-empty : utf8 indentor ≡ true → all (between source) exclude ≡ true → length indentor ≡ 0 → Ran (indent-with (some indentor) exclude) source t p s t p s 0
+      pub given-empty : utf8 indentor ≡ true → all (between source) exclude ≡ true → length indentor ≡ 0 → Ran (indent-with (some indentor) exclude) source t p s t p s 0 0
       unfolding indent-rs.indent-with
       given-empty h k z =
           ran-same (indent-with (some indentor) exclude) source t p s 0 w (not-refused (indent-with (some indentor) exclude) source t p s o (rw h) k)
           (ap (λ (b : Bool). cond b (ok (magicStringOf source t p s)) (indent-by indentor exclude (magicStringOf source t p s))) (nil-true indentor z))
 
-      pub given-ran : utf8 indentor ≡ true → all (between source) exclude ≡ true → (length indentor ≡ 0 → ⊥) → {t' p' s' : List ℕ} {r : ℕ}
-          → IndentRan indentor exclude source t p s t' p' s' r → Ran (indent-with (some indentor) exclude) source t p s t' p' s' r
+      pub given-ran : utf8 indentor ≡ true → all (between source) exclude ≡ true → (length indentor ≡ 0 → ⊥) → {t' p' s' : List ℕ} {r c : ℕ}
+          → IndentRan indentor exclude source t p s t' p' s' r c → Ran (indent-with (some indentor) exclude) source t p s t' p' s' r c
       unfolding indent-rs.indent-with
       given-ran h k z f =
           f (indent-with (some indentor) exclude) (not-refused (indent-with (some indentor) exclude) source t p s o (rw h) k)

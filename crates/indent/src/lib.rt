@@ -83,7 +83,11 @@ fn by_given(
     if utf8::valid(indentor) {
         if positions_between(source, exclude) {
             if indentor.len() == 0 {
-                return Outcome { number: 0, used };
+                return Outcome {
+                    number: 0,
+                    cuts: 0,
+                    used,
+                };
             }
             return indent_scratch::indent_scratch(
                 source,
@@ -97,11 +101,13 @@ fn by_given(
         }
         return Outcome {
             number: numbers::INSIDE_CHARACTER,
+            cuts: 0,
             used,
         };
     }
     Outcome {
         number: numbers::NOT_UTF8,
+        cuts: 0,
         used,
     }
 }
@@ -125,6 +131,7 @@ pub fn indent_with(
     if exclude.len() % 2 != 0 {
         return Outcome {
             number: numbers::BAD_OPTION,
+            cuts: 0,
             used,
         };
     }
@@ -136,6 +143,7 @@ pub fn indent_with(
     }
     Outcome {
         number: numbers::INSIDE_CHARACTER,
+        cuts: 0,
         used,
     }
 }

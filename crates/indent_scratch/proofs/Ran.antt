@@ -1,10 +1,11 @@
 -- Laws of what `Ran` in specs/ defines.
-use mathlib.Core.Path.{_≡_, sym, ap, _∙_, subst}
+use mathlib.Core.Path.{_≡_, refl, sym, ap, _∙_, subst}
 use mathlib.Core.List.{List}
 use mathlib.Core.Logic.{⊎-elim}
-use Prim.Native.Nat.{ℕ}
+use Prim.Native.Nat.{ℕ, _+_, _-_, _≤_}
 use native.Mathlib.Omega.{arith}
 use lib.ListN.{length, drop, length-append, length-drop}
+use Rattle.memory_table.specs.Order.{countOf}
 use Rattle.model.specs.MagicString.{Result}
 use Rattle.model.specs.Limits.{full, within}
 use Rattle.model.specs.Indent.{indent-by}
@@ -13,7 +14,7 @@ use Rattle.memory.specs.WellFormed.{Readable, WellFormed}
 use Rattle.memory.proofs.Desks.{desk-full}
 use Rattle.edit_rebuild.specs.Rebuilt.{Finished}
 use Rattle.edit_scratch.specs.Loaded.{Loaded}
-use Rattle.edit_scratch.proofs.Tables.{loaded-readable, loaded-desk, ran-past-limits, ran-finished, may-write-0}
+use Rattle.edit_scratch.proofs.Tables.{loaded-readable, loaded-desk, loaded-count, ran-past-limits, ran-finished, may-write-0}
 use Rattle.indent_turns.specs.Steps.{StepsReady, IndentSteps}
 use Rattle.indent_scratch.specs.Ran.{IndentScratch, IndentRan}
 
@@ -46,15 +47,23 @@ module _ {indentor exclude source t p s t₀ p₀ s₀ t1 p1 s1 t2 p2 s2 : List 
   pub indent-readable : (r ≡ 13 → ⊥) → Readable t2 p2 s2
   indent-readable n = x .did (not-13 n) .readable
 
-  pub indent-past : r ≡ 13 → IndentRan indentor exclude source t p s t p s 13
+  pub indent-past : r ≡ 13 → IndentRan indentor exclude source t p s t p s 13 0
   indent-past z e h q i =
       ran-past-limits e source t p s w h
       (ap (λ (y : Result). within full (y .desk)) (q ∙ ap (indent-by indentor exclude) (sym (loaded-desk w (f .scratch) d))) ∙ x .past z)
 
-  pub indent-ran : {t' p' s' : List ℕ} {r' : ℕ} → (r ≡ 13 → ⊥) → Finished t2 p2 s2 t p s t' p' s' r r' → IndentRan indentor exclude source t p s t' p' s' r'
-  indent-ran {t'} {p'} {s'} {r'} n y e h q i =
+  -- the chunks that the walk added
+  grown : (r ≡ 13 → ⊥) → (c : ℕ) → c ≡ countOf t2 - countOf t → countOf t2 ≡ countOf t + c
+  grown n c e = omega (arith, x .did (not-13 n) .cuts, loaded-count w (f .scratch) d)
+
+  pub indent-some : (r ≡ 13 → ⊥) → countOf t ≤ countOf t2
+  indent-some n = omega (arith, grown n (countOf t2 - countOf t) refl)
+
+  pub indent-ran : {t' p' s' : List ℕ} {c r' c' : ℕ} → (r ≡ 13 → ⊥) → c ≡ countOf t2 - countOf t → Finished t2 p2 s2 t p s t' p' s' r c r' c'
+      → IndentRan indentor exclude source t p s t' p' s' r' c'
+  indent-ran {t'} {p'} {s'} {c} {r'} {c'} n k y e h q i =
       let g = x .did (not-13 n) in
-      let z : Finished t2 p2 s2 t p s t' p' s' 0 r' = subst (λ (k : ℕ). Finished t2 p2 s2 t p s t' p' s' k r') (not-13 n) y in
+      let z : Finished t2 p2 s2 t p s t' p' s' 0 c r' c' = subst (λ (k : ℕ). Finished t2 p2 s2 t p s t' p' s' k c r' c') (not-13 n) y in
       ran-finished w h
-      (record { readable = g .readable; result = q ∙ ap (indent-by indentor exclude) (sym (loaded-desk w (f .scratch) d)) ∙ g .result })
+      (record { readable = g .readable; result = q ∙ ap (indent-by indentor exclude) (sym (loaded-desk w (f .scratch) d)) ∙ g .result; cuts = grown n c k })
       (may-write-0 e i) z

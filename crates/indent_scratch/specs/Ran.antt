@@ -18,7 +18,7 @@ pub record IndentScratch (t p s : List ℕ) : Type 0 where
   pub store : length s ≡ INDENT-STORE-LEN
 
 -- any call whose steps are an indent by this indentor, and which is not refused before them
-abbrev pub IndentRan : List ℕ → List ℕ → List ℕ → List ℕ → List ℕ → List ℕ → List ℕ → List ℕ → List ℕ → ℕ → Type 0
-IndentRan indentor exclude source t p s t' p' s' r =
+abbrev pub IndentRan : List ℕ → List ℕ → List ℕ → List ℕ → List ℕ → List ℕ → List ℕ → List ℕ → List ℕ → ℕ → ℕ → Type 0
+IndentRan indentor exclude source t p s t' p' s' r c =
     (e : Edit) → refused-before (magicStringOf source t p s) e ≡ 0 → steps e (magicStringOf source t p s) ≡ indent-by indentor exclude (magicStringOf source t p s) → idle e ≡ false
-    → Ran e source t p s t' p' s' r
+    → Ran e source t p s t' p' s' r c

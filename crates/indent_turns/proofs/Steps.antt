@@ -21,7 +21,7 @@ use Rattle.model.specs.WellFormed as model
 use Rattle.model.proofs.Lists.{concat-sum, and-left, and-right}
 use Rattle.memory.specs.Layout.{Place, runOf, chunkOf, magicStringOf}
 use Rattle.memory.specs.WellFormed.{RunIn, ReplacementIn, EntryIn}
-use Rattle.memory.proofs.Desks.{piece-front, desk-same}
+use Rattle.memory.proofs.Desks.{chunk-count, piece-front, desk-same}
 use Rattle.memory_texts.proofs.Texts.{run-length}
 use Rattle.memory_used.specs.Below.{Below}
 use Rattle.edit_scratch.proofs.Front.{chunks-front}
@@ -31,7 +31,7 @@ use Rattle.memory_texts.proofs.Low.{entries-same, entries-still}
 use Rattle.model_indent_closed.specs.Indent.{indented-chunks}
 use Rattle.model_indent_closed.specs.Indent.{indented}
 use Rattle.model_indent_closed.proofs.Walk.{indent-by-closed}
-use Rattle.model_indent_closed.proofs.Growth.{past-chunks, past-bytes}
+use Rattle.model_indent_closed.proofs.Growth.{desk-grows, past-chunks, past-bytes}
 use Rattle.indent_head_tail.specs.Own.{Runs, OwnReady, OwnDone}
 use Rattle.indent_head_tail.proofs.Own.{OwnIndented}
 use Rattle.indent_chunks.specs.Walk.{chunksOf, closedOf, bodyOf}
@@ -237,6 +237,12 @@ module _ (indentor exclude source t p s p1 s1 : List ℕ) (w : StepsReady source
         steps-rest =
             record {
               zero-or = x .zero-or;
-              did = λ z. let g = x .done z in record { readable = g .readable; result = closed-is ∙ ap ok (sym left-is ∙ sym (g .desk)) };
+              did = λ z.
+                  let g = x .done z in
+                  record {
+                    readable = g .readable;
+                    result = closed-is ∙ ap ok (sym left-is ∙ sym (g .desk));
+                    cuts = omega (arith, chunk-count source t p s, chunk-count source t4 p4 s4, ap (λ (d : MagicString). length (d .chunks)) (g .desk ∙ left-is), desk-grows indentor exclude m);
+                  };
               past = λ z. past-is (ap (within full) (sym left-is) ∙ past-rest (x .past z));
             }

@@ -25,6 +25,9 @@ struct Call {
 // The words of a call.
 const WORDS: usize = 6;
 
+// The bit of a call's answer from which its cuts stand, behind its number.
+const CUTS: u32 = 8;
+
 // The most calls that an answer can count.
 const MOST: usize = 0xFFFF_FFFF;
 
@@ -124,7 +127,11 @@ fn make(
         8..=10 => edit_text(k, source, chunks, pieces, store, text, used),
         11..=14 => edit_ends(k, source, chunks, pieces, store, used),
         15 => indent::indent_with(source, chunks, pieces, store, k.a != 0, text, exclude, used),
-        _ => Outcome { number: 99, used },
+        _ => Outcome {
+            number: 99,
+            cuts: 0,
+            used,
+        },
     }
 }
 
@@ -194,7 +201,7 @@ fn step(
     make(k, source, chunks, pieces, store, text, &calls[..0], used)
 }
 
-// The calls of a list, each on what the one before it left, and their numbers. Answers how many were made.
+// The calls of a list, each on what the one before it left, and their numbers with their cuts. Answers how many were made.
 fn all(
     source: &[u8],
     chunks: &mut [u32],
@@ -213,7 +220,7 @@ fn all(
     let mut i = 0;
     while i < n {
         let o = step(source, chunks, pieces, store, calls, texts, i, used);
-        numbers[i] = o.number;
+        numbers[i] = o.number | (o.cuts << CUTS);
         used = o.used;
         i += 1;
     }
@@ -244,7 +251,8 @@ pub extern "C" fn inner_open(
 }
 
 // Makes the calls of a list on a desk in tables of any size: 2 where there is none. A call is six words: its kind (1 to 15, as in crates/replay_read/src/names.rt),
-// its numbers, and where its text lies among the texts. The value is how many calls were made; `numbers` has their numbers.
+// its numbers, and where its text lies among the texts. The value is how many calls were made; `numbers` has their numbers,
+// and from bit 8 on their cuts.
 #[no_mangle]
 pub extern "C" fn inner_paper(
     source: &[u8],

@@ -36,11 +36,12 @@ module _ {source t p s : List ℕ} where
   pub checked-no : (Taken source t p s → ⊥) → Checked source t p s 2
   checked-no n = record { well-formed = λ w. absurd (n w); not-well-formed = λ _. refl }
 
-  pub edited-yes : {e : Edit} {t′ p′ s′ : List ℕ} {number : ℕ} → Taken source t p s → Ran e source t p s t′ p′ s′ number → Edited e source t p s t′ p′ s′ number
+  pub edited-yes : {e : Edit} {t′ p′ s′ : List ℕ} {number value : ℕ} → Taken source t p s → Ran e source t p s t′ p′ s′ number value
+      → Edited e source t p s t′ p′ s′ number value
   edited-yes w r = record { not-well-formed = λ n. absurd (n w); well-formed = λ _. r }
 
-  pub edited-no : {e : Edit} → (Taken source t p s → ⊥) → Edited e source t p s t p s 2
-  edited-no n = record { not-well-formed = λ _. (refl, record { chunks = refl; pieces = refl; store = refl }); well-formed = λ w. absurd (n w) }
+  pub edited-no : {e : Edit} → (Taken source t p s → ⊥) → Edited e source t p s t p s 2 0
+  edited-no n = record { not-well-formed = λ _. (refl, refl, record { chunks = refl; pieces = refl; store = refl }); well-formed = λ w. absurd (n w) }
 
   pub reported-yes : {q : Report} {out out′ : List ℕ} {number value : ℕ} → Taken source t p s → Told q (magicStringOf source t p s) out out′ number value
       → Reported q source t p s out out′ number value
@@ -50,8 +51,9 @@ module _ {source t p s : List ℕ} where
   reported-no n = record { not-well-formed = λ _. (refl, refl, refl); well-formed = λ w. absurd (n w) }
 
   -- the same call, by another name
-  pub edited-as : {e e′ : Edit} {t′ p′ s′ : List ℕ} {number : ℕ} → e ≡ e′ → Edited e source t p s t′ p′ s′ number → Edited e′ source t p s t′ p′ s′ number
-  edited-as {t′ = t′} {p′ = p′} {s′ = s′} {number = number} q x = subst (λ (e : Edit). Edited e source t p s t′ p′ s′ number) q x
+  pub edited-as : {e e′ : Edit} {t′ p′ s′ : List ℕ} {number value : ℕ} → e ≡ e′ → Edited e source t p s t′ p′ s′ number value
+      → Edited e′ source t p s t′ p′ s′ number value
+  edited-as {t′ = t′} {p′ = p′} {s′ = s′} {number} {value} q x = subst (λ (e : Edit). Edited e source t p s t′ p′ s′ number value) q x
 
   pub reported-as : {q q′ : Report} {out out′ : List ℕ} {number value : ℕ} → q ≡ q′ → Reported q source t p s out out′ number value → Reported q′ source t p s out out′ number value
   reported-as {out = out} {out′ = out′} {number = number} {value = value} e x = subst (λ (q : Report). Reported q source t p s out out′ number value) e x

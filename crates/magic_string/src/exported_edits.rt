@@ -19,7 +19,7 @@ pub extern "C" fn magic_string_remove(
     end: u32,
 ) -> Answer
     ensures { λ r. ⌜ Edited (remove start end) (now (source .entry)) (now (chunks .entry)) (now (pieces .entry)) (now (store .entry))
-        (now (chunks .exit)) (now (pieces .exit)) (now (store .exit)) (r .number) × (r .value ≡ 0) ⌝ }
+        (now (chunks .exit)) (now (pieces .exit)) (now (store .exit)) (r .number) (r .value) ⌝ }
 {
     let Seen::Desk(used) = check_well_formed::taken(source, chunks, pieces, store) else {
         return Answer {
@@ -30,7 +30,7 @@ pub extern "C" fn magic_string_remove(
     let o = edit_remove::remove(source, chunks, pieces, store, start, end, used);
     Answer {
         number: o.number,
-        value: 0,
+        value: o.cuts,
     }
 }
 
@@ -46,7 +46,7 @@ pub extern "C" fn magic_string_update_with(
     overwrite: u32,
 ) -> Answer
     ensures { λ r. ⌜ Edited (update-with start end (now (text .entry)) (flag overwrite)) (now (source .entry)) (now (chunks .entry)) (now (pieces .entry)) (now (store .entry))
-        (now (chunks .exit)) (now (pieces .exit)) (now (store .exit)) (r .number) × (r .value ≡ 0) ⌝ }
+        (now (chunks .exit)) (now (pieces .exit)) (now (store .exit)) (r .number) (r .value) ⌝ }
 {
     let overwrites = memory::flag(overwrite);
     let Seen::Desk(used) = check_well_formed::taken(source, chunks, pieces, store) else {
@@ -68,7 +68,7 @@ pub extern "C" fn magic_string_update_with(
     );
     Answer {
         number: o.number,
-        value: 0,
+        value: o.cuts,
     }
 }
 
@@ -82,7 +82,7 @@ pub extern "C" fn magic_string_reset(
     end: u32,
 ) -> Answer
     ensures { λ r. ⌜ Edited (reset start end) (now (source .entry)) (now (chunks .entry)) (now (pieces .entry)) (now (store .entry))
-        (now (chunks .exit)) (now (pieces .exit)) (now (store .exit)) (r .number) × (r .value ≡ 0) ⌝ }
+        (now (chunks .exit)) (now (pieces .exit)) (now (store .exit)) (r .number) (r .value) ⌝ }
 {
     let Seen::Desk(used) = check_well_formed::taken(source, chunks, pieces, store) else {
         return Answer {
@@ -93,7 +93,7 @@ pub extern "C" fn magic_string_reset(
     let o = edit_reset::reset(source, chunks, pieces, store, start, end, used);
     Answer {
         number: o.number,
-        value: 0,
+        value: o.cuts,
     }
 }
 
@@ -110,7 +110,7 @@ pub extern "C" fn magic_string_insert(
     front: u32,
 ) -> Answer
     ensures { λ r. ⌜ Edited (insert at (now (text .entry)) (flag left) (flag front)) (now (source .entry)) (now (chunks .entry)) (now (pieces .entry)) (now (store .entry))
-        (now (chunks .exit)) (now (pieces .exit)) (now (store .exit)) (r .number) × (r .value ≡ 0) ⌝ }
+        (now (chunks .exit)) (now (pieces .exit)) (now (store .exit)) (r .number) (r .value) ⌝ }
 {
     let on_left = memory::flag(left);
     let at_front = memory::flag(front);
@@ -133,7 +133,7 @@ pub extern "C" fn magic_string_insert(
     );
     Answer {
         number: o.number,
-        value: 0,
+        value: o.cuts,
     }
 }
 
@@ -146,7 +146,7 @@ pub extern "C" fn magic_string_append(
     text: &[u8],
 ) -> Answer
     ensures { λ r. ⌜ Edited (append (now (text .entry))) (now (source .entry)) (now (chunks .entry)) (now (pieces .entry)) (now (store .entry))
-        (now (chunks .exit)) (now (pieces .exit)) (now (store .exit)) (r .number) × (r .value ≡ 0) ⌝ }
+        (now (chunks .exit)) (now (pieces .exit)) (now (store .exit)) (r .number) (r .value) ⌝ }
 {
     let Seen::Desk(used) = check_well_formed::taken(source, chunks, pieces, store) else {
         return Answer {
@@ -157,7 +157,7 @@ pub extern "C" fn magic_string_append(
     let o = edit_insert::insert_whole(source, chunks, pieces, store, text, true, used);
     Answer {
         number: o.number,
-        value: 0,
+        value: o.cuts,
     }
 }
 
@@ -170,7 +170,7 @@ pub extern "C" fn magic_string_prepend(
     text: &[u8],
 ) -> Answer
     ensures { λ r. ⌜ Edited (prepend (now (text .entry))) (now (source .entry)) (now (chunks .entry)) (now (pieces .entry)) (now (store .entry))
-        (now (chunks .exit)) (now (pieces .exit)) (now (store .exit)) (r .number) × (r .value ≡ 0) ⌝ }
+        (now (chunks .exit)) (now (pieces .exit)) (now (store .exit)) (r .number) (r .value) ⌝ }
 {
     let Seen::Desk(used) = check_well_formed::taken(source, chunks, pieces, store) else {
         return Answer {
@@ -181,7 +181,7 @@ pub extern "C" fn magic_string_prepend(
     let o = edit_insert::insert_whole(source, chunks, pieces, store, text, false, used);
     Answer {
         number: o.number,
-        value: 0,
+        value: o.cuts,
     }
 }
 
@@ -196,7 +196,7 @@ pub extern "C" fn magic_string_relocate(
     to: u32,
 ) -> Answer
     ensures { λ r. ⌜ Edited (relocate start end to) (now (source .entry)) (now (chunks .entry)) (now (pieces .entry)) (now (store .entry))
-        (now (chunks .exit)) (now (pieces .exit)) (now (store .exit)) (r .number) × (r .value ≡ 0) ⌝ }
+        (now (chunks .exit)) (now (pieces .exit)) (now (store .exit)) (r .number) (r .value) ⌝ }
 {
     let Seen::Desk(used) = check_well_formed::taken(source, chunks, pieces, store) else {
         return Answer {
@@ -207,7 +207,7 @@ pub extern "C" fn magic_string_relocate(
     let o = edit_relocate::relocate(source, chunks, pieces, store, start, end, to, used);
     Answer {
         number: o.number,
-        value: 0,
+        value: o.cuts,
     }
 }
 
@@ -220,7 +220,7 @@ pub extern "C" fn magic_string_trim(
     pattern: u32,
 ) -> Answer
     ensures { λ r. ⌜ Edited (trim pattern) (now (source .entry)) (now (chunks .entry)) (now (pieces .entry)) (now (store .entry))
-        (now (chunks .exit)) (now (pieces .exit)) (now (store .exit)) (r .number) × (r .value ≡ 0) ⌝ }
+        (now (chunks .exit)) (now (pieces .exit)) (now (store .exit)) (r .number) (r .value) ⌝ }
 {
     let Seen::Desk(used) = check_well_formed::taken(source, chunks, pieces, store) else {
         return Answer {
@@ -231,7 +231,7 @@ pub extern "C" fn magic_string_trim(
     let o = trim::trim(source, chunks, pieces, store, pattern, used);
     Answer {
         number: o.number,
-        value: 0,
+        value: o.cuts,
     }
 }
 
@@ -244,7 +244,7 @@ pub extern "C" fn magic_string_trim_start(
     pattern: u32,
 ) -> Answer
     ensures { λ r. ⌜ Edited (trim-start pattern) (now (source .entry)) (now (chunks .entry)) (now (pieces .entry)) (now (store .entry))
-        (now (chunks .exit)) (now (pieces .exit)) (now (store .exit)) (r .number) × (r .value ≡ 0) ⌝ }
+        (now (chunks .exit)) (now (pieces .exit)) (now (store .exit)) (r .number) (r .value) ⌝ }
 {
     let Seen::Desk(used) = check_well_formed::taken(source, chunks, pieces, store) else {
         return Answer {
@@ -255,7 +255,7 @@ pub extern "C" fn magic_string_trim_start(
     let o = trim::trim_start(source, chunks, pieces, store, pattern, used);
     Answer {
         number: o.number,
-        value: 0,
+        value: o.cuts,
     }
 }
 
@@ -268,7 +268,7 @@ pub extern "C" fn magic_string_trim_end(
     pattern: u32,
 ) -> Answer
     ensures { λ r. ⌜ Edited (trim-end pattern) (now (source .entry)) (now (chunks .entry)) (now (pieces .entry)) (now (store .entry))
-        (now (chunks .exit)) (now (pieces .exit)) (now (store .exit)) (r .number) × (r .value ≡ 0) ⌝ }
+        (now (chunks .exit)) (now (pieces .exit)) (now (store .exit)) (r .number) (r .value) ⌝ }
 {
     let Seen::Desk(used) = check_well_formed::taken(source, chunks, pieces, store) else {
         return Answer {
@@ -279,7 +279,7 @@ pub extern "C" fn magic_string_trim_end(
     let o = trim::trim_end(source, chunks, pieces, store, pattern, used);
     Answer {
         number: o.number,
-        value: 0,
+        value: o.cuts,
     }
 }
 
@@ -291,7 +291,7 @@ pub extern "C" fn magic_string_trim_lines(
     store: &mut [u8],
 ) -> Answer
     ensures { λ r. ⌜ Edited (trim-lines) (now (source .entry)) (now (chunks .entry)) (now (pieces .entry)) (now (store .entry))
-        (now (chunks .exit)) (now (pieces .exit)) (now (store .exit)) (r .number) × (r .value ≡ 0) ⌝ }
+        (now (chunks .exit)) (now (pieces .exit)) (now (store .exit)) (r .number) (r .value) ⌝ }
 {
     let Seen::Desk(used) = check_well_formed::taken(source, chunks, pieces, store) else {
         return Answer {
@@ -302,7 +302,7 @@ pub extern "C" fn magic_string_trim_lines(
     let o = trim::trim_lines(source, chunks, pieces, store, used);
     Answer {
         number: o.number,
-        value: 0,
+        value: o.cuts,
     }
 }
 
@@ -318,7 +318,7 @@ pub extern "C" fn magic_string_indent_with(
 ) -> Answer
     ensures { λ r. ⌜ Edited (indent-with (indentor-of (flag «has_indentor») (now (indentor .entry))) (now (exclude .entry))) (now (source .entry))
         (now (chunks .entry)) (now (pieces .entry)) (now (store .entry))
-        (now (chunks .exit)) (now (pieces .exit)) (now (store .exit)) (r .number) × (r .value ≡ 0) ⌝ }
+        (now (chunks .exit)) (now (pieces .exit)) (now (store .exit)) (r .number) (r .value) ⌝ }
 {
     let given = memory::flag(has_indentor);
     let Seen::Desk(used) = check_well_formed::taken(source, chunks, pieces, store) else {
@@ -339,6 +339,6 @@ pub extern "C" fn magic_string_indent_with(
     );
     Answer {
         number: o.number,
-        value: 0,
+        value: o.cuts,
     }
 }

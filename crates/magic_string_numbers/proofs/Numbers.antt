@@ -23,7 +23,7 @@ either n ns here two one =
     (λ z. let none = two (λ w. true≢false (sym (one w) ∙ z)) in absurd (true≢false (sym here ∙ sym (ap (λ (k : ℕ). among k ns) none) ∙ z)))
 
 pub edited-listed : EditedListed
-edited-listed e source t p s t′ p′ s′ n x =
+edited-listed e source t p s t′ p′ s′ n value x =
     either n (2 ∷ edit-numbers e) refl (λ none. x .not-well-formed none .0)
     (λ (w : Taken source t p s).
     listed-behind n 2 (edit-numbers e)

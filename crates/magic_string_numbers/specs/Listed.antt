@@ -11,7 +11,7 @@ use Rattle.model_preservation.specs.Refusals.{among}
 use Rattle.sheet_run.specs.SheetRan.{SheetRan}
 
 abbrev pub EditedListed : Type 0
-EditedListed = (e : Edit) (source t p s t′ p′ s′ : List ℕ) (number : ℕ) → Edited e source t p s t′ p′ s′ number → among number (numbers-of (on-desk (change e))) ≡ true
+EditedListed = (e : Edit) (source t p s t′ p′ s′ : List ℕ) (number value : ℕ) → Edited e source t p s t′ p′ s′ number value → among number (numbers-of (on-desk (change e))) ≡ true
 
 abbrev pub ReportedListed : Type 0
 ReportedListed = (q : Report) (source t p s out out′ : List ℕ) (number value : ℕ) → Reported q source t p s out out′ number value

@@ -1,1 +1,1 @@
-// The numbers that exported calls may give: statements in specs/, proofs in proofs/.
+// What exported calls may give: their numbers, and the cuts of the edits. Statements in specs/, proofs in proofs/.

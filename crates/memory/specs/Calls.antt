@@ -1,5 +1,5 @@
 -- What an exported call promises of every input. `Edited` for the calls that change a desk, `Reported` for the reports, `Opened` for the opening.
-use Prim.Native.Nat.{ℕ}
+use Prim.Native.Nat.{ℕ, _+_}
 use mathlib.Core.Path.{_≡_}
 use mathlib.Core.Bool.{Bool, false, _&&_, not, true, cond}
 use mathlib.Core.List.{List, [], _++_}
@@ -22,19 +22,21 @@ pub record Same (t p s t′ p′ s′ : List ℕ) : Type 0 where
 unfoldable pub may-write : Edit → ℕ → Bool
 may-write e n = may-change e n && not (eqb n 0 && idle e)
 
--- A call that changes a well-formed desk: its number and the desk after are the model's. Numbering, places in the store and unused bytes are the program's choice;
+-- A call that changes a well-formed desk: its number, its value and the desk after are the model's. Numbering, places in the store and unused bytes are the program's choice;
 -- every choice is a well-formed desk that reads as the model's
-pub record Ran (e : Edit) (source t p s t′ p′ s′ : List ℕ) (number : ℕ) : Type 0 where
+pub record Ran (e : Edit) (source t p s t′ p′ s′ : List ℕ) (number value : ℕ) : Type 0 where
   pub number-is : number ≡ run (limitsOf t p s) e (magicStringOf source t p s) .number
+  -- document 02, L4: the value "equals the growth in chunks"
+  pub value-is : length (run (limitsOf t p s) e (magicStringOf source t p s) .desk .chunks) ≡ length (magicStringOf source t p s .chunks) + value
   pub desk-is : magicStringOf source t′ p′ s′ ≡ run (limitsOf t p s) e (magicStringOf source t p s) .desk
   pub well-formed : WellFormed source t′ p′ s′
   pub lengths : Lengths t p s t′ p′ s′
   pub same : may-write e number ≡ false → Same t p s t′ p′ s′
 
 -- the same on any memory: 2 and nothing written where it holds no well-formed desk
-pub record Edited (e : Edit) (source t p s t′ p′ s′ : List ℕ) (number : ℕ) : Type 0 where
-  pub not-well-formed : (Taken source t p s → ⊥) → (number ≡ 2) × Same t p s t′ p′ s′
-  pub well-formed : Taken source t p s → Ran e source t p s t′ p′ s′ number
+pub record Edited (e : Edit) (source t p s t′ p′ s′ : List ℕ) (number value : ℕ) : Type 0 where
+  pub not-well-formed : (Taken source t p s → ⊥) → (number ≡ 2) × (value ≡ 0) × Same t p s t′ p′ s′
+  pub well-formed : Taken source t p s → Ran e source t p s t′ p′ s′ number value
 
 -- A report on a desk: the number, the value, and the buffer `out` after the call, `out′`, with the model's bytes at its front. Where a call takes no buffer both are empty
 pub record Told (q : Report) (m : MagicString) (out out′ : List ℕ) (number value : ℕ) : Type 0 where

@@ -2,7 +2,7 @@
 ghost use mathlib.Core.Path.{_≡_};
 ghost use Rattle.memory.specs.Calls.{flag};
 
-// What an exported call gives back: the number, and the value of a report (0 where nothing is reported).
+// What a call gives back: the number, and the value: what a report says, or how many cuts an edit made that remain.
 #[repr(C)]
 pub struct Answer {
     pub number: u32,

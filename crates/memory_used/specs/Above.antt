@@ -26,5 +26,5 @@ pub record Desk (source t p s : List ℕ) (l : Used) : Type 0 where
 
 -- what it leaves: the desk that the model says, and what that uses
 pub record Leaves (e : Edit) (source t p s t′ p′ s′ : List ℕ) (o : Outcome) : Type 0 where
-  pub ran : Ran e source t p s t′ p′ s′ (o .number)
+  pub ran : Ran e source t p s t′ p′ s′ (o .number) (o .cuts)
   pub above : Above t′ p′ s′ (o .used)

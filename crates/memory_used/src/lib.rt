@@ -7,8 +7,9 @@ pub struct Used {
     pub byte: usize,
 }
 
-// What an inner edit answers: its number, and what the desk that it leaves uses.
+// What an inner edit answers: its number, how many cuts it made that remain, and what the desk that it leaves uses.
 pub struct Outcome {
     pub number: u32,
+    pub cuts: u32,
     pub used: Used,
 }

@@ -1,5 +1,5 @@
 -- Every call of document 01, by name, and what it gives: `run` for the calls that change a desk, `show` for those that report on it.
-use Prim.Native.Nat.{ℕ, zero, suc, _%_}
+use Prim.Native.Nat.{ℕ, zero, suc, _-_, _%_}
 use mathlib.Core.Bool.{Bool, true, false, _||_, not, cond}
 use mathlib.Core.List.{List, [], _∷_, _++_}
 use mathlib.Core.Option.{Option, none, some}
@@ -191,6 +191,10 @@ judged k before r = cond (not (within k (r .desk))) (err 13 before) r
 unfoldable pub run : Limits → Edit → MagicString → Result
 run k e m = elim (refused-before m e) [ suc n ↦ err (suc n) m | zero ↦ judged k m (steps e m) ]
 
+-- document 02, L4: "On a refusal the number counts the cuts that remain. It equals the growth in chunks." An edit's value
+abbrev pub cuts-left : Limits → Edit → MagicString → ℕ
+cuts-left k e m = length (run k e m .desk .chunks) - length (m .chunks)
+
 -- edits one after the other, behind refusals too: "each edit gets the desk that the one before it left". The desk after the last one, and the number of each
 abbrev pub after : Limits → List Edit → MagicString → MagicString
 after k [] m = m
@@ -290,12 +294,12 @@ pub record Outcome : Type 0 where
   pub shown : Shown
   pub desk : MagicString
 
-abbrev pub changed : Result → Outcome
-changed r = record { shown = record { number = r .number; value = 0; written = [] }; desk = r .desk }
+abbrev pub changed : ℕ → Result → Outcome
+changed value r = record { shown = record { number = r .number; value = value; written = [] }; desk = r .desk }
 
 unfoldable pub perform : Limits → Call → MagicString → Outcome
-perform k («open» source) m = changed (opened k source m)
-perform k (on-desk (change e)) m = changed (run k e m)
+perform k («open» source) m = changed 0 (opened k source m)
+perform k (on-desk (change e)) m = changed (cuts-left k e m) (run k e m)
 perform k (on-desk (report q)) m = record { shown = show q m; desk = m }
 
 -- "The edits of L are `remove`, `update_with`, `reset`, the left and right insertions at front or back, `prepend`, `append` and `relocate`"

@@ -12,4 +12,5 @@ pub mod Trim
 pub mod Indent
 pub mod Limits
 pub mod Call
+pub mod Cut
 pub mod WellFormed

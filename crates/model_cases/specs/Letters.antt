@@ -51,9 +51,9 @@ gives k n v t = record { call = on-desk k; number = n; value = v; written = t }
 abbrev pub opened : Text → ℕ → Step
 opened t n = record { call = «open» t; number = n; value = 0; written = [] }
 
--- an edit with its number
-abbrev pub edited : Edit → ℕ → Step
-edited k n = gives (change k) n 0 []
+-- an edit with its number and its cuts
+abbrev pub edited : Edit → ℕ → ℕ → Step
+edited k n cuts = gives (change k) n cuts []
 
 -- the output, in a buffer of 8 bytes
 abbrev pub output : Text → Step

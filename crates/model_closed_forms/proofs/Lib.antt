@@ -1,6 +1,7 @@
 pub mod Accepted
 pub mod ByPlan
 pub mod ByPosition
+pub mod CutAt
 pub mod Cuts
 pub mod Found
 pub mod MoveWalk

@@ -12,7 +12,7 @@ use Rattle.model.specs.Text.{Text, sum}
 use Rattle.model.specs.Chunk.{Span, Texts, Chunk, with-texts, start-of, end-of, first-half, second-half}
 use Rattle.model.specs.MagicString.{MagicString}
 use Rattle.model.specs.WellFormed.{covers, Covered, Formed}
-use Rattle.model.proofs.Lists.{both, and-left, and-right, false-of, all-of, all-map, all-map₂}
+use Rattle.model.proofs.Lists.{both, and-left, and-right, false-of, all-of, all-map, all-map₂, sum-append}
 use Rattle.model.proofs.Spans.{covers-in, covers-out, covers-halves}
 use Rattle.model_closed_forms.specs.Plan.{inside, split, cut, cut-all}
 use Rattle.model_closed_forms.proofs.Cuts.{Contains, dec-contains, split-in, split-out, cut-keeps}
@@ -108,6 +108,15 @@ one-end c cs o (cons p pr) =
 
 pub once-rest : (c : Chunk) (cs : List Chunk) → Once (c ∷ cs) → Once cs
 once-rest c cs o x = omega (arith, o x)
+
+-- no other chunk has a byte that this one has
+pub others : (x : ℕ) (xs : List Chunk) (c : Chunk) (ys : List Chunk) → Once (xs ++ c ∷ ys) → Inside (start-of c) (end-of c) x
+    → All (λ d. Inside (start-of d) (end-of d) x → ⊥) xs × All (λ d. Inside (start-of d) (end-of d) x → ⊥) ys
+others x xs c ys o i =
+    let a = sum-append (covers x) xs (c ∷ ys) in
+    let b = covers-in x c i in
+    let n = o x in
+    (none-cover x xs (omega arith), none-cover x ys (omega arith))
 
 -- ── the spans of a desk over a source of n bytes that is not empty ──
 none-past : (n x : ℕ) → n ≤ x → {cs : List Chunk} → All (λ c. end-of c ≤ n) cs → sum (covers x) cs ≡ 0

@@ -65,7 +65,7 @@ ends-aligned p (c ∷ cs) o (cons x pr) q e = go (ℕ-discrete (end-of c) p) (en
         cons u (ih f)
 
 -- "does nothing at 0, at or past the source's end, or at a chunk's edge"
-idle-aligned : (p : ℕ) {s : Text} {cs : List Chunk} → Cover s cs → eqb p 0 || (leb (length s) p || is-some (by-end p cs)) ≡ true → All (λ c. Contains p c → ⊥) cs
+pub idle-aligned : (p : ℕ) {s : Text} {cs : List Chunk} → Cover s cs → eqb p 0 || (leb (length s) p || is-some (by-end p cs)) ≡ true → All (λ c. Contains p c → ⊥) cs
 idle-aligned p (empty t) h = empty-aligned p t
 idle-aligned p (tiled {source = s} {cs = cs} l t) h = at-zero (or-cases (eqb p 0) (leb (length s) p || is-some (by-end p cs)) h)
   where
@@ -88,7 +88,7 @@ aligned-splittable p n = true-all (splittable p) (all-map (λ c k. splittable-tr
 no-other : (p : ℕ) (c : Chunk) (cs : List Chunk) → Once (c ∷ cs) → Contains p c → All (λ d. Contains p d → ⊥) cs
 no-other p c cs o i = all-map (λ d n j. n (omega arith)) (none-cover p cs (omega (arith, o p, covers-in p c (omega arith))))
 
-refuses-law : (p : ℕ) (cs : List Chunk) → Once cs → refuses-split (holder p cs) ≡ not (all (splittable p) cs)
+pub refuses-law : (p : ℕ) (cs : List Chunk) → Once cs → refuses-split (holder p cs) ≡ not (all (splittable p) cs)
 unfolding splittable
 refuses-law p [] o = refl
 refuses-law p (c ∷ cs) o = go (dec-contains p c) (refuses-law p cs (once-rest c cs o))

@@ -15,10 +15,10 @@ use Rattle.model.specs.Text.{Text, sum}
 use Rattle.model.specs.Chunk.{Chunk, with-texts, start-of, span-text, second-half, prepend-intro}
 use Rattle.model.specs.MagicString.{MagicString}
 use Rattle.model.specs.Limits.{Limits, chunk-pieces, replacement-bytes, chunk-bytes, piece-count, byte-count, within}
-use Rattle.model.specs.Indent.{Indented, is-line-feed, takes-mark, indent-chars, indent-frag, excluded, line-starts}
+use Rattle.model.specs.Indent.{Indented, is-line-feed, takes-mark, indent-chars, indent-frag, indent-pieces, excluded, line-starts}
 use Rattle.model.proofs.Lists.{sum-append, concat-length}
 use Rattle.model_preservation.proofs.Lists.{of-either}
-use Rattle.model_indent_closed.specs.Indent.{split-lines, IndentedChunks, indented-chunk, indented-chunks}
+use Rattle.model_indent_closed.specs.Indent.{split-lines, IndentedChunks, indented-chunk, indented-chunks, indented}
 use Rattle.model_indent_closed.proofs.Indent.{split-lines-inside, split-lines-at-start, indented-lines, indented-excluded, indented-replaced}
 
 -- ── one text, and pieces ──
@@ -118,6 +118,11 @@ module _ (indentor : Text) (exclude : List ℕ) (source : Text) where
   pub replaced-bytes : (mark : Bool) (c : Chunk) {t : Text} → c .texts .edited-content ≡ some t → excluded exclude (start-of c) ≡ false
       → length (indent-frag indentor mark t .text) ≤ sum chunk-bytes (indented-chunk indentor exclude source mark c .chunks)
   replaced-bytes mark c e x = rw (indented-replaced indentor exclude source mark c e x) (omega arith)
+
+-- a desk has no fewer chunks behind an indent
+pub desk-grows : (indentor : Text) (exclude : List ℕ) (m : MagicString) → length (m .chunks) ≤ length (indented indentor exclude m .chunks)
+unfolding indented
+desk-grows indentor exclude m = chunks-grow indentor exclude (m .source) (indent-pieces indentor true (m .intro) .mark) (m .chunks) .chunks
 
 -- ── a desk past a limit ──
 and-none : (a b : Bool) → b ≡ false → a && b ≡ false

@@ -11,20 +11,20 @@ use lib.ListN.{length, drop, length-append, length-take, length-drop}
 use borrow.Author.Tests.{eq-eqb, ne-eqb}
 use Rattle.utf8.specs.Chars.{All, nil, cons, chars, concat}
 use Rattle.utf8.proofs.CharLaws.{concat-chars, all-front}
-use Rattle.model.specs.Text.{Text, all}
+use Rattle.model.specs.Text.{Text}
 use Rattle.model.specs.Chunk.{Chunk, Texts, chunk-of, with-texts, start-of, end-of, span-text, is-filled, first-half, second-half, prepend-intro, edit}
-use Rattle.model.specs.MagicString.{MagicString, Result, ok, and-then, with-chunks, with-intro, with-outro, by-start, at-start, split-at, by-edge-mut}
+use Rattle.model.specs.MagicString.{MagicString, Result, ok, and-then, with-chunks, with-intro, with-outro, by-start, at-start, by-edge-mut}
 use Rattle.model.specs.Insert.{right, front, push, insert, insert-step}
 use Rattle.model.specs.Indent.{Indented, is-line-feed, takes-mark, indent-frag, Pieces, indent-pieces, excluded, Starts, line-starts, insert-all, Marked, indent-chunk}
 use Rattle.model.specs.Indent.{indent-chunks, indent-by}
 use Rattle.model.specs.WellFormed.{covers, Formed}
-use Rattle.model.proofs.Lists.{sum-append, all-map, all-map₂, true-all, all-append, concat-length}
-use Rattle.model.proofs.Spans.{covers-in, covers-key}
-use Rattle.model_closed_forms.specs.Plan.{cut, splittable}
-use Rattle.model_closed_forms.proofs.Cuts.{Contains, split-in, cut-append, cut-none, splittable-true}
+use Rattle.model.proofs.Lists.{all-map₂, concat-length}
+use Rattle.model.proofs.Spans.{covers-key}
+use Rattle.model_closed_forms.proofs.Cuts.{Contains}
 use Rattle.model_closed_forms.specs.Spans.{Proper, Cover, empty, tiled}
-use Rattle.model_closed_forms.proofs.Spans.{none-cover, Once, cover-of, formed-cover}
-use Rattle.model_closed_forms.proofs.SplitAt.{cover-once, cover-cut, split-at-cover, aligned-splittable}
+use Rattle.model_closed_forms.proofs.Spans.{Once, others, cover-of, formed-cover}
+use Rattle.model_closed_forms.proofs.SplitAt.{cover-once}
+use Rattle.model_closed_forms.proofs.CutAt.{start-aligned, halves-cover, cut-nothing, cut-made}
 use Rattle.model_closed_forms.proofs.Steps.{cover-proper}
 use Rattle.model_closed_forms.proofs.Found.{edge-at, edge-set, some-is}
 use Rattle.model_preservation.proofs.Lists.{of-either, all-key, sum-key}
@@ -61,21 +61,12 @@ middle : {P : Chunk → Type 0} (xs : List Chunk) (c : Chunk) (ys : List Chunk) 
 middle [] c ys (cons h k) = h
 middle (x ∷ xs) c ys (cons h k) = middle xs c ys k
 
--- no other chunk holds a byte that this one holds
-others : (q : ℕ) (xs : List Chunk) (c : Chunk) (ys : List Chunk) → Once (xs ++ c ∷ ys) → start-of c ≤ q → q < end-of c
-    → All (λ d. (start-of d ≤ q) × (q < end-of d) → ⊥) xs × All (λ d. (start-of d ≤ q) × (q < end-of d) → ⊥) ys
-others q xs c ys o l h =
-    let a = sum-append (covers q) xs (c ∷ ys) in
-    let b = covers-in q c (l, h) in
-    let n = o q in
-    (none-cover q xs (omega arith), none-cover q ys (omega arith))
-
 -- no chunk before this one starts where it holds a byte
 none-start : (q : ℕ) (xs : List Chunk) (c : Chunk) (ys : List Chunk) → Once (xs ++ c ∷ ys) → All Proper (xs ++ c ∷ ys) → start-of c ≤ q → q < end-of c
     → All (λ d. eqb (start-of d) q ≡ false) xs
 none-start q xs c ys o p l h =
     let w : (d : Chunk) → ((start-of d ≤ q) × (q < end-of d) → ⊥) → start-of d < end-of d → eqb (start-of d) q ≡ false = λ d k r. ne-eqb (start-of d) q (λ e. k (omega arith)) in
-    all-map₂ w (others q xs c ys o l h .0) (all-front Proper xs (c ∷ ys) p)
+    all-map₂ w (others q xs c ys o (l, h) .0) (all-front Proper xs (c ∷ ys) p)
 
 -- nor where it starts
 starts-apart : (xs : List Chunk) (c : Chunk) (ys : List Chunk) {s : Text} {cs : List Chunk} → cs ≡ xs ++ c ∷ ys → Cover s cs → All (λ d. eqb (start-of d) (start-of c) ≡ false) xs
@@ -97,45 +88,23 @@ module _ (t : Text) (m : MagicString) (xs : List Chunk) (c : Chunk) (ys : List C
       ∙ ap (λ (l : List Chunk). ok (with-chunks m l)) (edge-set right q (prepend-intro t) c ys n h)
 
 module _ (i : ℕ) (t : Text) (m : MagicString) (xs : List Chunk) (c : Chunk) (ys : List Chunk) (v : Cover (m .source) (xs ++ c ∷ ys)) where
-  aligned-out : All (λ d. (start-of d ≤ i) × (i < end-of d) → ⊥) xs × All (λ d. (start-of d ≤ i) × (i < end-of d) → ⊥) ys
-      → All (λ d. Contains i d → ⊥) xs × All (λ d. Contains i d → ⊥) ys
-  aligned-out h = (all-map (λ d k j. k (omega arith)) (h .0), all-map (λ d k j. k (omega arith)) (h .1))
-
   -- at the chunk's start: no cut
   at-its-start : start-of c ≡ i → i < end-of c → insert i t right front (with-chunks m (xs ++ c ∷ ys)) ≡ ok (with-chunks m (xs ++ with-texts (prepend-intro t) c ∷ ys))
   unfolding by-edge-mut
   at-its-start e h =
-      let o = others i xs c ys (cover-once v) (omega arith) h in
-      let a = aligned-out o in
-      let n : Contains i c → ⊥ = λ j. omega arith in
-      let al : All (λ d. Contains i d → ⊥) (xs ++ c ∷ ys) = all-append {P = λ d. Contains i d → ⊥} (a .0) (cons n (a .1)) in
-      let z : split-at i (with-chunks m (xs ++ c ∷ ys)) ≡ ok (with-chunks m (xs ++ c ∷ ys)) = split-at-cover i (with-chunks m (xs ++ c ∷ ys)) v ∙ rw (aligned-splittable i al, cut-none i al) in
+      let z = cut-nothing i (with-chunks m (xs ++ c ∷ ys)) v (start-aligned i xs c ys (cover-once v) e h) .0 in
       ap (λ r. and-then r (insert-step i t right front)) z ∙ step-found t m xs c ys i (rw e at (starts-apart xs c ys refl v)) (eq-eqb (start-of c) i e)
 
   -- inside it: the cut, then the second half
-  cut-is : Contains i c → cut i (xs ++ c ∷ ys) ≡ (xs ++ first-half i c ∷ []) ++ second-half i c ∷ ys
-  cut-is j =
-      let a = aligned-out (others i xs c ys (cover-once v) (omega arith) (j .1)) in
-      cut-append i xs (c ∷ ys) ∙ rw (split-in i c j, cut-none i (a .0), cut-none i (a .1)) (sym (append-assoc xs (first-half i c ∷ []) (second-half i c ∷ ys)))
-
-  cut-cover : Contains i c → Cover (m .source) ((xs ++ first-half i c ∷ []) ++ second-half i c ∷ ys)
-  cut-cover j = subst (Cover (m .source)) (cut-is j) (cover-cut i v)
-
-  can-cut : Contains i c → c .texts .edited-content ≡ none → all (splittable i) (xs ++ c ∷ ys) ≡ true
-  can-cut j e =
-      let a = aligned-out (others i xs c ys (cover-once v) (omega arith) (j .1)) in
-      let n : (d : Chunk) → (Contains i d → ⊥) → splittable i d ≡ true = λ d k. splittable-true i d (λ x. absurd (k x)) in
-      let y : splittable i c ≡ true = splittable-true i c (λ x. ap is-filled e) in
-      true-all (splittable i) (all-append {P = λ d. splittable i d ≡ true} (all-map n (a .0)) (cons y (all-map n (a .1))))
-
   inside-it : 0 < length (m .source) → Contains i c → c .texts .edited-content ≡ none
       → insert i t right front (with-chunks m (xs ++ c ∷ ys)) ≡ ok (with-chunks m ((xs ++ first-half i c ∷ []) ++ with-texts (prepend-intro t) (second-half i c) ∷ ys))
   unfolding by-edge-mut
   inside-it l j e =
       let zs : List Chunk = xs ++ first-half i c ∷ [] in
-      let z : split-at i (with-chunks m (xs ++ c ∷ ys)) ≡ ok (with-chunks m (zs ++ second-half i c ∷ ys)) = split-at-cover i (with-chunks m (xs ++ c ∷ ys)) v ∙ rw (can-cut j e, cut-is j) in
-      ap (λ r. and-then r (insert-step i t right front)) z
-      ∙ step-found t m zs (second-half i c) ys i (none-start i zs (second-half i c) ys (cover-once (cut-cover j)) (cover-proper (cut-cover j) l) (omega arith) (j .1)) (eq-eqb i i refl)
+      let w : Cover (m .source) (zs ++ second-half i c ∷ ys) = halves-cover i xs c ys v j in
+      ap (λ r. and-then r (insert-step i t right front)) (cut-made i (with-chunks m (xs ++ c ∷ ys)) v xs c ys refl j (ap is-filled e) .0)
+      ∙ (ap (λ (l : List Chunk). insert-step i t right front (with-chunks m l)) (sym (append-assoc xs (first-half i c ∷ []) (second-half i c ∷ ys)))
+      ∙ step-found t m zs (second-half i c) ys i (none-start i zs (second-half i c) ys (cover-once w) (cover-proper w l) (omega arith) (j .1)) (eq-eqb i i refl))
 
 -- ── the line starts of a chunk ──
 -- positions from a on and below e, each greater than the one before
@@ -191,7 +160,7 @@ module _ (t : Text) (m : MagicString) (i : ℕ) (l : List ℕ) (xs : List Chunk)
   part = with-texts (prepend-intro t) (second-half i c)
 
   part-cover : Contains i c → Cover (m .source) (zs ++ part ∷ ys)
-  part-cover j = cover-texts (prepend-intro t) zs (second-half i c) ys (cut-cover i t m xs c ys v j)
+  part-cover j = cover-texts (prepend-intro t) zs (second-half i c) ys (halves-cover i xs c ys v j)
 
   more-inside : Contains i c → Left m (insert-all t l (with-chunks m (zs ++ part ∷ ys))) (zs ++ (split-lines t part l ++ ys))
       → Left m (insert-all t (i ∷ l) (with-chunks m (xs ++ c ∷ ys))) (xs ++ (split-lines t c (i ∷ l) ++ ys))

@@ -234,11 +234,11 @@ module _ (source t p s : List ℕ) where
   unfolding opened
   number-with h = h .number-is
 
-  pub opened-refused : (o : Outcome) → Opens source (o .number) → (o .number ≡ 0 → ⊥) → OpenedWith source t p s t o
-  opened-refused o n h = record { number-is = number-with n; desk = λ z. absurd (h z); refused = λ _. refl }
+  pub opened-refused : (o : Outcome) → Opens source (o .number) → o .cuts ≡ 0 → (o .number ≡ 0 → ⊥) → OpenedWith source t p s t o
+  opened-refused o n c h = record { number-is = number-with n; no-cuts = c; desk = λ z. absurd (h z); refused = λ _. refl }
 
-  pub opened-0 : (t′ : List ℕ) (o : Outcome) → Opens source (o .number) → o .number ≡ 0 → NewDesk source t′ p s (o .used) → OpenedWith source t p s t′ o
-  opened-0 t′ o n e d = record { number-is = number-with n; desk = λ _. d; refused = λ h. absurd (h e) }
+  pub opened-0 : (t′ : List ℕ) (o : Outcome) → Opens source (o .number) → o .cuts ≡ 0 → o .number ≡ 0 → NewDesk source t′ p s (o .used) → OpenedWith source t p s t′ o
+  opened-0 t′ o n c e d = record { number-is = number-with n; no-cuts = c; desk = λ _. d; refused = λ h. absurd (h e) }
 
 -- ── in tables of the full sizes, or of others ──
 pub others-2 : (source t p s : List ℕ) → (Full t p s → ⊥) → Opened source t p s t p s 2

@@ -28,5 +28,6 @@ pub record NewDesk (source t p s : List ℕ) (u : Used) : Type 0 where
 -- Over any earlier content: the number of `opened`, and for 0 the new desk with what it uses. Pieces and store are not written, and a refusal writes nothing
 pub record OpenedWith (source t p s t′ : List ℕ) (o : Outcome) : Type 0 where
   pub number-is : o .number ≡ opened (limitsOf t p s) source (new []) .number
+  pub no-cuts : o .cuts ≡ 0
   pub desk : o .number ≡ 0 → NewDesk source t′ p s (o .used)
   pub refused : (o .number ≡ 0 → ⊥) → t′ ≡ t

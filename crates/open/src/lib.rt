@@ -96,10 +96,15 @@ pub fn open_with(source: &[u8], chunks: &mut [u32], pieces: &[u32], store: &[u8]
     let number = source_number(source);
     if number == 0 {
         let used = open_rows(source, chunks, pieces, store);
-        return Outcome { number, used };
+        return Outcome {
+            number,
+            cuts: 0,
+            used,
+        };
     }
     Outcome {
         number,
+        cuts: 0,
         used: unused(),
     }
 }

@@ -48,6 +48,7 @@ fn step(
         Read::Bad => Made {
             outcome: Outcome {
                 number: numbers::BAD_SHEET,
+                cuts: 0,
                 used,
             },
             next: at,
@@ -55,6 +56,7 @@ fn step(
         Read::End => Made {
             outcome: Outcome {
                 number: numbers::BAD_SHEET,
+                cuts: 0,
                 used,
             },
             next: at,

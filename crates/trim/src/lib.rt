@@ -24,6 +24,7 @@ pub fn trim_start(
     if pattern > LAST_PATTERN {
         return Outcome {
             number: numbers::BAD_OPTION,
+            cuts: 0,
             used,
         };
     }
@@ -46,6 +47,7 @@ pub fn trim_end(
     if pattern > LAST_PATTERN {
         return Outcome {
             number: numbers::BAD_OPTION,
+            cuts: 0,
             used,
         };
     }
@@ -68,6 +70,7 @@ pub fn trim(
     if pattern > LAST_PATTERN {
         return Outcome {
             number: numbers::BAD_OPTION,
+            cuts: 0,
             used,
         };
     }

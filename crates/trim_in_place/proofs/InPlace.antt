@@ -2,12 +2,12 @@
 use mathlib.Core.Path.{_≡_, refl, sym, ap, _∙_, subst}
 use mathlib.Core.Bool.{Bool, true}
 use mathlib.Core.List.{List, []}
-use Prim.Native.Nat.{ℕ, _*_, _≤_}
+use Prim.Native.Nat.{ℕ, _+_, _*_, _≤_}
 use native.Mathlib.Omega.{arith}
 use lib.ListN.{length, take, drop, take-append-drop}
 use lib.Seq.{length-take-le}
 use Rattle.utf8.specs.Chars.{All, nil, cons}
-use Rattle.memory_table.specs.Order.{Entry}
+use Rattle.memory_table.specs.Order.{Entry, countOf}
 use Rattle.model.specs.MagicString.{MagicString, ok}
 use Rattle.model.specs.Limits.{within, piece-count}
 use Rattle.memory_layout.specs.Layout.{NONE}
@@ -94,14 +94,19 @@ module _ {source t p s : List ℕ} {l : Used} (w : WellFormed source t p s) (a :
           bytes = omega (arith, bytes-below (x .apart (w .disjoint)) (top-above {u = u} refl refl refl), x .byte-in, x .store-len);
         })
 
-    left-ran : TrimRan both front pattern source t p s t' p' s' 0
+    -- and as many chunks as before
+    left-count : countOf t' ≡ countOf t + 0
+    left-count =
+        omega (arith, chunk-count source t p s, chunk-count source t' p' s', ap (λ (d : MagicString). length (d .chunks)) (x .desk), trim-sides-chunks both front pattern m)
+
+    left-ran : TrimRan both front pattern source t p s t' p' s' 0 0
     left-ran e h q i =
-        ran-in-place w h (record { readable = trimmed-readable x; result = q ∙ ap ok (sym (x .desk)) }) (may-write-0 e i)
+        ran-in-place w h (record { readable = trimmed-readable x; result = q ∙ ap ok (sym (x .desk)); cuts = left-count }) (may-write-0 e i)
         (record { chunks = x .rows-len; pieces = x .pieces-len; store = x .store-len })
         (x .each (w .each)) (x .apart (w .disjoint)) left-within
 
     -- what is answered, for a row and a byte where the trim stopped writing
     pub top-leaves : {pieces₁ row₁ byte₁ : ℕ} {o : Outcome} → Trimmed pieces₁ row₁ byte₁ o → pieces₁ ≡ l .pieces → row₁ ≡ row → byte₁ ≡ byte
-        → TrimRan both front pattern source t p s t' p' s' (o .number) × Above t' p' s' (o .used)
+        → TrimRan both front pattern source t p s t' p' s' (o .number) (o .cuts) × Above t' p' s' (o .used)
     top-leaves {o = o} h n r b =
-        (rw (h .number) left-ran, top-above {u = o .used} (h .pieces-are ∙ n) (h .row-is ∙ r) (h .byte-is ∙ b))
+        (rw (h .number, h .cuts) left-ran, top-above {u = o .used} (h .pieces-are ∙ n) (h .row-is ∙ r) (h .byte-is ∙ b))

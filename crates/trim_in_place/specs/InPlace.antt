@@ -11,6 +11,7 @@ pub record TrimRoom (cp cs : ℕ) (l : Used) (n : ℕ) : Type 0 where
 
 pub record Trimmed (pieces row byte : ℕ) (o : Outcome) : Type 0 where
   pub number : o .number ≡ 0
+  pub cuts : o .cuts ≡ 0
   pub pieces-are : o .used .pieces ≡ pieces
   pub row-is : o .used .row ≡ row
   pub byte-is : o .used .byte ≡ byte

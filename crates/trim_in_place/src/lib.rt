@@ -23,12 +23,13 @@ pub fn has_room(l: Used, n: usize, cp: usize, cs: usize) -> bool
     true
 }
 
-// What a trim answers: it cannot fail, and the desk has no piece more.
+// What a trim answers: it cannot fail, makes no cut, and the desk has no piece more.
 fn trimmed(pieces: usize, row: u32, byte: u32) -> Outcome
     ensures { λ o. ⌜ Trimmed pieces row byte o ⌝ }
 {
     Outcome {
         number: 0,
+        cuts: 0,
         used: Used {
             pieces,
             row: row as usize,
@@ -53,7 +54,7 @@ pub fn trim_in_place(
     requires { ⌜ Above (now chunks) (now pieces) (now store) l ⌝ }
     requires { ⌜ TrimRoom (length (now pieces)) (length (now store)) l (length (now source)) ⌝ }
     ensures { λ o. ⌜ TrimRan both front pattern (now (source .entry)) (now (chunks .entry)) (now (pieces .entry)) (now (store .entry))
-        (now (chunks .exit)) (now (pieces .exit)) (now (store .exit)) (o .number)
+        (now (chunks .exit)) (now (pieces .exit)) (now (store .exit)) (o .number) (o .cuts)
         × Above (now (chunks .exit)) (now (pieces .exit)) (now (store .exit)) (o .used) ⌝ }
 {
     let row = l.row as u32;

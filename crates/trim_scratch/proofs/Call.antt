@@ -7,13 +7,13 @@ use native.Mathlib.Omega.{arith}
 use lib.ListN.{length, drop, length-append, length-drop}
 use Rattle.memory_layout.specs.Layout.{PIECES, PIECE-ROWS, STORE-LEN}
 use Rattle.utf8.specs.Chars.{All, nil, cons}
-use Rattle.memory_table.specs.Order.{Entry}
+use Rattle.memory_table.specs.Order.{Entry, countOf}
 use Rattle.model.specs.MagicString.{MagicString, ok}
 use Rattle.model.specs.Limits.{full, piece-count}
 use Rattle.model.specs.WellFormed as model
 use Rattle.memory.specs.Layout.{Place, magicStringOf}
 use Rattle.memory.specs.WellFormed.{RunIn, ReplacementIn, EntryIn, Readable, WellFormed}
-use Rattle.memory.proofs.Desks.{piece-front, within-keeps, desk-full, short-source}
+use Rattle.memory.proofs.Desks.{piece-front, chunk-count, within-keeps, desk-full, short-source}
 use Rattle.memory_used.specs.Below.{Below}
 use Rattle.edit_rebuild.specs.Rebuilt.{Finished}
 use Rattle.edit_scratch.specs.Loaded.{Loaded}
@@ -25,7 +25,7 @@ use Rattle.trim_steps.specs.Model.{trim-sides}
 use Rattle.trim_steps.specs.Side.{SideReady}
 use Rattle.trim_steps.specs.Both.{SidesReady, SidesTrimmed}
 use Rattle.trim_steps.proofs.Both.{sides-ready, trimmed-readable}
-use Rattle.trim_scratch.proofs.Counts.{plain-small}
+use Rattle.trim_scratch.proofs.Counts.{plain-small, trim-sides-chunks}
 use Rattle.trim_scratch.specs.Call.{Wide, TrimRan}
 
 -- ---- what is read from the front of the tables lies below its end
@@ -92,10 +92,19 @@ module _ {source t p s t₀ p₀ s₀ t1 p1 s1 : List ℕ} (w : WellFormed sourc
 
 -- ---- the call, for each of the trims
 
-module _ {both front : Bool} {pattern : ℕ} {source t p s t₀ p₀ s₀ t1 p1 s1 t2 p2 s2 t' p' s' : List ℕ} {r row byte : ℕ} (w : WellFormed source t p s)
+module _ {both front : Bool} {pattern : ℕ} {source t p s t₀ p₀ s₀ t1 p1 s1 t2 p2 s2 t' p' s' : List ℕ} {r c row byte : ℕ} (w : WellFormed source t p s)
     (f : Scratch t₀ p₀ s₀) (d : Loaded t p s t₀ p₀ s₀ t1 p1 s1)
-    (x : SidesTrimmed both front pattern source t1 p1 s1 t2 p2 s2 row byte) (y : Finished t2 p2 s2 t p s t' p' s' 0 r) where
-  pub trim-ran : TrimRan both front pattern source t p s t' p' s' r
+    (x : SidesTrimmed both front pattern source t1 p1 s1 t2 p2 s2 row byte) (y : Finished t2 p2 s2 t p s t' p' s' 0 0 r c) where
+  pub trim-ran : TrimRan both front pattern source t p s t' p' s' r c
   trim-ran e h q i =
       let k : magicStringOf source t1 p1 s1 ≡ magicStringOf source t p s = with-scratch-desk w f d t1 (loaded-readable w f d) ∙ loaded-desk w f d in
-      ran-finished w h (record { readable = trimmed-readable x; result = q ∙ ap ok (ap (trim-sides both front pattern) (sym k) ∙ sym (x .desk)) }) (may-write-0 e i) y
+      let z : countOf t2 ≡ countOf t + 0 =
+      omega (
+        arith,
+        chunk-count source t2 p2 s2,
+        chunk-count source t p s,
+        ap (λ (m : MagicString). length (m .chunks)) (x .desk),
+        trim-sides-chunks both front pattern (magicStringOf source t1 p1 s1),
+        ap (λ (m : MagicString). length (m .chunks)) k,
+      ) in
+      ran-finished w h (record { readable = trimmed-readable x; result = q ∙ ap ok (ap (trim-sides both front pattern) (sym k) ∙ sym (x .desk)); cuts = z }) (may-write-0 e i) y

@@ -18,7 +18,7 @@ pub record Wide (p s : List ℕ) : Type 0 where
 
 -- ---- the call, for each of the trims
 
-abbrev pub TrimRan : Bool → Bool → ℕ → List ℕ → List ℕ → List ℕ → List ℕ → List ℕ → List ℕ → List ℕ → ℕ → Type 0
-TrimRan both front pattern source t p s t' p' s' r =
+abbrev pub TrimRan : Bool → Bool → ℕ → List ℕ → List ℕ → List ℕ → List ℕ → List ℕ → List ℕ → List ℕ → ℕ → ℕ → Type 0
+TrimRan both front pattern source t p s t' p' s' r c =
     (e : Edit) → refused-before (magicStringOf source t p s) e ≡ 0 → steps e (magicStringOf source t p s) ≡ ok (trim-sides both front pattern (magicStringOf source t p s)) → idle e ≡ false
-    → Ran e source t p s t' p' s' r
+    → Ran e source t p s t' p' s' r c

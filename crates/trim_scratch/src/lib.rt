@@ -3,6 +3,7 @@ ghost use Rattle.memory.specs.WellFormed.{WellFormed};
 ghost use Rattle.memory_used.specs.Above.{Above};
 ghost use Rattle.edit_scratch.specs.Tables.{Scratch};
 ghost use Rattle.trim_scratch.specs.Call.{Wide, TrimRan};
+use memory::Answer;
 use memory_layout::NEW_BYTE;
 use memory_layout::NEW_ROW;
 use memory_used::Outcome;
@@ -24,12 +25,23 @@ fn trim_by(
     requires { ⌜ Scratch (now t) (now p) (now s) ⌝ }
     requires { ⌜ Wide (now p) (now s) ⌝ }
     ensures { λ o. ⌜ TrimRan both front pattern (now (source .entry)) (now (chunks .entry)) (now (pieces .entry)) (now (store .entry))
-        (now (chunks .exit)) (now (pieces .exit)) (now (store .exit)) (o .number)
+        (now (chunks .exit)) (now (pieces .exit)) (now (store .exit)) (o .number) (o .cuts)
         × Above (now (chunks .exit)) (now (pieces .exit)) (now (store .exit)) (o .used) ⌝ }
 {
     edit_scratch::load(chunks, pieces, store, t, p, s);
     trim_steps::trim_steps(source, t, p, s, NEW_ROW, NEW_BYTE, both, front, pattern);
-    edit_room_above::finish(t, p, s, chunks, pieces, store, 0)
+    edit_room_above::finish(
+        t,
+        p,
+        s,
+        chunks,
+        pieces,
+        store,
+        Answer {
+            number: 0,
+            value: 0,
+        },
+    )
 }
 
 // The same with scratch tables of its own.
@@ -44,7 +56,7 @@ pub fn trim_scratch(
 ) -> Outcome
     requires { ⌜ WellFormed (now source) (now chunks) (now pieces) (now store) ⌝ }
     ensures { λ o. ⌜ TrimRan both front pattern (now (source .entry)) (now (chunks .entry)) (now (pieces .entry)) (now (store .entry))
-        (now (chunks .exit)) (now (pieces .exit)) (now (store .exit)) (o .number)
+        (now (chunks .exit)) (now (pieces .exit)) (now (store .exit)) (o .number) (o .cuts)
         × Above (now (chunks .exit)) (now (pieces .exit)) (now (store .exit)) (o .used) ⌝ }
 {
     let rows = memory_layout::SCRATCH_LEN;

@@ -3,7 +3,7 @@
 
 use differential::{
   Answer, Core, Image, Lent, Unseen,
-  cores::List,
+  cores::{List, inner_answer},
   image::{Style, encode_in},
 };
 use oracle::{
@@ -43,13 +43,13 @@ fn paper(core: &mut impl Core, source: &str, calls: &[Call]) -> [f64; 2] {
   let mut image = Image::junk(source.as_bytes().to_vec(), &mut Random::new(1));
   let list = List::new(calls, &Unseen::PLAIN);
   let to_string = ToString { room: Some(ROOM as u32) };
-  let mut numbers = vec![0; list.len()];
+  let mut answers = vec![0; list.len()];
   let mut out = vec![0; ROOM];
   let took = least(
     || (),
     |()| {
       assert_eq!(image.lend().inner_open(), Answer::ACCEPTED);
-      make(&mut image.lend(), &list, &mut numbers);
+      make(&mut image.lend(), &list, &mut answers);
       core.call(&mut image.lend(), &to_string, &Unseen::PLAIN, &mut out);
     },
   );
@@ -60,17 +60,18 @@ fn paper(core: &mut impl Core, source: &str, calls: &[Call]) -> [f64; 2] {
 }
 
 /// Makes the edits of a list, all of which are accepted.
-fn make(lent: &mut Lent, list: &List, numbers: &mut [u32]) {
+fn make(lent: &mut Lent, list: &List, answers: &mut [u32]) {
   let made = Answer { number: 0, value: list.len() as u32 };
-  assert_eq!(lent.inner_paper(list, numbers), made);
-  assert!(numbers.iter().all(|&number| number == 0), "an edit of the list is refused");
+  assert_eq!(lent.inner_paper(list, answers), made);
+  let accepted = |&word: &u32| inner_answer(word).number == 0;
+  assert!(answers.iter().all(accepted), "an edit of the list is refused");
 }
 
 /// Nanoseconds of each edit of a list on copies of this memory, less the check.
 fn per_edit(image: &Image, calls: &[Call]) -> f64 {
   let list = List::new(calls, &Unseen::PLAIN);
-  let mut numbers = vec![0; list.len()];
-  let took = least(|| image.clone(), |image| make(&mut image.lend(), &list, &mut numbers));
+  let mut answers = vec![0; list.len()];
+  let took = least(|| image.clone(), |image| make(&mut image.lend(), &list, &mut answers));
   let check = least(|| image.clone(), |image| make(&mut image.lend(), &List::default(), &mut []));
   (took - check) / calls.len() as f64
 }

@@ -34,5 +34,5 @@ pub use magic_string_sys::Answer;
 pub use oracle::keeps;
 pub use paper::{Made, Paper, Start};
 pub use sizes::Sizes;
-pub use tally::Tally;
+pub use tally::{Met, Tally};
 pub use well_formed::{holds_desk, well_formed};

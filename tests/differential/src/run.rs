@@ -26,8 +26,8 @@ pub fn run(core: &mut impl Core, paper: &Paper, tally: &mut Tally) -> Result<(),
     if let Some(start) = &start {
       both.clone_from(start);
     }
-    let number = both.step(core, made);
-    tally.add(number.map_err(|what| Difference { call: Some(index), what })?);
+    let met = both.step(core, made);
+    tally.add(met.map_err(|what| Difference { call: Some(index), what })?);
   }
   tally.papers += 1;
   Ok(())
@@ -44,14 +44,14 @@ fn run_lists(
   let mut done = 0;
   while done < paper.calls.len() {
     let list = next_list(&paper.calls[done..], paper.at_once);
-    let numbers = match list {
+    let met = match list {
       [open] if is_open(open) => {
-        both.step(core, open).map(|number| vec![number]).map_err(|what| (0, what))
+        both.step(core, open).map(|met| vec![met]).map_err(|what| (0, what))
       }
       _ => both.list(core, list),
     };
-    let numbers = numbers.map_err(|(place, what)| Difference { call: Some(done + place), what })?;
-    numbers.into_iter().for_each(|number| tally.add(number));
+    let met = met.map_err(|(place, what)| Difference { call: Some(done + place), what })?;
+    met.into_iter().for_each(|met| tally.add(met));
     tally.lists += 1;
     done += list.len();
   }

@@ -3,7 +3,7 @@
 use oracle::{Answer as Expected, Call, Desk, Limits, apply, number, random::Random};
 
 use crate::{
-  Answer, Core, Image, Made, Sizes, Start, Unseen,
+  Answer, Core, Image, Made, Met, Sizes, Start, Unseen,
   image::{self, Style},
   keeps,
   layout::{MOST_BYTES, MOST_SOURCE},
@@ -54,11 +54,11 @@ impl Both {
     self.unchanged()
   }
 
-  /// Makes the call on both sides. The number, or what differs.
-  pub fn step(&mut self, core: &mut impl Core, made: &Made) -> Result<u32, String> {
+  /// Makes the call on both sides. What is counted of it, or what differs.
+  pub fn step(&mut self, core: &mut impl Core, made: &Made) -> Result<Met, String> {
     let mut random = Random::new(made.seed);
     let unseen = Unseen::any(&mut random);
-    let expected = self.expected(&made.call);
+    let (expected, met) = self.expected(&made.call);
     let mut out = Out::new(room(&made.call, &expected, &mut random), &mut random);
 
     self.before.copy_from(&self.image);
@@ -74,14 +74,15 @@ impl Both {
     } else {
       self.same_desk()?;
     }
-    Ok(expected.number)
+    Ok(met)
   }
 
   /// Makes edits one behind the other on both sides, none of them an opening.
-  /// Their numbers, or what differs with the place of the call where it is seen.
-  pub fn list(&mut self, core: &mut impl Core, list: &[Made]) -> Result<Vec<u32>, (usize, String)> {
+  /// What is counted of them, or what differs with the place of the call where it is
+  /// seen.
+  pub fn list(&mut self, core: &mut impl Core, list: &[Made]) -> Result<Vec<Met>, (usize, String)> {
     let calls: Vec<&Call> = list.iter().map(|made| &made.call).collect();
-    let expected: Vec<Expected> = calls.iter().map(|call| self.expected(call)).collect();
+    let (expected, met): (Vec<_>, Vec<_>) = calls.iter().map(|call| self.expected(call)).unzip();
     let unseen = Unseen::any(&mut Random::new(list[0].seed));
     self.before.copy_from(&self.image);
     let answers = core.list(&mut self.image.lend(), &calls, &unseen);
@@ -99,11 +100,23 @@ impl Both {
     let source = self.image.source == self.before.source;
     let left = left.and(source.then_some(()).ok_or("the source changed".to_string()));
     left.map_err(|what| (last, what))?;
-    Ok(expected.iter().map(|expected| expected.number).collect())
+    Ok(met)
+  }
+
+  /// The oracle's answer, and what is counted of it.
+  fn expected(&mut self, call: &Call) -> (Expected, Met) {
+    let expected = self.answered(call);
+    let cuts = match (&self.desk, expected.number) {
+      (Some(desk), number::LIMIT) => taken_back(desk, call),
+      _ if call.is_edit() => expected.value,
+      _ => 0,
+    };
+    let met = Met { number: expected.number, cuts };
+    (expected, met)
   }
 
   /// The oracle's answer: 2 where there is no desk yet.
-  fn expected(&mut self, call: &Call) -> Expected {
+  fn answered(&mut self, call: &Call) -> Expected {
     match (&mut self.desk, call) {
       (Some(desk), _) => apply(desk, call),
       (None, Call::Open { source }) => match Desk::open(self.limits, source) {
@@ -139,6 +152,14 @@ impl Both {
   fn same_desk(&self) -> Result<(), String> {
     let expected = self.desk.as_ref().expect("an edit has a desk").data();
     self.image.check_desk(&expected)
+  }
+}
+
+/// The cuts that an edit would make on a desk without limits. An opening has none.
+fn taken_back(desk: &Desk, call: &Call) -> u32 {
+  match call {
+    Call::Open { .. } => 0,
+    _ => apply(&mut Desk::build(Limits::NONE, &desk.data()), call).value,
   }
 }
 

@@ -28,9 +28,6 @@ struct Wrong {
   fault: Fault,
 }
 
-const NO_LIMITS: Limits =
-  Limits { chunks: usize::MAX, pieces: usize::MAX, bytes: usize::MAX, ..Limits::FULL };
-
 impl Core for Wrong {
   fn name(&self) -> &'static str {
     "wrong"
@@ -43,7 +40,7 @@ impl Core for Wrong {
     }
     let data = image::decode(lent.source, lent.chunks, lent.pieces, lent.store);
     let desk = Desk::build(Limits::FULL, &data);
-    let mut left = Desk::build(NO_LIMITS, &data);
+    let mut left = Desk::build(Limits::NONE, &data);
     let without_limits = apply(&mut left, call).number;
     let right = self.right.call(lent, call, unseen, out);
     let (before, after) = (desk.counts(), left.counts());

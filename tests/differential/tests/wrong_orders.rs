@@ -42,7 +42,7 @@ impl Core for Wrong {
 }
 
 /// A wrong core, and where it is told.
-const FAULTS: [(&str, &str, Fault); 8] = [
+const FAULTS: [(&str, &str, Fault); 9] = [
   ("an insertion goes to the other end of its list", "the desk is", |right, lent, call, _, out| {
     right.call(lent, &other_end(call), &Unseen::PLAIN, out)
   }),
@@ -55,7 +55,7 @@ const FAULTS: [(&str, &str, Fault); 8] = [
   }),
   ("a removal takes the pieces beside it", "the desk is", |right, lent, call, unseen, out| {
     let answer = right.call(lent, call, unseen, out);
-    if let (Call::Remove { start, .. }, Answer::ACCEPTED) = (call, answer) {
+    if let (Call::Remove { start, .. }, Answer { number: 0, .. }) = (call, answer) {
       change(lent, |desk| {
         let beside = desk.chunks.iter_mut().filter(|chunk| chunk.end == *start);
         beside.for_each(|chunk| chunk.outro.clear());
@@ -66,11 +66,19 @@ const FAULTS: [(&str, &str, Fault); 8] = [
   ("a desk must not reach its limits", "number: 13", |right, lent, call, unseen, out| {
     let answer = right.call(lent, call, unseen, out);
     let bytes = |desk: &DeskData| texts(desk).iter().map(|text| text.len()).sum::<usize>();
-    if call.is_edit() && answer == Answer::ACCEPTED && bytes(&desk(lent)) == MOST_BYTES {
+    if call.is_edit() && answer.number == 0 && bytes(&desk(lent)) == MOST_BYTES {
       return Answer { number: 13, value: 0 };
     }
     answer
   }),
+  (
+    "an edit reports no cuts",
+    "not Answer { number: 0, value: ",
+    |right, lent, call, unseen, out| {
+      let answer = right.call(lent, call, unseen, out);
+      if call.is_edit() { Answer { value: 0, ..answer } } else { answer }
+    },
+  ),
   ("the text is written in the order of rows", "the text: ", |right, lent, call, unseen, out| {
     if !matches!(call, Call::ToString { .. }) {
       return right.call(lent, call, unseen, out);
@@ -197,6 +205,20 @@ fn the_smallest_lists_that_fail_a_check_are_told() {
     let told = run(&mut StandIn::new(1), &sitting, &mut Tally::default()).is_err();
     assert_eq!(told, !UNTOLD.contains(&check), "check {check}");
   }
+}
+
+/// That page's list in which the edit that comes first makes the cut, and the other finds
+/// an edge.
+#[test]
+fn an_edit_of_a_list_may_cut_otherwise_in_another_order() {
+  let start = Start::Opened { source: b"ab".to_vec(), calls: Vec::new() };
+  let list = ["append_left 1 78", "append_right 1 79"].map(call).to_vec();
+  assert_eq!(Premises::on(&start.desk()).failed(&list), BTreeSet::new());
+  let orders = orders(list.len(), &mut Random::new(1));
+  let sitting = Sitting { start, list, orders, later: Vec::new(), seed: 1 };
+  let mut tally = Tally::default();
+  run(&mut StandIn::new(1), &sitting, &mut tally).unwrap();
+  assert_eq!((tally.orders, tally.cut_otherwise), (2, 1));
 }
 
 #[test]

@@ -88,7 +88,7 @@ const FAULTS: [(&str, Fault); 12] = [
     let hole = longest_hole(lent);
     let answer = right.call(lent, call, unseen, out);
     let long = call.text().is_some_and(|text| text.len() > hole);
-    if answer == Answer::ACCEPTED && long { Answer { number: 13, value: 0 } } else { answer }
+    if answer.number == 0 && long { Answer { number: 13, value: 0 } } else { answer }
   }),
   ("positions past the end are refused", |right, lent, call, unseen, out| {
     let past = matches!(call, Call::Remove { end, .. } if *end as usize > lent.source.len());
@@ -102,28 +102,28 @@ const FAULTS: [(&str, Fault); 12] = [
   }),
   ("the output is trimmed", |right, lent, call, unseen, out| {
     let answer = right.call(lent, call, unseen, out);
-    if matches!(call, Call::Trim { pattern: 0 }) && answer == Answer::ACCEPTED {
+    if matches!(call, Call::Trim { pattern: 0 }) && answer.number == 0 {
       change(lent, trim_first_text);
     }
     answer
   }),
   ("a trim drops every empty piece of the head", |right, lent, call, unseen, out| {
     let answer = right.call(lent, call, unseen, out);
-    if matches!(call, Call::TrimStart { .. }) && answer == Answer::ACCEPTED {
+    if matches!(call, Call::TrimStart { .. }) && answer.number == 0 {
       change(lent, |desk| desk.head.retain(|piece| !piece.is_empty()));
     }
     answer
   }),
   ("each text of the head begins a line", |right, lent, call, unseen, out| {
     let answer = right.call(lent, call, unseen, out);
-    if is_indent(call) && answer == Answer::ACCEPTED {
+    if is_indent(call) && answer.number == 0 {
       change(lent, |desk| desk.head.iter_mut().skip(1).for_each(begin_line));
     }
     answer
   }),
   ("a chunk's intro is indented", |right, lent, call, unseen, out| {
     let answer = right.call(lent, call, unseen, out);
-    if is_indent(call) && answer == Answer::ACCEPTED {
+    if is_indent(call) && answer.number == 0 {
       change(lent, |desk| {
         desk
           .chunks

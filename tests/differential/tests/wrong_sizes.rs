@@ -90,9 +90,9 @@ impl Core for Wrong {
   }
 
   fn list(&mut self, lent: &mut Lent, calls: &[&Call], unseen: &Unseen) -> Vec<Answer> {
-    let mut answers = Vec::new();
+    let mut answers: Vec<Answer> = Vec::new();
     for call in calls {
-      let stopped = answers.iter().any(|answer| *answer != Answer::ACCEPTED);
+      let stopped = answers.iter().any(|answer| answer.number != 0);
       answers.push(match self.fault {
         Fault::StopsAtRefusal if stopped => Answer::ACCEPTED,
         _ => self.call(lent, call, unseen, &mut []),

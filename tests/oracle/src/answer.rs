@@ -5,7 +5,8 @@ use std::fmt;
 use crate::{hex, number};
 
 /// The number, the reported value (bytes written, for a call that fills a
-/// buffer; 0 where nothing is reported) and the bytes written.
+/// buffer; the cuts that an edit made and that remain; 0 where nothing is reported)
+/// and the bytes written.
 #[derive(Debug, Clone, PartialEq, Eq)]
 pub struct Answer {
   pub number: u32,
@@ -14,9 +15,14 @@ pub struct Answer {
 }
 
 impl Answer {
-  /// A number alone: a refusal, or an edit.
+  /// A number alone: an opening, or a refusal that changes nothing.
   pub fn number(number: u32) -> Self {
     Self { number, value: 0, bytes: Vec::new() }
+  }
+
+  /// An edit, accepted or refused, and its cuts.
+  pub fn edit(number: u32, cuts: usize) -> Self {
+    Self { number, value: cuts as u32, bytes: Vec::new() }
   }
 
   /// An accepted report of a value.

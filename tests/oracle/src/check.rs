@@ -1,7 +1,7 @@
 //! What holds of every desk and of every call, whatever the Rust does: checked
 //! at each step of a script.
 
-use crate::{Answer, Call, Desk, DeskData, Script, keeps, number::*};
+use crate::{Answer, Call, Desk, DeskData, Script, cuts, keeps, number::*};
 
 /// Makes the call as the script does, and checks the step and the desk after it.
 pub fn call(script: &mut Script, call: &Call) -> Result<Option<Answer>, String> {
@@ -82,9 +82,18 @@ pub fn step(
   ensure(number == ACCEPTED || numbers(call).contains(&number), "a number not of this call")?;
   let kept = keeps::every_byte(call, number);
   ensure(!kept || before == after, "a call that changes nothing changed the desk")?;
+  if let Call::Open { .. } = call {
+    return ensure(answer.value == 0, "an opening reports");
+  }
+  ensure(before.source == after.source, "another source")?;
+  if call.is_edit() {
+    let made = if kept { 0 } else { cuts::made(before, call) };
+    let growth = after.chunks.len() - before.chunks.len();
+    ensure(answer.value as usize == growth, "not the growth in chunks")?;
+    return ensure(growth == made, "not the cuts that make two chunks");
+  }
   let silent = answer.value == 0 && answer.bytes.is_empty();
-  ensure(silent || (number == ACCEPTED && !call.is_edit()), "a refusal or an edit reports")?;
-  ensure(before.source == after.source || matches!(call, Call::Open { .. }), "another source")
+  ensure(silent || number == ACCEPTED, "a refusal reports")
 }
 
 /// The refusals that document 01 has for the call.

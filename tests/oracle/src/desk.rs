@@ -20,6 +20,10 @@ impl Limits {
   /// Those of document 01.
   pub const FULL: Limits = Limits { source: 16_384, chunks: 512, pieces: 1_024, bytes: 32_768 };
 
+  /// Those of the source's length alone.
+  pub const NONE: Limits =
+    Limits { chunks: usize::MAX, pieces: usize::MAX, bytes: usize::MAX, ..Limits::FULL };
+
   /// Whether a desk that holds this much keeps the limits.
   pub fn hold(&self, counts: Counts) -> bool {
     counts.chunks <= self.chunks && counts.pieces <= self.pieces && counts.bytes <= self.bytes
@@ -89,8 +93,10 @@ pub fn apply(desk: &mut Desk, call: &Call) -> Answer {
   if !desk.limits.hold(left.counts()) {
     return Answer::number(number::LIMIT);
   }
+  // Document 02, L4: the cuts that remain are the chunks that have come in.
+  let cuts = left.counts().chunks - desk.counts().chunks;
   desk.magic_string = left;
-  Answer::number(number)
+  Answer::edit(number, cuts)
 }
 
 /// The numbers that the arguments alone give, in their order: 15, 1, 3.

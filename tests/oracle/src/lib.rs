@@ -8,6 +8,7 @@ pub mod answer;
 pub mod antt;
 pub mod call;
 pub mod check;
+pub mod cuts;
 pub mod desk;
 pub mod dump;
 pub mod every_call;
@@ -23,6 +24,7 @@ pub mod setting;
 
 pub use answer::Answer;
 pub use call::Call;
+pub use cuts::Cut;
 pub use desk::{Desk, Limits, apply};
 pub use desk_data::{ChunkData, Counts, DeskData};
 pub use every_call::{every_call, insertions, reports};

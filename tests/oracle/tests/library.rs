@@ -2,15 +2,20 @@
 //! Rust's own are on here.
 
 use oracle::{
-  Answer, Call, Desk, Limits, SETTINGS, Script, apply, check, generate::generate, keeps, number::*,
-  parse,
+  Answer, Call, Cut, Desk, Limits, SETTINGS, Script, apply, check, cuts::cuts, generate::generate,
+  keeps, number::*, parse,
 };
 
-/// The numbers that the lines of a script get, on a desk with these limits.
-fn numbers(limits: Limits, script: &str) -> Vec<u32> {
+/// The answers that the lines of a script get, on a desk with these limits.
+fn answers(limits: Limits, script: &str) -> Vec<Answer> {
   let mut desk = Desk::open(limits, b"").unwrap();
   let calls = script.lines().filter_map(|line| parse(line).unwrap());
-  calls.map(|call| apply(&mut desk, &call).number).collect()
+  calls.map(|call| apply(&mut desk, &call)).collect()
+}
+
+/// Their numbers.
+fn numbers(limits: Limits, script: &str) -> Vec<u32> {
+  answers(limits, script).iter().map(|answer| answer.number).collect()
 }
 
 #[test]
@@ -112,6 +117,67 @@ fn limits_are_judged_on_what_is_left() {
   assert_eq!(numbers(few, "open 6162\nappend -\nappend -"), [0, 0, 13]);
   // `trim` fits where `trim_start` alone does not.
   assert_eq!(numbers(few, "open 206120202020\ntrim_start 0\ntrim 0"), [0, 13, 0]);
+}
+
+/// 13 takes back the cuts that its call made, whatever the call's own answer.
+#[test]
+fn a_limit_takes_cuts_back() {
+  let two_chunks = Limits { chunks: 2, ..Limits::FULL };
+  for (script, number, cuts) in [
+    ("open 616263\nremove 1 2", ACCEPTED, 2),
+    ("open 616263\nrelocate 1 2 0", ACCEPTED, 2),
+    ("open 61620a63\nremove 3 4\nindent_with 78\nindent_with 78", ACCEPTED, 0),
+    ("open 610a620a63\nindent_with 78", ACCEPTED, 2),
+    ("open 6162636465\nupdate_with 2 5 0 58\nremove 1 3", CUT_IN_REPLACEMENT, 1),
+    ("open 61626364\nrelocate 0 2 4\nupdate_with 1 3 0 58", ACROSS_MOVED_EDGE, 2),
+    ("open 616263\nrelocate 0 2 3\nrelocate 1 3 0", NOT_TOGETHER, 1),
+    ("open 616263\nremove 1 3\nupdate_with 2 4 0 -", PAST_SOURCE, 1),
+  ] {
+    let last = |limits| answers(limits, script).pop();
+    assert_eq!(last(Limits::FULL), Some(Answer::edit(number, cuts)), "{script}");
+    let taken_back = if cuts > 0 { Answer::number(LIMIT) } else { Answer::edit(number, 0) };
+    assert_eq!(last(two_chunks), Some(taken_back), "{script}");
+  }
+}
+
+/// Document 02's L4: what each cut of a call does, up to a refused one.
+#[test]
+fn what_each_cut_does() {
+  use Cut::*;
+  // "a", "Xyz" for "bcd", and "e\nf\ng".
+  let mut desk = Desk::open(Limits::FULL, b"abcde\nf\ng").unwrap();
+  apply(&mut desk, &parse("update_with 1 4 0 58797a").unwrap().unwrap());
+  let of = |line: &str| cuts(&desk.data(), &parse(line).unwrap().unwrap());
+  assert_eq!(of("relocate 5 9 1"), [Made, Outside, Edge]);
+  assert_eq!(of("relocate 5 6 8"), [Made, Made, Made]);
+  assert_eq!(of("relocate 5 2 6"), [Made, Refused]);
+  assert_eq!(of("remove 0 3"), [Outside, Refused]);
+  assert_eq!(of("append_left 2 -"), [Refused]);
+  assert_eq!(of("append_left 10 -"), [Outside]);
+  assert_eq!(of("indent_with none"), [Outside, Made, Made]);
+  assert_eq!(of("indent_with none 0 1 6 7"), [Made]);
+  for line in ["append -", "prepend -", "trim 0", "trim_lines", "slice 0 5", "len"] {
+    assert_eq!(of(line), [], "{line}");
+  }
+  // An emptied chunk can be cut.
+  apply(&mut desk, &parse("remove 1 4").unwrap().unwrap());
+  assert_eq!(cuts(&desk.data(), &parse("reset 2 4").unwrap().unwrap()), [Made, Edge]);
+}
+
+/// docs/ANY-ORDER.md: both edits cut at 1, and the one that comes first makes the edge.
+#[test]
+fn cuts_in_two_orders() {
+  let (left, right) = ("append_left 1 78", "append_right 1 79");
+  let run = |first, second| {
+    let mut desk = Desk::open(Limits::FULL, b"ab").unwrap();
+    let answers = [first, second].map(|line| apply(&mut desk, &parse(line).unwrap().unwrap()));
+    assert_eq!(desk.magic_string().to_string(), "axyb");
+    (answers, desk.data())
+  };
+  let cuts = [Answer::edit(ACCEPTED, 1), Answer::edit(ACCEPTED, 0)];
+  assert_eq!(run(left, right).0, cuts);
+  assert_eq!(run(right, left).0, cuts);
+  assert_eq!(run(left, right).1, run(right, left).1);
 }
 
 /// After which refusals the tables may hold another desk, or the same elsewhere: the

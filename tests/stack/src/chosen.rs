@@ -23,8 +23,8 @@ pub fn all(core: &mut impl Core, seed: u64) -> Result<(), String> {
       start.check_start(core)?;
       for call in calls(&desk).into_iter().filter(|call| core.has(call)).collect::<Vec<_>>() {
         let made = Made { call, seed: random.number() };
-        let number = start.clone().step(core, &made);
-        number.map_err(|what| format!("{aim:?}, {}: {what}", made.call))?;
+        let met = start.clone().step(core, &made);
+        met.map_err(|what| format!("{aim:?}, {}: {what}", made.call))?;
       }
     }
   }

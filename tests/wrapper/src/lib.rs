@@ -6,8 +6,23 @@ use oracle::{Answer, Call, ChunkData, DeskData};
 
 /// What the wrapper's call gives, as the oracle has it. `None` where the wrapper's
 /// types have no such call: texts of edits that are not UTF-8, lists of odd count,
-/// and buffers of the caller but for the output.
+/// and buffers of the caller but for the output. An edit's value is its cuts, which
+/// reports leave.
 pub fn call(desk: &mut MagicString, call: &Call) -> Option<Answer> {
+  let cuts = desk.cuts();
+  let answer = answer(desk, call)?;
+  Some(match call {
+    Call::Open { .. } => answer,
+    _ if call.is_edit() => Answer::edit(answer.number, desk.cuts()),
+    _ => {
+      assert_eq!(desk.cuts(), cuts, "{call}");
+      answer
+    }
+  })
+}
+
+/// The same, without the cuts of an edit.
+fn answer(desk: &mut MagicString, call: &Call) -> Option<Answer> {
   use Call::*;
   let text = |bytes: &'_ [u8]| String::from_utf8(bytes.to_vec()).ok();
   let edited = |answer: Result<&mut MagicString, Refusal>| number(answer.map(drop));

@@ -13,9 +13,10 @@ pub mod numbers;
 
 pub use exported::*;
 
-/// What every call gives back: 0 or a refusal's number, and what the call reports
-/// (bytes written, where it fills a buffer). The value is 0 after a refusal and where
-/// nothing is reported.
+/// What every call gives back: 0 or a refusal's number, and what the call reports: of an
+/// edit the cuts that it made and that remain, of a call that fills a buffer the bytes
+/// written. The value is 0 where nothing is reported, and after a refusal but for the
+/// cuts that remain.
 #[repr(C)]
 #[derive(Debug, Clone, Copy, PartialEq, Eq)]
 pub struct Answer {

@@ -1,5 +1,6 @@
-//! A paper: a script is opened and edits are filed on it, with the running text after
-//! each. Then the desk chunk by chunk, its reports, and the sixteen refusals in words.
+//! A paper: a script is opened and edits are filed on it, with the cuts that each made
+//! and the running text after it. Then the desk chunk by chunk, its reports, and the
+//! sixteen refusals in words.
 
 use magic_string::{
   Chunk, End::*, IndentOptions, MagicString, Refusal, Side::*, UpdateOptions, layout,
@@ -32,12 +33,12 @@ fn end(text: &str) -> u32 {
   start(text) + text.len() as u32
 }
 
-/// Files an edit: prints the call with its arguments, then the running text.
+/// Files an edit: prints the call with its arguments and cuts, then the running text.
 macro_rules! file {
   ($desk:ident.$edit:ident($($argument:expr),*)) => {
     let arguments: Vec<String> = vec![$(format!("{:?}", $argument)),*];
-    println!("\n{}({})", stringify!($edit), arguments.join(", "));
-    $desk.$edit($($argument),*)?;
+    let cuts = $desk.$edit($($argument),*)?.cuts();
+    println!("\n{}({}), cuts: {cuts}", stringify!($edit), arguments.join(", "));
     show($desk);
   };
 }
@@ -111,7 +112,7 @@ fn reports(desk: &MagicString) -> Result<(), Refusal> {
 
 fn refusals(desk: &mut MagicString) {
   println!("\nRefused:");
-  let text = desk.to_string();
+  let (text, chunks) = (desk.to_string(), desk.chunks().count());
   let long = "x".repeat(layout::STORE_BYTES + 1);
   let (past, inside) = (SCRIPT.len() as u32 + 1, start("Å") + 1);
   let (wind, night) = (start("Wind"), start("night"));
@@ -138,6 +139,8 @@ fn refusals(desk: &mut MagicString) {
   refused("run a sheet of no byte at all", MagicString::run_sheet(b""));
 
   println!("\nThe text has {} bytes, as before: {}", text.len(), desk.to_string() == text);
+  let more = desk.chunks().count() - chunks;
+  println!("Cuts that were made before a refusal stay: {more} chunks more");
 }
 
 fn refused<T>(asked: &str, answer: Result<T, Refusal>) {

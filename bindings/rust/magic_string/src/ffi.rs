@@ -10,70 +10,71 @@ use magic_string_sys::{Answer, edit, magic_string_run_sheet, report};
 
 use crate::{Refusal, memory::Memory};
 
-/// The value of a call that was done.
+/// The value of a call that was done; a refused one has none.
 pub type Answered = Result<u32, Refusal>;
 
 fn answered(answer: Answer) -> Answered {
   Refusal::answer(answer.number).map(|()| answer.value)
 }
 
-/// Edits.
+/// Opening.
 impl Memory {
   pub fn open(&mut self) -> Answered {
     answered(unsafe { edit!(self, magic_string_open) })
   }
+}
 
-  pub fn remove(&mut self, start: u32, end: u32) -> Answered {
-    answered(unsafe { edit!(self, magic_string_remove, start, end) })
+/// Edits. Their value, the cuts that remain, counts after a refusal too.
+impl Memory {
+  pub fn remove(&mut self, start: u32, end: u32) -> Answer {
+    unsafe { edit!(self, magic_string_remove, start, end) }
   }
 
-  pub fn update_with(&mut self, start: u32, end: u32, text: &str, overwrite: bool) -> Answered {
+  pub fn update_with(&mut self, start: u32, end: u32, text: &str, overwrite: bool) -> Answer {
     let (text, text_len, overwrite) = (text.as_ptr(), text.len(), overwrite.into());
-    answered(unsafe {
-      edit!(self, magic_string_update_with, start, end, text, text_len, overwrite)
-    })
+    unsafe { edit!(self, magic_string_update_with, start, end, text, text_len, overwrite) }
   }
 
-  pub fn reset(&mut self, start: u32, end: u32) -> Answered {
-    answered(unsafe { edit!(self, magic_string_reset, start, end) })
+  pub fn reset(&mut self, start: u32, end: u32) -> Answer {
+    unsafe { edit!(self, magic_string_reset, start, end) }
   }
 
-  pub fn insert(&mut self, at: u32, text: &str, left: bool, front: bool) -> Answered {
+  pub fn insert(&mut self, at: u32, text: &str, left: bool, front: bool) -> Answer {
     let (text, text_len, left, front) = (text.as_ptr(), text.len(), left.into(), front.into());
-    answered(unsafe { edit!(self, magic_string_insert, at, text, text_len, left, front) })
+    unsafe { edit!(self, magic_string_insert, at, text, text_len, left, front) }
   }
 
-  pub fn append(&mut self, text: &str) -> Answered {
-    answered(unsafe { edit!(self, magic_string_append, text.as_ptr(), text.len()) })
+  pub fn append(&mut self, text: &str) -> Answer {
+    unsafe { edit!(self, magic_string_append, text.as_ptr(), text.len()) }
   }
 
-  pub fn prepend(&mut self, text: &str) -> Answered {
-    answered(unsafe { edit!(self, magic_string_prepend, text.as_ptr(), text.len()) })
+  pub fn prepend(&mut self, text: &str) -> Answer {
+    unsafe { edit!(self, magic_string_prepend, text.as_ptr(), text.len()) }
   }
 
-  pub fn relocate(&mut self, start: u32, end: u32, to: u32) -> Answered {
-    answered(unsafe { edit!(self, magic_string_relocate, start, end, to) })
+  pub fn relocate(&mut self, start: u32, end: u32, to: u32) -> Answer {
+    unsafe { edit!(self, magic_string_relocate, start, end, to) }
   }
 
-  pub fn trim(&mut self, pattern: u32) -> Answered {
-    answered(unsafe { edit!(self, magic_string_trim, pattern) })
+  pub fn trim(&mut self, pattern: u32) -> Answer {
+    unsafe { edit!(self, magic_string_trim, pattern) }
   }
 
-  pub fn trim_start(&mut self, pattern: u32) -> Answered {
-    answered(unsafe { edit!(self, magic_string_trim_start, pattern) })
+  pub fn trim_start(&mut self, pattern: u32) -> Answer {
+    unsafe { edit!(self, magic_string_trim_start, pattern) }
   }
 
-  pub fn trim_end(&mut self, pattern: u32) -> Answered {
-    answered(unsafe { edit!(self, magic_string_trim_end, pattern) })
+  pub fn trim_end(&mut self, pattern: u32) -> Answer {
+    unsafe { edit!(self, magic_string_trim_end, pattern) }
   }
 
-  pub fn trim_lines(&mut self) -> Answered {
-    answered(unsafe { edit!(self, magic_string_trim_lines) })
+  pub fn trim_lines(&mut self) -> Answer {
+    unsafe { edit!(self, magic_string_trim_lines) }
   }
 
-  pub fn indent_with(&mut self, indentor: Option<&str>, exclude: &[u32]) -> Answered {
+  pub fn indent_with(&mut self, indentor: Option<&str>, exclude: &[u32]) -> Answer {
     let text = indentor.unwrap_or_default();
-    answered(unsafe {
+    unsafe {
       edit!(
         self,
         magic_string_indent_with,
@@ -83,7 +84,7 @@ impl Memory {
         exclude.as_ptr(),
         exclude.len()
       )
-    })
+    }
   }
 }
 

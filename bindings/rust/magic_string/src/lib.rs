@@ -14,6 +14,10 @@
 //! assert_eq!(refused, Refusal::CutInReplacement);
 //! assert_eq!(refused.number(), 6);
 //! assert_eq!(refused.to_string(), "cut inside a non-empty replacement");
+//!
+//! // A cut that was made before a refusal stays, and is counted.
+//! assert_eq!(s.remove(4, 7).err(), Some(Refusal::CutInReplacement));
+//! assert_eq!(s.cuts(), 1);
 //! # Ok(())
 //! # }
 //! ```
@@ -31,8 +35,9 @@
 //! - Trims take the two patterns that string_wizard names. Names and source maps,
 //!   `filename`, `ignore_list`, `replace`, `snip` and the joiner are left out.
 //! - Added: [`MagicString::line_count`], which counts lines as [`str::lines`] does; a
-//!   way to look at what is filed, chunk by chunk ([`MagicString::chunks`]); and a whole
-//!   paper in one call ([`MagicString::run_sheet`]).
+//!   way to look at what is filed, chunk by chunk ([`MagicString::chunks`]); how many cuts
+//!   the last edit made ([`MagicString::cuts`]); and a whole paper in one call
+//!   ([`MagicString::run_sheet`]).
 //!
 //! Positions are byte offsets into the source.
 

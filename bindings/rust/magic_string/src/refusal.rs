@@ -4,7 +4,8 @@ use magic_string_sys::numbers;
 
 /// Why a call was not done: document 01's numbers, and those that document 02 adds.
 ///
-/// 6, 7, 9 and an update's 10 leave the cuts that were made, and 7 the chunks that
+/// 6, 7, 9 and an update's 10 leave the cuts that were made
+/// ([`MagicString::cuts`](crate::MagicString::cuts) counts them), and 7 the chunks that
 /// were cleared before it; every other refusal changes nothing.
 #[derive(Debug, Clone, Copy, PartialEq, Eq, Hash, PartialOrd, Ord)]
 #[repr(u32)]

@@ -23,8 +23,8 @@ clear-range-steps-requires c κs =
 
 finish-requires : tie.Need-finish-requires
 finish-requires c κs =
-    let start = c .before .before .before .before .before .before .before .before .before .before .before .before .before .before .before .before .before
-    .before .before .before .before .before .before .before .before .before .before .before .before .before in
+    let start = c .before .before .before .before .before .before .before .before .before .before .before .before .before .before .before .before .before .before .before .before
+    .before .before .before .before .before .before .before .before .before .before in
     let load = c .before .before .before .before .before .before .before .before .before .before .before .before .before .before .before .before .load in
     let clear-range = c .before .before .before .before .before .before .before .before .clear-range-steps in
     (range-readable (start .pre .0) (start .pre .1 .0) (load .ensures) (clear-range .ensures), formed-usable (start .pre .0))
@@ -49,11 +49,10 @@ same-length-6 c = search needs
 
 returns : tie.Need-returns
 returns c =
-    let start = c .before .before .before .before .before .before .before .before .before .before .before .before .before .before .before .before .before
-    .before .before .before .before .before .before .before .before .before .before .before .before .before .before .before .before .before .before
-    .before .before in
-    let load = c .before .before .before .before .before .before .before .before .before .before .before .before .before .before .before .before .before
-    .before .before .before .before .before .before .load in
+    let start = c .before .before .before .before .before .before .before .before .before .before .before .before .before .before .before .before .before .before .before .before
+    .before .before .before .before .before .before .before .before .before .before .before .before .before .before .before .before .before in
+    let load = c .before .before .before .before .before .before .before .before .before .before .before .before .before .before .before .before .before .before .before .before
+    .before .before .before .load in
     let clear-range = c .before .before .before .before .before .before .before .before .before .before .before .before .before .before .before .clear-range-steps in
     let finish = c .before .before .before .before .before .before .finish in
     (range-ran (start .pre .0) (start .pre .1 .0) (load .ensures) (clear-range .ensures) (finish .ensures .0), finish .ensures .1)

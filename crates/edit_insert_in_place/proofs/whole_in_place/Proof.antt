@@ -39,7 +39,7 @@ returns c =
     let a = start .args in
     let made = whole-made (a .outro) (a .front) (a .text .now) (start .pre .0) (start .pre .1) _ _ _ (added .result) (added .ensures)
     (added .kept .0) (added .kept .1 .0) (added .kept .1 .1 .0) in
-    (rw (c .grown .ensures .0) (made .0), subst (Above _ _ _) (sym (c .grown .ensures .1)) (made .1))
+    (rw (c .grown .ensures .0, c .grown .ensures .1) (made .0), subst (Above _ _ _) (sym (c .grown .ensures .2)) (made .1))
 
 pub whole-in-place-spec : {M : Type 1} → statement M
 whole-in-place-spec =

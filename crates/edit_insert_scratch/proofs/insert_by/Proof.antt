@@ -30,7 +30,8 @@ insert-steps-requires c κs =
 
 counted-requires : tie.Need-counted-requires
 counted-requires c κs =
-    let loaded = c .before .before .before .before .before .before .before .before .before .before .before .before .before .before .before .before .before .before .before .before .before .before in
+    let loaded = c .before .before .before .before .before .before .before .before .before .before .before .before .before .before .before .before .before .before .before .before
+    .before .before .before in
     let start = loaded .before .before .before .before .before .before .before .before .before .before .before .before .before .before .before in
     formed-usable (start .pre .0)
 
@@ -44,7 +45,10 @@ same-length-3 : tie.Need-same-length-3
 same-length-3 c = search needs
 
 same-length-4 : tie.Need-same-length-4
-same-length-4 c = search needs
+same-length-4 c =
+    let stepped = c .before .before .before .before .before .before .before .before .before .before .before .before in
+    let loaded = stepped .before .before .before .before .before .before .before .before .before .before .before .before in
+    stepped .insert-steps .kept .1 .1 .1 .0 ∙ loaded .load .kept .1 .1 .1 .0
 
 same-length-5 : tie.Need-same-length-5
 same-length-5 c = search needs
@@ -54,15 +58,15 @@ same-length-6 c = search needs
 
 returns : tie.Need-returns
 returns c =
-    let stepped = c .before .before .before .before .before .before .before .before .before .before .before in
+    let stepped = c .before .before .before .before .before .before .before .before .before .before .before .before in
     let loaded = stepped .before .before .before .before .before .before .before .before .before .before .before .before in
     let start = loaded .before .before .before .before .before .before .before .before .before .before .before .before .before .before .before in
     let ran = insert-refused (start .pre .0) (start .pre .1) (loaded .load .ensures) (stepped .insert-steps .ensures) (c .before .before .before .before .if1 .taken) in
-    (rw (c .counted .ensures .0) ran, c .counted .ensures .1)
+    (rw (c .counted .ensures .0, c .counted .ensures .1) ran, c .counted .ensures .2)
 
 finish-requires : tie.Need-finish-requires
 finish-requires c κs =
-    let stepped = c .before .before .before .before .before .before .before .before .before .before .before .before .before in
+    let stepped = c .before .before .before .before .before .before .before .before .before .before .before .before .before .before in
     let loaded = stepped .before .before .before .before .before .before .before .before .before .before .before .before in
     let start = loaded .before .before .before .before .before .before .before .before .before .before .before .before .before .before .before in
     let if1 = c .before .before .before .before .before .before .if1 in
@@ -79,22 +83,25 @@ same-length-9 c = search needs
 
 same-length-10 : tie.Need-same-length-10
 same-length-10 c =
-    let stepped = c .before .before .before .before .before .before .before .before .before .before .before .before .before .before .before .before .before .before .before .before in
+    let stepped = c .before .before .before .before .before .before .before .before .before .before .before .before .before .before .before .before .before .before .before .before .before in
     let loaded = stepped .before .before .before .before .before .before .before .before .before .before .before .before in
     stepped .insert-steps .kept .1 .1 .1 .0 ∙ loaded .load .kept .1 .1 .1 .0
 
 same-length-11 : tie.Need-same-length-11
 same-length-11 c =
-    let stepped = c .before .before .before .before .before .before .before .before .before .before .before .before .before .before .before .before .before .before .before .before in
+    let stepped = c .before .before .before .before .before .before .before .before .before .before .before .before .before .before .before .before .before .before .before .before .before in
     let loaded = stepped .before .before .before .before .before .before .before .before .before .before .before .before in
     stepped .insert-steps .kept .1 .1 .1 .1 .0 ∙ loaded .load .kept .1 .1 .1 .1 .0
 
 same-length-12 : tie.Need-same-length-12
-same-length-12 c = search needs
+same-length-12 c =
+    let stepped = c .before .before .before .before .before .before .before .before .before .before .before .before .before .before .before .before .before .before .before .before .before in
+    let loaded = stepped .before .before .before .before .before .before .before .before .before .before .before .before in
+    stepped .insert-steps .kept .1 .1 .1 .1 .1 .0 ∙ loaded .load .kept .1 .1 .1 .1 .1 .0
 
 returns-2 : tie.Need-returns-2
 returns-2 c =
-    let stepped = c .before .before .before .before .before .before .before .before .before .before .before .before .before .before .before .before .before .before .before .before in
+    let stepped = c .before .before .before .before .before .before .before .before .before .before .before .before .before .before .before .before .before .before .before .before .before in
     let loaded = stepped .before .before .before .before .before .before .before .before .before .before .before .before in
     let start = loaded .before .before .before .before .before .before .before .before .before .before .before .before .before .before .before in
     let if1 = c .before .before .before .before .before .before .before .before .before .before .before .before .before .if1 in

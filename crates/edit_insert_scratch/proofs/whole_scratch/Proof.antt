@@ -25,7 +25,7 @@ returns : tie.Need-returns
 returns c =
     let start = c .before .before .before .before .before .before .before .before .before .before in
     let a = start .args in
-    (rw (c .counted .ensures .0) (whole-long (a .outro) (a .front) (a .text .now) (start .pre) (c .before .before .before .before .if1 .taken)), c .counted .ensures .1)
+    (rw (c .counted .ensures .0, c .counted .ensures .1) (whole-long (a .outro) (a .front) (a .text .now) (start .pre) (c .before .before .before .before .if1 .taken)), c .counted .ensures .2)
 
 array-borrow-prefix-t : tie.Need-array-borrow-prefix-t
 array-borrow-prefix-t c = search needs

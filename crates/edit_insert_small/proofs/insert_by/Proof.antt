@@ -1,5 +1,5 @@
 -- `insert_small::insert_by` meets its contract: what is done to the desk in the small tables is done to the lent one.
-use mathlib.Core.Path.{refl}
+use mathlib.Core.Path.{refl, _∙_}
 use Rattle.edit_room_above.proofs.Finishing.{formed-usable}
 use Rattle.edit_small_tables.proofs.Trying.{laid-desk, tried}
 use Rattle.edit_insert_small.proofs.Staying.{adding-stays}
@@ -36,10 +36,16 @@ same-length-3 : tie.Need-same-length-3
 same-length-3 c = search needs
 
 same-length-4 : tie.Need-same-length-4
-same-length-4 c = search needs
+same-length-4 c =
+    let attempted = c .before .before .before .before .before .before .before .before .before .before .before .before .before .before .before .before .before .before .before in
+    let laid = attempted .before .before .before .before .before .before .before .before .before .before in
+    attempted .attempt .kept .1 .0 ∙ laid .lay .kept .1 .1 .1 .0
 
 same-length-5 : tie.Need-same-length-5
-same-length-5 c = search needs
+same-length-5 c =
+    let attempted = c .before .before .before .before .before .before .before .before .before .before .before .before .before .before .before .before .before .before .before in
+    let laid = attempted .before .before .before .before .before .before .before .before .before .before in
+    attempted .attempt .kept .1 .1 .0 ∙ laid .lay .kept .1 .1 .1 .1 .0
 
 same-length-6 : tie.Need-same-length-6
 same-length-6 c = search needs
@@ -52,7 +58,7 @@ returns c =
     let a = start .args in
     let finish = c .before .before .before .before .before .before .finish in
     let stays = adding-stays (a .whole) (a .left) (a .front) (a .q) (a .text .now) in
-    tried (start .pre .0) (laid .lay .ensures) (attempted .attempt .ensures) stays (finish .ensures .0) (finish .result) refl (finish .ensures .1)
+    tried (start .pre .0) (laid .lay .ensures) (attempted .attempt .ensures) stays (finish .ensures .0) (finish .result) refl refl (finish .ensures .1)
 
 pub insert-by-spec : {M : Type 1} → statement M
 insert-by-spec =

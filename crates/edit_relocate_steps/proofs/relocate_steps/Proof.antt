@@ -11,15 +11,15 @@ same-length c = search needs
 
 returns : tie.Need-returns
 returns c =
-    let start = c .before .before .before .before .before .before in
-    let split-three = c .before .before .before .split-three in
-    rows-refused (start .args .a) (start .args .b) (start .args .to) (start .args .t .now) (split-three .last .0) (split-three .result) (split-three .ensures) (c .if1 .taken)
+    let start = c .before .before .before .before .before .before .before in
+    let split-three = c .before .before .before .before .split-three in
+    rows-refused (start .args .a) (start .args .b) (start .args .to) (start .args .t .now) (split-three .last .0) _ _ (split-three .ensures) (c .if1 .taken)
 
 move-range-requires : tie.Need-move-range-requires
 move-range-requires c κs =
-    let start = c .before .before .before .before .before .before .before in
-    let split-three = c .before .before .before .before .split-three in (
-      rows-spanned (start .args .a) (start .args .b) (start .args .to) (start .args .t .now) (split-three .last .0) (split-three .result) (split-three .ensures)
+    let start = c .before .before .before .before .before .before .before .before in
+    let split-three = c .before .before .before .before .before .split-three in (
+      rows-spanned (start .args .a) (start .args .b) (start .args .to) (start .args .t .now) (split-three .last .0) _ _ (split-three .ensures)
           (c .before .if1 .left) (start .pre .1 .0),
       start .pre .1 .1,
     )
@@ -29,10 +29,10 @@ same-length-2 c = search needs
 
 returns-2 : tie.Need-returns-2
 returns-2 c =
-    let start = c .before .before .before .before .before .before .before .before .before .before in
-    let split-three = c .before .before .before .before .before .before .before .split-three in
+    let start = c .before .before .before .before .before .before .before .before .before .before .before in
+    let split-three = c .before .before .before .before .before .before .before .before .split-three in
     let move-range = c .before .before .move-range in
-    rows-moved (start .args .a) (start .args .b) (start .args .to) (start .args .t .now) (split-three .last .0) (split-three .result) (split-three .ensures)
+    rows-moved (start .args .a) (start .args .b) (start .args .to) (start .args .t .now) (split-three .last .0) _ _ (split-three .ensures)
     (c .before .before .before .before .if1 .left) (move-range .last .0) (move-range .result) (move-range .ensures)
 
 pub relocate-steps-spec : {M : Type 1} → statement M

@@ -25,7 +25,7 @@ returns : tie.Need-returns
 returns c =
     let finish = c .before .before .before .before .before .before .before .before .before .before .finish in
     let counted = c .counted in
-    (rw (counted .ensures .0) (finish .ensures), counted .ensures .1)
+    (rw (counted .ensures .0, counted .ensures .1) (finish .ensures), counted .ensures .2)
 
 pub finish-spec : {M : Type 1} → statement M
 finish-spec =

@@ -20,11 +20,11 @@ returns : tie.Need-returns
 returns c =
     let counted = c .counted .ensures in
     let taken = c .before .before .before .before .if1 .taken in
-    (record { made = λ z. absurd (taken z); refused = λ _. (counted .0, all-same _ _ _) }, counted .1)
+    (record { made = λ z. absurd (taken z); refused = λ _. (counted .0, all-same _ _ _); no-cuts = λ _. counted .1 }, counted .2)
 
 finish-requires : tie.Need-finish-requires
 finish-requires c κs =
-    let start = c .before .before .before .before .before .before .before .before .before .before in
+    let start = c .before .before .before .before .before .before .before .before .before .before .before in
     (start .pre .0 (c .before .before .before .if1 .left), start .pre .1)
 
 same-length-4 : tie.Need-same-length-4
@@ -40,7 +40,7 @@ returns-2 : tie.Need-returns-2
 returns-2 c =
     let finish = c .before .before .before .before .before .before .finish .ensures in
     let left = c .before .before .before .before .before .before .before .before .before .before .if1 .left in
-    (record { made = λ _. finish .0; refused = λ n. absurd (n left) }, finish .1)
+    (record { made = λ _. finish .0; refused = λ n. absurd (n left); no-cuts = λ n. absurd (n left) }, finish .1)
 
 pub finish-spec : {M : Type 1} → statement M
 finish-spec =

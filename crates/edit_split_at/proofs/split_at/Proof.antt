@@ -6,7 +6,7 @@ use Rattle.memory_table.proofs.Order.{inside-at}
 use Rattle.memory_list.specs.declared.Key.the-variants.{Inside}
 use Rattle.memory_list.specs.Find.{meets, FoundIn}
 use Rattle.edit_split_at.specs.Cuts.{filled}
-use Rattle.edit_split_at.proofs.Cuts.{none-found, found-filled, found-split}
+use Rattle.edit_split_at.proofs.Says.{none-says, filled-says, split-says}
 use borrow.Author.Needs.{needs}
 use Rattle.edit_split_at.proofs.split_at.Statement.{statement}
 use Rattle.edit_split_at.proofs.split_at.Tie as tie
@@ -20,16 +20,20 @@ enum-known-i c = search needs
 enum-told : tie.Need-enum-told
 enum-told c = search needs
 
+in-no-chunk-requires : tie.Need-in-no-chunk-requires
+in-no-chunk-requires c κs = search needs
+
 same-length : tie.Need-same-length
 same-length c = search needs
 
 returns : tie.Need-returns
 returns c =
-    let start = c .before .before .before .before .before in
-    let enum-told = c .enum-told in
-    let find = c .before .before .find in
+    let start = c .before .before .before .before .before .before in
+    let enum-told = c .before .enum-told in
+    let find = c .before .before .before .find in
+    let in-no-chunk = c .in-no-chunk in
     let t = start .args .t .now in
-    none-found (start .args .q) t (start .pre .linked) (subst (FoundIn (meets Inside (start .args .q)) t) (enum-told .given .1) (find .ensures))
+    none-says (start .args .n) (start .args .q) t (start .pre .linked) (subst (FoundIn (meets Inside (start .args .q)) t) (enum-told .given .1) (find .ensures)) _ (in-no-chunk .ensures)
 
 get-row-requires : tie.Need-get-row-requires
 get-row-requires c κs =
@@ -56,7 +60,7 @@ returns-2 c =
     let if1 = c .if1 in
     let t = start .args .t .now in
     let w = subst (FoundIn (meets Inside (start .args .q)) t) (i .given .1) (find .ensures) in
-    found-filled (start .args .q) t (i .given .0 .0) w (start .pre .linked) (sym (ap (λ (r : Row). filled (entryOf r)) (get-row .ensures)) ∙ sym (is-filled .ensures) ∙ if1 .taken)
+    filled-says (start .args .n) (start .args .q) t (i .given .0 .0) w (start .pre .linked) (sym (ap (λ (r : Row). filled (entryOf r)) (get-row .ensures)) ∙ sym (is-filled .ensures) ∙ if1 .taken)
 
 split-row-requires : tie.Need-split-row-requires
 split-row-requires c κs =
@@ -81,7 +85,7 @@ returns-3 c =
     let if1 = c .before .before .before .before .if1 in
     let t = start .args .t .now in
     let w = subst (FoundIn (meets Inside (start .args .q)) t) (i .given .1) (find .ensures) in
-    found-split (start .args .q) t (i .given .0 .0) w (start .pre .linked) (split-row .last .0) (split-row .ensures)
+    split-says (start .args .n) (start .args .q) t (i .given .0 .0) w (start .pre .linked) (split-row .last .0) (split-row .ensures)
     (sym (ap (λ (r : Row). filled (entryOf r)) (get-row .ensures)) ∙ sym (is-filled .ensures) ∙ if1 .left)
 
 pub split-at-spec : {M : Type 1} → statement M
@@ -91,6 +95,7 @@ split-at-spec =
     find-requires
     enum-known-i
     enum-told
+    in-no-chunk-requires
     same-length
     returns
     get-row-requires

@@ -68,7 +68,7 @@ returns c =
     let lt = update-steps .kept .1 .0 in
     let ls = update-steps .kept .1 .1 .0 in
     record {
-      ran = rw (settled .ensures .number-is) (update-top-ran (d .well-formed) (d .above) rm x refl (start .pre .1 .0) e (start .pre .1 .1) lt ls);
+      ran = rw (settled .ensures .number-is, settled .ensures .cuts-are) (update-top-ran (d .well-formed) (d .above) rm x refl (start .pre .1 .0) e (start .pre .1 .1) lt ls);
       above = update-top-above (d .well-formed) (d .above) rm x refl ls (omega arith) (settled .ensures);
     }
 

@@ -1,4 +1,4 @@
-use mathlib.Core.Path.{refl}
+use mathlib.Core.Path.{refl, _∙_}
 use native.Mathlib.Omega.{arith}
 use Rattle.edit_scratch.proofs.Tables.{loaded-roomy}
 use Rattle.edit_room_above.proofs.Finishing.{formed-usable}
@@ -27,7 +27,7 @@ update-steps-requires c κs =
 
 counted-requires : tie.Need-counted-requires
 counted-requires c κs =
-    let loaded = c .before .before .before .before .before .before .before .before .before .before .before .before .before .before .before .before .before in
+    let loaded = c .before .before .before .before .before .before .before .before .before .before .before .before .before .before .before .before .before .before in
     let start = loaded .before .before .before .before .before .before .before .before .before .before .before .before .before .before .before in
     formed-usable (start .pre .0)
 
@@ -53,20 +53,21 @@ returns : tie.Need-returns
 returns c =
     let counted = c .counted in
     let if1 = c .before .before .before .before .if1 in
-    let stepped = c .before .before .before .before .before .before .before .before .before in
+    let stepped = c .before .before .before .before .before .before .before .before .before .before in
     let loaded = stepped .before .before .before .before .before .before .before .before .before in
     let start = loaded .before .before .before .before .before .before .before .before .before .before .before .before .before .before .before in
     let w = start .pre .0 in
     let x = start .pre .1 in
     record {
-      ran = rw (counted .ensures .0, if1 .taken) (update-too-long (x .1 .0) w (x .1 .1) (x .0) (loaded .load .ensures) (stepped .update-steps .ensures) refl (if1 .taken));
-      above = counted .ensures .1;
+      ran = rw (counted .ensures .0, counted .ensures .1, if1 .taken, stepped .update-steps .ensures .no-cuts (if1 .taken))
+          (update-too-long (x .1 .0) w (x .1 .1) (x .0) (loaded .load .ensures) (stepped .update-steps .ensures) refl (if1 .taken));
+      above = counted .ensures .2;
     }
 
 finish-requires : tie.Need-finish-requires
 finish-requires c κs =
     let if1 = c .before .before .before .before .before .before .if1 in
-    let stepped = c .before .before .before .before .before .before .before .before .before .before .before in
+    let stepped = c .before .before .before .before .before .before .before .before .before .before .before .before in
     let loaded = stepped .before .before .before .before .before .before .before .before .before in
     let start = loaded .before .before .before .before .before .before .before .before .before .before .before .before .before .before .before in
     let w = start .pre .0 in
@@ -83,10 +84,16 @@ same-length-9 : tie.Need-same-length-9
 same-length-9 c = search needs
 
 same-length-10 : tie.Need-same-length-10
-same-length-10 c = search needs
+same-length-10 c =
+    let stepped = c .before .before .before .before .before .before .before .before .before .before .before .before .before .before .before .before .before .before .before in
+    let loaded = stepped .before .before .before .before .before .before .before .before .before in
+    stepped .update-steps .kept .1 .0 ∙ loaded .load .kept .1 .1 .1 .0
 
 same-length-11 : tie.Need-same-length-11
-same-length-11 c = search needs
+same-length-11 c =
+    let loaded = c .before .before .before .before .before .before .before .before .before .before .before .before .before .before .before .before .before .before .before .before
+    .before .before .before .before .before .before .before .before in
+    loaded .load .kept .1 .1 .1 .1 .0
 
 same-length-12 : tie.Need-same-length-12
 same-length-12 c = search needs
@@ -95,7 +102,7 @@ returns-2 : tie.Need-returns-2
 returns-2 c =
     let finish = c .before .before .before .before .before .before .finish in
     let if1 = c .before .before .before .before .before .before .before .before .before .before .before .before .before .if1 in
-    let stepped = c .before .before .before .before .before .before .before .before .before .before .before .before .before .before .before .before .before .before in
+    let stepped = c .before .before .before .before .before .before .before .before .before .before .before .before .before .before .before .before .before .before .before in
     let loaded = stepped .before .before .before .before .before .before .before .before .before in
     let start = loaded .before .before .before .before .before .before .before .before .before .before .before .before .before .before .before in
     let w = start .pre .0 in

@@ -1,6 +1,6 @@
 use mathlib.Core.Path.{_∙_}
 use native.Mathlib.Omega.{arith}
-use Rattle.indent_scratch.proofs.Ran.{steps-ready, indent-readable, indent-past, indent-ran}
+use Rattle.indent_scratch.proofs.Ran.{steps-ready, indent-readable, indent-some, indent-past, indent-ran}
 use Rattle.edit_room_above.proofs.Finishing.{formed-usable}
 use borrow.Author.Needs.{needs}
 use Rattle.indent_scratch.proofs.indent_by.Statement.{statement}
@@ -15,8 +15,8 @@ load-requires c κs =
 
 indent-steps-requires : tie.Need-indent-steps-requires
 indent-steps-requires c κs =
-    let start = c .before .before .before .before .before .before .before .before .before .before .before .before .before .before .before .before .before
-    .before .before .before .before .before .before .before .before .before .before in
+    let start = c .before .before .before .before .before .before .before .before .before .before .before .before .before .before .before .before .before .before .before .before
+    .before .before .before .before .before .before .before in
     steps-ready (start .pre .0 .well-formed) (start .pre .1) (c .before .before .before .before .before .before .before .before .before .before .before .load .ensures)
 
 same-length : tie.Need-same-length
@@ -39,22 +39,35 @@ same-length-6 c = search needs
 
 returns : tie.Need-returns
 returns c =
-    let start = c .before .before .before .before .before .before .before .before .before .before .before .before .before .before .before .before .before
-    .before .before .before .before .before .before .before .before .before .before .before .before .before .before .before .before .before
-    .before in
+    let start = c .before .before .before .before .before .before .before .before .before .before .before .before .before .before .before .before .before .before .before .before
+    .before .before .before .before .before .before .before .before .before .before .before .before .before .before .before in
     let load = c .before .before .before .before .before .before .before .before .before .before .before .before .before .before .before .before .before .before .before .load in
     let indent-steps = c .before .before .before .before .before .before .before .indent-steps in
     (indent-past (start .pre .0 .well-formed) (start .pre .1) (load .ensures) (indent-steps .ensures) (c .if1 .taken), start .pre .0 .above)
 
+added-requires : tie.Need-added-requires
+added-requires c κs =
+    let start = c .before .before .before .before .before .before .before .before .before .before .before .before .before .before .before .before .before .before .before .before
+    .before .before .before .before .before .before .before .before .before .before .before .before .before .before .before .before .before in
+    let load = c .before .before .before .before .before .before .before .before .before .before .before .before .before .before .before .before .before .before .before .before .before .load in
+    let steps = c .before .before .before .before .before .before .before .before .before .indent-steps in
+    let if1 = c .before .before .if1 in
+    let h = start .pre .0 .well-formed in
+    let y = indent-readable h (start .pre .1) (load .ensures) (steps .ensures) (if1 .left) in (
+      omega (arith, h .readable .linked .room),
+      omega (arith, y .linked .room),
+      indent-some h (start .pre .1) (load .ensures) (steps .ensures) (if1 .left),
+    )
+
 finish-requires : tie.Need-finish-requires
 finish-requires c κs =
-    let start = c .before .before .before .before .before .before .before .before .before .before .before .before .before .before .before .before .before
-    .before .before .before .before .before .before .before .before .before .before .before .before .before .before .before .before .before .before
-    .before .before .before .before .before .before in
-    let load = c .before .before .before .before .before .before .before .before .before .before .before .before .before .before .before .before .before
+    let start = c .before .before .before .before .before .before .before .before .before .before .before .before .before .before .before .before .before .before .before .before
+    .before .before .before .before .before .before .before .before .before .before .before .before .before .before .before .before .before .before .before .before .before .before
+    .before .before in
+    let load = c .before .before .before .before .before .before .before .before .before .before .before .before .before .before .before .before .before .before .before .before
     .before .before .before .before .before .before .before .before .load in
-    let indent-steps = c .before .before .before .before .before .before .before .before .before .before .before .before .before .indent-steps in
-    let if1 = c .before .before .before .before .before .before .if1 in
+    let indent-steps = c .before .before .before .before .before .before .before .before .before .before .before .before .before .before .before .before .indent-steps in
+    let if1 = c .before .before .before .before .before .before .before .before .before .if1 in
     (indent-readable (start .pre .0 .well-formed) (start .pre .1) (load .ensures) (indent-steps .ensures) (if1 .left), formed-usable (start .pre .0 .well-formed))
 
 same-length-7 : tie.Need-same-length-7
@@ -68,33 +81,40 @@ same-length-9 c = search needs
 
 same-length-10 : tie.Need-same-length-10
 same-length-10 c =
-    let load = c .before .before .before .before .before .before .before .before .before .before .before .before .before .before .before .before .before
+    let load = c .before .before .before .before .before .before .before .before .before .before .before .before .before .before .before .before .before .before .before .before
     .before .before .before .before .before .before .before .before .before .before .before .before .before .before .before .load in
-    let steps = c .before .before .before .before .before .before .before .before .before .before .before .before .before .before .before .before .before .before .before .before .indent-steps in
+    let steps = c .before .before .before .before .before .before .before .before .before .before .before .before .before .before .before .before .before .before .before .before
+    .before .before .before .indent-steps in
     steps .kept .1 .1 .1 .0 ∙ load .kept .1 .1 .1 .0
 
 same-length-11 : tie.Need-same-length-11
 same-length-11 c =
-    let load = c .before .before .before .before .before .before .before .before .before .before .before .before .before .before .before .before .before
+    let load = c .before .before .before .before .before .before .before .before .before .before .before .before .before .before .before .before .before .before .before .before
     .before .before .before .before .before .before .before .before .before .before .before .before .before .before .before .load in
-    let steps = c .before .before .before .before .before .before .before .before .before .before .before .before .before .before .before .before .before .before .before .before .indent-steps in
+    let steps = c .before .before .before .before .before .before .before .before .before .before .before .before .before .before .before .before .before .before .before .before
+    .before .before .before .indent-steps in
     steps .kept .1 .1 .1 .1 .0 ∙ load .kept .1 .1 .1 .1 .0
 
 same-length-12 : tie.Need-same-length-12
-same-length-12 c = search needs
+same-length-12 c =
+    let stepped = c .before .before .before .before .before .before .before .before .before .before .before .before .before .before .before .before .before .before .before .before
+    .before .before .before in
+    let loaded = stepped .before .before .before .before .before .before .before .before .before .before .before .before in
+    stepped .indent-steps .kept .1 .1 .1 .1 .1 .0 ∙ loaded .load .kept .1 .1 .1 .1 .1 .0
 
 returns-2 : tie.Need-returns-2
 returns-2 c =
-    let start = c .before .before .before .before .before .before .before .before .before .before .before .before .before .before .before .before .before
-    .before .before .before .before .before .before .before .before .before .before .before .before .before .before .before .before .before .before
-    .before .before .before .before .before .before .before .before .before .before .before .before .before in
+    let start = c .before .before .before .before .before .before .before .before .before .before .before .before .before .before .before .before .before .before .before .before
+    .before .before .before .before .before .before .before .before .before .before .before .before .before .before .before .before .before .before .before .before .before .before
+    .before .before .before .before .before .before .before .before .before in
+    let added = c .before .before .before .before .before .before .before .before .before .before .before .before .before .added in
     let finish = c .before .before .before .before .before .before .finish in
-    let load = c .before .before .before .before .before .before .before .before .before .before .before .before .before .before .before .before .before
+    let load = c .before .before .before .before .before .before .before .before .before .before .before .before .before .before .before .before .before .before .before .before
     .before .before .before .before .before .before .before .before .before .before .before .before .before .before .before .load in
-    let indent-steps = c .before .before .before .before .before .before .before .before .before .before .before .before .before .before .before .before
+    let indent-steps = c .before .before .before .before .before .before .before .before .before .before .before .before .before .before .before .before .before .before .before
     .before .before .before .before .indent-steps in
-    let if1 = c .before .before .before .before .before .before .before .before .before .before .before .before .before .if1 in
-    (indent-ran (start .pre .0 .well-formed) (start .pre .1) (load .ensures) (indent-steps .ensures) (if1 .left) (finish .ensures .0), finish .ensures .1)
+    let if1 = c .before .before .before .before .before .before .before .before .before .before .before .before .before .before .before .before .if1 in
+    (indent-ran (start .pre .0 .well-formed) (start .pre .1) (load .ensures) (indent-steps .ensures) (if1 .left) (added .ensures) (finish .ensures .0), finish .ensures .1)
 
 pub indent-by-spec : {M : Type 1} → statement M
 indent-by-spec =
@@ -109,6 +129,7 @@ indent-by-spec =
     same-length-5
     same-length-6
     returns
+    added-requires
     finish-requires
     same-length-7
     same-length-8

@@ -1,4 +1,4 @@
-use mathlib.Core.Path.{subst}
+use mathlib.Core.Path.{refl, subst}
 use Rattle.open.specs.OpenedWith.{Opens}
 use Rattle.open.proofs.Opening.{opened-refused, opened-0}
 use borrow.Author.Needs.{needs}
@@ -19,13 +19,13 @@ same-length c = search needs
 returns : tie.Need-returns
 returns c =
     let number = c .before .before .before .before .before .source-number in
-    opened-0 _ _ _ _ _ _ (number .ensures) (c .before .before .before .before .if1 .taken) (c .before .before .open-rows .ensures)
+    opened-0 _ _ _ _ _ _ (number .ensures) refl (c .before .before .before .before .if1 .taken) (c .before .before .open-rows .ensures)
 
 unused-requires : tie.Need-unused-requires
 unused-requires c κs = search needs
 
 returns-2 : tie.Need-returns-2
-returns-2 c = opened-refused _ _ _ _ _ (c .before .before .source-number .ensures) (c .before .if1 .left)
+returns-2 c = opened-refused _ _ _ _ _ (c .before .before .source-number .ensures) refl (c .before .if1 .left)
 
 pub open-with-spec : {M : Type 1} → statement M
 open-with-spec =

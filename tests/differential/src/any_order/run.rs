@@ -35,11 +35,12 @@ pub fn run(core: &mut impl Core, sitting: &Sitting, tally: &mut Tally) -> Result
     return Ok(());
   }
   let expected = expected(sitting);
+  let mut cuts = Vec::new();
   for (number, order) in sitting.orders.iter().enumerate() {
     let run = run_order(core, sitting, order, number, &expected);
-    run.map_err(|what| Difference { order: order.clone(), what })?;
+    cuts.push(run.map_err(|what| Difference { order: order.clone(), what })?);
   }
-  tally.add(sitting, expected.later.iter().map(|seen| seen.answer.number));
+  tally.add(sitting, &cuts, expected.later.iter().map(|seen| seen.answer.number));
   Ok(())
 }
 
@@ -55,19 +56,26 @@ fn expected(sitting: &Sitting) -> Outcome {
   Outcome { desk: left, text, later, end: desk.data() }
 }
 
+/// How many cuts each edit of a list made in an order: as many chunks as it brought in.
+pub type Cuts = Vec<u32>;
+
 fn run_order(
   core: &mut impl Core,
   sitting: &Sitting,
   order: &[usize],
   number: usize,
   expected: &Outcome,
-) -> Result<(), String> {
+) -> Result<Cuts, String> {
   let mut image = memory(core, sitting, number)?;
+  let mut cuts = vec![0; sitting.list.len()];
   for &place in order {
     let call = &sitting.list[place];
+    let before = image.count() as u32;
     let answer = make(core, &mut image, call);
-    if answer != Answer::ACCEPTED {
-      return Err(format!("{call} gives {answer:?}"));
+    cuts[place] = (image.count() as u32).wrapping_sub(before);
+    let accepted = Answer { number: 0, value: cuts[place] };
+    if answer != accepted {
+      return Err(format!("{call} gives {answer:?}, not {accepted:?}"));
     }
   }
   image.check_desk(&expected.desk)?;
@@ -77,7 +85,8 @@ fn run_order(
     let seen = later.make(core, &mut image);
     seen.same_as(expected).map_err(|what| format!("later, {}: {what}", later.call))?;
   }
-  image.check_desk(&expected.end).map_err(|what| format!("behind the later calls, {what}"))
+  image.check_desk(&expected.end).map_err(|what| format!("behind the later calls, {what}"))?;
+  Ok(cuts)
 }
 
 /// Memory of the desk that the list is run from, other memory for each order.

@@ -7,6 +7,7 @@ use oracle::Call;
 use super::{
   Sitting,
   premises::{Left, Premises, inserts, is_move},
+  run::Cuts,
   sitting::Start,
 };
 
@@ -19,6 +20,8 @@ pub struct Tally {
   pub passed_over: u64,
   /// How many of the lists had each of these.
   with: [u64; KINDS.len()],
+  /// How many had an edit that made more cuts in one order than in another.
+  pub cut_otherwise: u64,
   /// The numbers of later calls, once for each list.
   pub numbers: [u64; 16],
 }
@@ -55,8 +58,11 @@ fn overwrites(call: &Call) -> Option<bool> {
   if let Call::UpdateWith { overwrite, .. } = call { Some(*overwrite != 0) } else { None }
 }
 
+const CUT_OTHERWISE: &str = "an edit that cuts otherwise in another order";
+
 impl Tally {
-  pub fn add(&mut self, sitting: &Sitting, later: impl Iterator<Item = u32>) {
+  /// A sitting, with the cuts of its edits in each order, and the numbers of later calls.
+  pub fn add(&mut self, sitting: &Sitting, cuts: &[Cuts], later: impl Iterator<Item = u32>) {
     self.lists += 1;
     self.orders += sitting.orders.len() as u64;
     self.edits += (sitting.orders.len() * sitting.list.len()) as u64;
@@ -64,23 +70,30 @@ impl Tally {
     for (with, (_, has)) in self.with.iter_mut().zip(KINDS) {
       *with += has(sitting, left) as u64;
     }
+    self.cut_otherwise += cuts.windows(2).any(|pair| pair[0] != pair[1]) as u64;
     later.for_each(|number| self.numbers[number as usize] += 1);
   }
 
   /// What no list had, and the numbers that no later call gave; 1 to 15 but 2.
   pub fn missing(&self) -> Vec<String> {
-    let kinds = KINDS.iter().zip(self.with).filter(|(_, with)| *with == 0);
-    let kinds = kinds.map(|((name, _), _)| format!("no list had {name}"));
+    let kinds = self.kinds().into_iter().filter(|(_, with)| *with == 0);
+    let kinds = kinds.map(|(name, _)| format!("no list had {name}"));
     let numbers = self.numbers.iter().enumerate().filter(|&(number, met)| number != 2 && *met == 0);
     let numbers = numbers.map(|(number, _)| format!("no later call gave {number}"));
     kinds.chain(numbers).collect()
+  }
+
+  /// What lists may have, and how many had it.
+  fn kinds(&self) -> Vec<(&'static str, u64)> {
+    let kinds = KINDS.iter().map(|(name, _)| *name).zip(self.with);
+    kinds.chain([(CUT_OTHERWISE, self.cut_otherwise)]).collect()
   }
 }
 
 impl fmt::Display for Tally {
   fn fmt(&self, out: &mut fmt::Formatter) -> fmt::Result {
     writeln!(out, "lists: {}", self.lists)?;
-    for ((name, _), with) in KINDS.iter().zip(self.with) {
+    for (name, with) in self.kinds() {
       writeln!(out, "  with {name}: {with}")?;
     }
     if self.passed_over > 0 {

@@ -31,9 +31,14 @@ unsafe extern "C" {
     calls_len: usize,
     texts: *const u8,
     texts_len: usize,
-    numbers: *mut u32,
-    numbers_len: usize,
+    answers: *mut u32,
+    answers_len: usize,
   ) -> Answer;
+}
+
+/// What `inner_paper` writes of an edit: its number, and from bit 8 on its cuts.
+pub fn inner_answer(word: u32) -> Answer {
+  Answer { number: word & 0xff, value: word >> 8 }
 }
 
 impl Lent<'_> {
@@ -53,8 +58,9 @@ impl Lent<'_> {
     }
   }
 
-  /// Makes the edits of a list behind one check. The value is how many were made.
-  pub fn inner_paper(&mut self, list: &List, numbers: &mut [u32]) -> Answer {
+  /// Makes the edits of a list behind one check and writes the `inner_answer` of each. The
+  /// value is how many were made.
+  pub fn inner_paper(&mut self, list: &List, answers: &mut [u32]) -> Answer {
     unsafe {
       inner_paper(
         self.source.as_ptr(),
@@ -69,8 +75,8 @@ impl Lent<'_> {
         list.calls.len(),
         list.texts.as_ptr(),
         list.texts.len(),
-        numbers.as_mut_ptr(),
-        numbers.len(),
+        answers.as_mut_ptr(),
+        answers.len(),
       )
     }
   }
@@ -134,7 +140,7 @@ fn words(call: &Call, unseen: &Unseen) -> [u32; 4] {
 #[derive(Debug, Clone, Copy)]
 pub struct Inner;
 
-/// Stands in the numbers that are not written.
+/// Stands in the answers that are not written.
 const UNWRITTEN: u32 = 0xdead_beef;
 
 impl Core for Inner {
@@ -174,16 +180,16 @@ impl Core for Inner {
 
   fn list(&mut self, lent: &mut Lent, calls: &[&Call], unseen: &Unseen) -> Vec<Answer> {
     let list = List::new(calls.iter().copied(), unseen);
-    let mut numbers = vec![UNWRITTEN; calls.len() + 2];
-    // Room for one number more than there are calls, and a word that is not lent.
-    let answer = lent.inner_paper(&list, &mut numbers[..calls.len() + 1]);
-    let made = if answer == Answer::NO_DESK { 0 } else { calls.len() };
-    let counted = answer == Answer { number: 0, value: made as u32 } || made == 0;
-    assert!(counted, "a list of {made} edits gives {answer:?}");
-    assert!(numbers[made..].iter().all(|&number| number == UNWRITTEN), "numbers of no edit");
+    let mut answers = vec![UNWRITTEN; calls.len() + 2];
+    // Room for one answer more than there are calls, and a word that is not lent.
+    let whole = lent.inner_paper(&list, &mut answers[..calls.len() + 1]);
+    let made = if whole == Answer::NO_DESK { 0 } else { calls.len() };
+    let counted = whole == Answer { number: 0, value: made as u32 } || made == 0;
+    assert!(counted, "a list of {made} edits gives {whole:?}");
+    assert!(answers[made..].iter().all(|&word| word == UNWRITTEN), "answers of no edit");
     match made {
       0 => vec![Answer::NO_DESK; calls.len()],
-      _ => numbers[..made].iter().map(|&number| Answer { number, value: 0 }).collect(),
+      _ => answers[..made].iter().map(|&word| inner_answer(word)).collect(),
     }
   }
 }

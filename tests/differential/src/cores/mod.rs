@@ -10,7 +10,7 @@ mod unseen;
 #[cfg(feature = "archive")]
 pub use archive::Archive;
 #[cfg(feature = "inner")]
-pub use inner::{Inner, List};
+pub use inner::{Inner, List, inner_answer};
 use oracle::Call;
 pub use stand_in::StandIn;
 pub use unseen::Unseen;

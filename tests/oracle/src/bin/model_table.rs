@@ -2,7 +2,9 @@
 //! together, with the Rust's answers and the desk at the end of each, as
 //! statements for the checker: each paper with document 01's limits and with tiny
 //! ones, under which 13 takes the place of 0, 6, 7, 9 and an update's 10. Papers
-//! with long texts are passed over: the checker computes with lists.
+//! with long texts are passed over: the checker computes with lists. The first line
+//! says how many edits each 13 stands for, the second how many edits report cuts, by
+//! number.
 
 use std::{collections::BTreeMap, process::ExitCode};
 
@@ -28,25 +30,39 @@ fn main() -> ExitCode {
 fn table(seed: u64, count: usize) -> String {
   let mut statements = String::new();
   let (mut papers, mut calls) = (0, 0);
-  let mut by_13 = BTreeMap::new();
+  let (mut by_13, mut with_cuts) = (Vec::new(), Vec::new());
   for paper in generate::generate(seed, count * 3).chunk_by(|_, next| !is_open(next)) {
     if calls >= count {
       break;
     }
-    let Some(full) = played(paper, Limits::FULL, &mut BTreeMap::new()) else { continue };
-    statements += &statement(&format!("paper{papers}"), "full", &full);
+    let Some(full) = played(paper, Limits::FULL) else { continue };
+    statements += &statement(&format!("paper{papers}"), "full", &full.lines);
+    with_cuts.extend(full.with_cuts);
     let [chunks, pieces, bytes] = TINY[papers % TINY.len()];
     let tiny = Limits { chunks, pieces, bytes, ..Limits::FULL };
-    if let Some(lines) = played(paper, tiny, &mut by_13) {
+    if let Some(tiny) = played(paper, tiny) {
       let limits = format!("(tiny {chunks} {pieces} {bytes})");
-      statements += &statement(&format!("tiny{papers}"), &limits, &lines);
+      statements += &statement(&format!("tiny{papers}"), &limits, &tiny.lines);
+      by_13.extend(tiny.by_13);
+      with_cuts.extend(tiny.with_cuts);
     }
     papers += 1;
     calls += paper.len();
   }
-  let by_13: Vec<String> = by_13.iter().map(|(number, times)| format!("{number}: {times}")).collect();
-  let by_13 = by_13.join(", ");
-  format!("-- {papers} papers, {calls} calls, seed {seed}; with tiny limits 13 in place of {by_13}\n{statements}")
+  let [by_13, with_cuts] = [by_13, with_cuts].map(counted);
+  format!(
+    "-- {papers} papers, {calls} calls, seed {seed}; with tiny limits 13 in place of {by_13}\n\
+    -- edits that report cuts, by number: {with_cuts}\n{statements}"
+  )
+}
+
+/// How often each number is there.
+fn counted(numbers: Vec<u32>) -> String {
+  let mut times = BTreeMap::<u32, usize>::new();
+  numbers.into_iter().for_each(|number| *times.entry(number).or_default() += 1);
+  let times: Vec<String> =
+    times.iter().map(|(number, times)| format!("{number}: {times}")).collect();
+  times.join(", ")
 }
 
 fn is_open(call: &Call) -> bool {
@@ -58,12 +74,19 @@ fn statement(name: &str, limits: &str, lines: &[String]) -> String {
   format!("\n{name} : Right {limits} (\n    {lines} ∷ [])\nUNFOLDING\n{name} = refl\n")
 }
 
-/// A paper's calls with their answers, and the desk that they leave. None for a paper
-/// with long texts, or whose opening is refused. Counts each 13 of an edit by the number
-/// that document 01's limits would give on the same desk.
-fn played(paper: &[Call], limits: Limits, by_13: &mut BTreeMap<u32, usize>) -> Option<Vec<String>> {
+/// A paper's calls with their answers, and the desk that they leave.
+struct Played {
+  lines: Vec<String>,
+  /// For each 13 of an edit, the number that document 01's limits give on the same desk.
+  by_13: Vec<u32>,
+  /// The number of each edit that reports cuts.
+  with_cuts: Vec<u32>,
+}
+
+/// None for a paper with long texts, or whose opening is refused.
+fn played(paper: &[Call], limits: Limits) -> Option<Played> {
   let mut script = Script::new(limits);
-  let mut lines = Vec::new();
+  let mut played = Played { lines: Vec::new(), by_13: Vec::new(), with_cuts: Vec::new() };
   for call in paper.iter().filter(|call| **call != Call::Dump) {
     let before = script.desk().map(Desk::data);
     let answer = script.call(call)?;
@@ -72,11 +95,13 @@ fn played(paper: &[Call], limits: Limits, by_13: &mut BTreeMap<u32, usize>) -> O
       return None;
     }
     if let (13, Some(before)) = (answer.number, before) {
-      let unlimited = apply(&mut Desk::build(Limits::FULL, &before), call);
-      *by_13.entry(unlimited.number).or_default() += 1;
+      played.by_13.push(apply(&mut Desk::build(Limits::FULL, &before), call).number);
     }
-    lines.push(antt::step(call, &answer));
+    if call.is_edit() && answer.value > 0 {
+      played.with_cuts.push(answer.number);
+    }
+    played.lines.push(antt::step(call, &answer));
   }
-  lines.push(antt::desk(&script.desk()?.data()));
-  Some(lines)
+  played.lines.push(antt::desk(&script.desk()?.data()));
+  Some(played)
 }

@@ -6,7 +6,6 @@ impl MagicString {
   /// # Errors
   /// [`Refusal::Limit`].
   pub fn append(&mut self, source: impl AsRef<str>) -> Result<&mut Self, Refusal> {
-    self.memory.append(source.as_ref())?;
-    Ok(self)
+    self.edit(|memory| memory.append(source.as_ref()))
   }
 }

@@ -60,7 +60,6 @@ impl MagicString {
   /// ```
   pub fn indent_with(&mut self, opts: IndentOptions) -> Result<&mut Self, Refusal> {
     let exclude: Vec<u32> = opts.exclude.iter().flat_map(|&(start, end)| [start, end]).collect();
-    self.memory.indent_with(opts.indentor, &exclude)?;
-    Ok(self)
+    self.edit(|memory| memory.indent_with(opts.indentor, &exclude))
   }
 }

@@ -52,7 +52,6 @@ impl MagicString {
     side: Side,
     end: End,
   ) -> Result<&mut Self, Refusal> {
-    self.memory.insert(at, text.as_ref(), side == Side::Left, end == End::Front)?;
-    Ok(self)
+    self.edit(|memory| memory.insert(at, text.as_ref(), side == Side::Left, end == End::Front))
   }
 }

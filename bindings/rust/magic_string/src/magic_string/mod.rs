@@ -11,6 +11,8 @@ pub mod update;
 
 use std::fmt;
 
+use magic_string_sys::Answer;
+
 use crate::{Chunks, Refusal, ffi::Answered, layout::*, memory::Memory};
 
 /// A text and the edits filed on it: document 01's desk.
@@ -21,6 +23,8 @@ use crate::{Chunks, Refusal, ffi::Answered, layout::*, memory::Memory};
 #[derive(Clone)]
 pub struct MagicString {
   memory: Memory,
+  /// Of the last edit.
+  cuts: u32,
 }
 
 impl Default for MagicString {
@@ -53,7 +57,7 @@ impl MagicString {
   pub fn from_utf8(source: impl Into<Vec<u8>>) -> Result<Self, Refusal> {
     let mut memory = Memory::new(source.into());
     memory.open()?;
-    Ok(Self { memory })
+    Ok(Self { memory, cuts: 0 })
   }
 
   /// The desk that this memory holds; docs/LAYOUT.md has its words. What
@@ -74,7 +78,7 @@ impl MagicString {
       store: store.into().into(),
     };
     memory.well_formed()?;
-    Ok(Self { memory })
+    Ok(Self { memory, cuts: 0 })
   }
 }
 
@@ -116,9 +120,49 @@ impl MagicString {
     Chunks::new(&self.memory)
   }
 
+  /// How many cuts the last edit made that remain, whether it was accepted or refused: how
+  /// many chunks more the desk has by it. A cut makes two chunks of the one that it falls
+  /// into. It makes none where a chunk ends already, at 0, and at the end of the source or
+  /// past it.
+  ///
+  /// It is at most 1 for an insertion, 2 for a removal, replacement or reset, 3 for a move,
+  /// and for an indent one for each line that it indents; 0 for any other edit. It is 0
+  /// after a refusal that leaves the desk as it was, and so after [`Refusal::Limit`].
+  ///
+  /// Reports do not change it. It is 0 until the first edit is made on this `MagicString`:
+  /// on one that was opened, or made by [`Self::from_tables`] or [`Self::run_sheet`]. A
+  /// clone begins with that of its original, and `==` does not look at it.
+  ///
+  /// # Example
+  /// ```
+  /// use magic_string::{MagicString, Refusal};
+  /// let mut s = MagicString::new("abcdef").unwrap();
+  /// assert_eq!(s.cuts(), 0);
+  /// assert_eq!(s.update(2, 4, "X").unwrap().cuts(), 2);
+  /// // A chunk ends at 4 already.
+  /// assert_eq!(s.remove(4, 5).unwrap().cuts(), 1);
+  /// // The cut at 1 is made and stays; the one at 3, inside the X, is refused.
+  /// assert_eq!(s.remove(1, 3).err(), Some(Refusal::CutInReplacement));
+  /// assert_eq!(s.cuts(), 1);
+  /// assert_eq!(s.append("!").unwrap().cuts(), 0);
+  /// ```
+  pub fn cuts(&self) -> usize {
+    self.cuts as usize
+  }
+
   /// The memory as it stands: chunks, pieces, store.
   pub fn tables(&self) -> (&[u32], &[u32], &[u8]) {
     (&self.memory.chunks, &self.memory.pieces, &self.memory.store)
+  }
+}
+
+/// Edits stand in files of their own; each is made here.
+impl MagicString {
+  fn edit(&mut self, call: impl FnOnce(&mut Memory) -> Answer) -> Result<&mut Self, Refusal> {
+    let Answer { number, value } = call(&mut self.memory);
+    self.cuts = value;
+    Refusal::answer(number)?;
+    Ok(self)
   }
 }
 

@@ -17,8 +17,7 @@ impl MagicString {
   /// assert_eq!(s.to_string(), "aZf");
   /// ```
   pub fn remove(&mut self, start: u32, end: u32) -> Result<&mut Self, Refusal> {
-    self.memory.remove(start, end)?;
-    Ok(self)
+    self.edit(|memory| memory.remove(start, end))
   }
 
   /// Moves the source bytes from `start` up to `end` before the chunk that starts at
@@ -43,7 +42,6 @@ impl MagicString {
   /// ```
   // `move` is a reserved word in Rust; string_wizard's name is used.
   pub fn relocate(&mut self, start: u32, end: u32, to: u32) -> Result<&mut Self, Refusal> {
-    self.memory.relocate(start, end, to)?;
-    Ok(self)
+    self.edit(|memory| memory.relocate(start, end, to))
   }
 }

@@ -6,7 +6,6 @@ impl MagicString {
   /// # Errors
   /// [`Refusal::Limit`].
   pub fn prepend(&mut self, source: impl AsRef<str>) -> Result<&mut Self, Refusal> {
-    self.memory.prepend(source.as_ref())?;
-    Ok(self)
+    self.edit(|memory| memory.prepend(source.as_ref()))
   }
 }

@@ -19,7 +19,6 @@ impl MagicString {
   /// assert_eq!(s.to_string(), "acdf");
   /// ```
   pub fn reset(&mut self, start: u32, end: u32) -> Result<&mut Self, Refusal> {
-    self.memory.reset(start, end)?;
-    Ok(self)
+    self.edit(|memory| memory.reset(start, end))
   }
 }

@@ -48,7 +48,7 @@ impl MagicString {
     let written = memory.run_sheet(sheet, &mut answers)?;
     memory.source = source(sheet).into();
     let answers = answers[..written as usize].iter().map(|&number| Refusal::answer(number.into()));
-    Ok(SheetRun { desk: Self { memory }, answers: answers.collect() })
+    Ok(SheetRun { desk: Self { memory, cuts: 0 }, answers: answers.collect() })
   }
 }
 

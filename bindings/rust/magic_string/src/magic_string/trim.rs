@@ -18,8 +18,7 @@ impl MagicString {
   /// assert_eq!(s.trim(Some("[a-c]")).err(), Some(Refusal::BadOption));
   /// ```
   pub fn trim(&mut self, char_type: Option<&str>) -> Result<&mut Self, Refusal> {
-    self.memory.trim(pattern(char_type))?;
-    Ok(self)
+    self.edit(|memory| memory.trim(pattern(char_type)))
   }
 
   /// Off the start alone. The whole's outro is never touched.
@@ -27,8 +26,7 @@ impl MagicString {
   /// # Errors
   /// As [`Self::trim`].
   pub fn trim_start(&mut self, char_type: Option<&str>) -> Result<&mut Self, Refusal> {
-    self.memory.trim_start(pattern(char_type))?;
-    Ok(self)
+    self.edit(|memory| memory.trim_start(pattern(char_type)))
   }
 
   /// Off the end alone. The whole's intro is never touched.
@@ -36,8 +34,7 @@ impl MagicString {
   /// # Errors
   /// As [`Self::trim`].
   pub fn trim_end(&mut self, char_type: Option<&str>) -> Result<&mut Self, Refusal> {
-    self.memory.trim_end(pattern(char_type))?;
-    Ok(self)
+    self.edit(|memory| memory.trim_end(pattern(char_type)))
   }
 
   /// Takes line ends off both ends.
@@ -45,8 +42,7 @@ impl MagicString {
   /// # Errors
   /// [`Refusal::Limit`].
   pub fn trim_lines(&mut self) -> Result<&mut Self, Refusal> {
-    self.memory.trim_lines()?;
-    Ok(self)
+    self.edit(|memory| memory.trim_lines())
   }
 }
 

@@ -49,7 +49,6 @@ impl MagicString {
     content: impl AsRef<str>,
     opts: UpdateOptions,
   ) -> Result<&mut Self, Refusal> {
-    self.memory.update_with(start, end, content.as_ref(), opts.overwrite)?;
-    Ok(self)
+    self.edit(|memory| memory.update_with(start, end, content.as_ref(), opts.overwrite))
   }
 }

@@ -1,5 +1,5 @@
 use borrow.Author.Needs.{needs}
-use mathlib.Core.Path.{refl, ap}
+use mathlib.Core.Path.{ap}
 use mathlib.Core.Bool.{Bool}
 use Rattle.model.specs.Call.{indent-with}
 use Rattle.memory.specs.Calls.{indentor-of}
@@ -32,7 +32,7 @@ returns : tie.Need-returns
 returns c =
     let a = c .before .before .before .before .before .before .before .before .before .before .before .before .before .args in
     let taken = c .before .before .taken in
-    (edited-no (seen-none (a .source .now) (a .chunks .now) (a .pieces .now) (a .store .now) (c .enum-told .given .1) (taken .ensures)), refl)
+    edited-no (seen-none (a .source .now) (a .chunks .now) (a .pieces .now) (a .store .now) (c .enum-told .given .1) (taken .ensures))
 
 indent-with-requires : tie.Need-indent-with-requires
 indent-with-requires c κs =
@@ -58,7 +58,8 @@ returns-2 c =
     let used = c .before .before .before .before .before .before .before .before .before .before .before .used in
     let done = c .before .before .before .before .before .before .indent-with in
     let option = c .before .before .before .before .before .before .before .before .before .before .before .before .before .before .before .before .before .flag in
-    (edited-as (ap (λ (o : Bool). indent-with (indentor-of o (a .indentor .now)) (a .exclude .now)) (option .ensures)) (edited-yes (seen-taken (a .source .now) (a .chunks .now) (a .pieces .now) (a .store .now) (used .given .0 .0) (used .given .1) (taken .ensures)) (done .ensures .ran)), refl)
+    edited-as (ap (λ (o : Bool). indent-with (indentor-of o (a .indentor .now)) (a .exclude .now)) (option .ensures))
+    (edited-yes (seen-taken (a .source .now) (a .chunks .now) (a .pieces .now) (a .store .now) (used .given .0 .0) (used .given .1) (taken .ensures)) (done .ensures .ran))
 
 pub magic-string-indent-with-spec : {M : Type 1} → statement M
 magic-string-indent-with-spec =

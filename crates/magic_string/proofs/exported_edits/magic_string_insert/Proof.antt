@@ -1,5 +1,5 @@
 use borrow.Author.Needs.{needs}
-use mathlib.Core.Path.{refl, ap₂}
+use mathlib.Core.Path.{ap₂}
 use mathlib.Core.Bool.{Bool}
 use Rattle.model.specs.Call.{insert}
 use Rattle.magic_string.proofs.Exported.{seen-none, seen-taken, seen-desk, edited-yes, edited-no, edited-as}
@@ -34,7 +34,7 @@ returns : tie.Need-returns
 returns c =
     let a = c .before .before .before .before .before .before .before .before .before .before .before .before .before .args in
     let taken = c .before .before .taken in
-    (edited-no (seen-none (a .source .now) (a .chunks .now) (a .pieces .now) (a .store .now) (c .enum-told .given .1) (taken .ensures)), refl)
+    edited-no (seen-none (a .source .now) (a .chunks .now) (a .pieces .now) (a .store .now) (c .enum-told .given .1) (taken .ensures))
 
 insert-requires : tie.Need-insert-requires
 insert-requires c κs =
@@ -62,7 +62,7 @@ returns-2 c =
     let left = judged .before .before .before .before .before .flag in
     let front = judged .before .before .before .before .flag2 in
     let call = ap₂ (λ (l f : Bool). insert (a .at) (a .text .now) l f) (left .ensures) (front .ensures) in
-    (edited-as call (edited-yes (seen-taken (a .source .now) (a .chunks .now) (a .pieces .now) (a .store .now) (used .given .0 .0) (used .given .1) (taken .ensures)) (done .ensures .ran)), refl)
+    edited-as call (edited-yes (seen-taken (a .source .now) (a .chunks .now) (a .pieces .now) (a .store .now) (used .given .0 .0) (used .given .1) (taken .ensures)) (done .ensures .ran))
 
 pub magic-string-insert-spec : {M : Type 1} → statement M
 magic-string-insert-spec =

@@ -1,5 +1,5 @@
 use borrow.Author.Needs.{needs}
-use mathlib.Core.Path.{refl, ap}
+use mathlib.Core.Path.{ap}
 use mathlib.Core.Bool.{Bool}
 use Rattle.model.specs.Call.{update-with}
 use Rattle.magic_string.proofs.Exported.{seen-none, seen-taken, seen-desk, edited-yes, edited-no, edited-as}
@@ -31,7 +31,7 @@ returns : tie.Need-returns
 returns c =
     let a = c .before .before .before .before .before .before .before .before .before .before .before .before .args in
     let taken = c .before .before .taken in
-    (edited-no (seen-none (a .source .now) (a .chunks .now) (a .pieces .now) (a .store .now) (c .enum-told .given .1) (taken .ensures)), refl)
+    edited-no (seen-none (a .source .now) (a .chunks .now) (a .pieces .now) (a .store .now) (c .enum-told .given .1) (taken .ensures))
 
 update-with-requires : tie.Need-update-with-requires
 update-with-requires c κs =
@@ -51,12 +51,14 @@ same-length-6 c = search needs
 
 returns-2 : tie.Need-returns-2
 returns-2 c =
-    let a = c .before .before .before .before .before .before .before .before .before .before .before .before .before .before .before .before .before .before .before .before .before .before .before .args in
+    let a = c .before .before .before .before .before .before .before .before .before .before .before .before .before .before .before .before .before .before .before .before
+    .before .before .before .args in
     let taken = c .before .before .before .before .before .before .before .before .before .before .before .before .before .taken in
     let used = c .before .before .before .before .before .before .before .before .before .before .before .used in
     let done = c .before .before .before .before .before .before .update-with in
     let option = c .before .before .before .before .before .before .before .before .before .before .before .before .before .before .before .before .before .flag in
-    (edited-as (ap (λ (o : Bool). update-with (a .start) (a .end) (a .text .now) o) (option .ensures)) (edited-yes (seen-taken (a .source .now) (a .chunks .now) (a .pieces .now) (a .store .now) (used .given .0 .0) (used .given .1) (taken .ensures)) (done .ensures .ran)), refl)
+    edited-as (ap (λ (o : Bool). update-with (a .start) (a .end) (a .text .now) o) (option .ensures))
+    (edited-yes (seen-taken (a .source .now) (a .chunks .now) (a .pieces .now) (a .store .now) (used .given .0 .0) (used .given .1) (taken .ensures)) (done .ensures .ran))
 
 pub magic-string-update-with-spec : {M : Type 1} → statement M
 magic-string-update-with-spec =
