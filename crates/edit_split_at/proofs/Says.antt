@@ -7,7 +7,7 @@ use lib.Dec.{leb, eqb}
 use lib.ListN.{length}
 use Rattle.memory_table.specs.Ring.{Each}
 use Rattle.memory_table.specs.Order.{entryAt, order, Linked}
-use Rattle.model.specs.Cut.{made, edge, outside, refused}
+use Rattle.model.specs.Cut.{made, edge, outside, refused, cut-number, made-count}
 use Rattle.memory.specs.Layout.{magicStringOf}
 use Rattle.memory.proofs.Desks.{source-of}
 use Rattle.model_closed_forms.specs.Spans.{Cover}
@@ -18,7 +18,7 @@ use Rattle.memory_list.specs.Split.{SplitRow}
 use Rattle.edit_split_at.specs.declared.Cut.{Cut}
 use Rattle.edit_split_at.specs.declared.Cut.the-variants.{Made, Edge, Outside, Refused}
 use Rattle.edit_split_at.specs.Cuts.{filled, CutsDone}
-use Rattle.edit_split_at.specs.Says.{case-of, numbered, counted, CutSays}
+use Rattle.edit_split_at.specs.Says.{case-of, CutSays}
 use Rattle.edit_split_at.proofs.Cuts.{none-contain, none-found, found-case, found-filled, found-split}
 
 -- ── no chunk contains the position ──
@@ -27,7 +27,7 @@ case-either true = refl
 case-either false = refl
 
 module _ (n q : ℕ) (t : List ℕ) (l : Linked t) (h : Each (λ x. meets Inside q (entryAt t x) ≡ false) (order t)) where
-  nothing-done : (b : Bool) → CutsDone (q ∷ []) t t (numbered (cond b Outside Edge)) (counted (cond b Outside Edge))
+  nothing-done : (b : Bool) → CutsDone (q ∷ []) t t (cut-number (case-of (cond b Outside Edge))) (made-count (case-of (cond b Outside Edge)))
   nothing-done true = none-found q t l h
   nothing-done false = none-found q t l h
 
@@ -39,7 +39,7 @@ module _ (n q : ℕ) (t : List ℕ) (l : Linked t) (h : Each (λ x. meets Inside
             ap case-of e ∙ case-either (eqb q 0 || leb n q)
             ∙ ap (λ (k : ℕ). cond (eqb q 0 || leb k q) outside edge) (sym ln ∙ sym (ap length (source-of source t p s)))
             ∙ sym (cut-at-aligned q m (subst (λ x. Cover x (m .chunks)) (sym (source-of source t p s)) sp) (none-contain source t p s q h));
-        done = subst (λ (k : Cut). CutsDone (q ∷ []) t t (numbered k) (counted k)) (sym e) (nothing-done (eqb q 0 || leb n q));
+        done = subst (λ (k : Cut). CutsDone (q ∷ []) t t (cut-number (case-of k)) (made-count (case-of k))) (sym e) (nothing-done (eqb q 0 || leb n q));
       }
 
 -- ── one does ──

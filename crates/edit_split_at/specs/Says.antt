@@ -18,14 +18,7 @@ case-of Edge = edge
 case-of Outside = outside
 case-of Refused = refused
 
--- the number of a cut, and how many it made
-abbrev pub numbered : Cut → ℕ
-numbered c = cut-number (case-of c)
-
-abbrev pub counted : Cut → ℕ
-counted c = made-count (case-of c)
-
--- one cut, with any pieces and store and over any source of n bytes: its case, and what it leaves
+-- one cut, with any pieces and store and over any source of n bytes: its case, and what it leaves, with the number of that case and how many it made
 pub record CutSays (n q : ℕ) (t t' : List ℕ) (c : Cut) : Type 0 where
   pub says : (source p s : List ℕ) → length source ≡ n → Readable t p s → Spans source t p s → case-of c ≡ cut-at q (magicStringOf source t p s)
-  pub done : CutsDone (q ∷ []) t t' (numbered c) (counted c)
+  pub done : CutsDone (q ∷ []) t t' (cut-number (case-of c)) (made-count (case-of c))

@@ -3,11 +3,12 @@ ghost use mathlib.Core.Path.{_≡_};
 ghost use mathlib.Core.Bool.{_||_, cond};
 ghost use mathlib.Core.List.{[], _∷_};
 ghost use lib.Dec.{leb, eqb};
+ghost use Rattle.model.specs.Cut.{cut-number, made-count};
 ghost use Rattle.memory_table.specs.Order.{entryOf};
 ghost use Rattle.edit_scratch.specs.Tables.{Roomy};
 ghost use Rattle.edit_split_at.specs.declared.Cut.the-variants.{Edge, Outside};
 ghost use Rattle.edit_split_at.specs.Cuts.{filled, CutsDone};
-ghost use Rattle.edit_split_at.specs.Says.{numbered, counted, CutSays};
+ghost use Rattle.edit_split_at.specs.Says.{case-of, CutSays};
 use memory::Answer;
 use memory_layout::numbers;
 use memory_list::Found;
@@ -66,7 +67,7 @@ pub fn split_at(t: &mut [u32], n: usize, q: u32) -> Cut
 
 // What a cut says, for a caller that counts: its number, and one if it made two chunks.
 fn answer_of(c: Cut) -> Answer
-    ensures { λ r. ⌜ (r .number ≡ numbered c) × (r .value ≡ counted c) ⌝ }
+    ensures { λ r. ⌜ (r .number ≡ cut-number (case-of c)) × (r .value ≡ made-count (case-of c)) ⌝ }
 {
     match c {
         Cut::Made => Answer {
