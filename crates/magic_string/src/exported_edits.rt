@@ -1,10 +1,7 @@
 // The calls that change a desk.
-ghost use mathlib.Core.Path.{_≡_};
 ghost use Rattle.model.specs.Call.{remove, update-with, reset, insert, append, prepend, relocate, trim, trim-start, trim-end};
 ghost use Rattle.model.specs.Call.{trim-lines, indent-with};
-ghost use Rattle.memory.specs.Calls.{Edited};
-ghost use Rattle.memory.specs.Calls.{indentor-of};
-ghost use Rattle.memory.specs.Calls.{flag};
+ghost use Rattle.memory.specs.Calls.{Edited, indentor-of, flag};
 use check_well_formed::Seen;
 use memory::Answer;
 use memory_layout::numbers;
