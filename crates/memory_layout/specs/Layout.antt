@@ -156,3 +156,29 @@ SMALL-PIECES-LEN = SMALL-PIECES * PIECE-ROOM
 
 abbrev pub SMALL-STORE-LEN : ℕ
 SMALL-STORE-LEN = 4096
+
+-- ── the record of filed calls, in two lent slices of its own ──
+-- the most calls, and the most bytes of their texts
+abbrev pub RECORD-CALLS : ℕ
+RECORD-CALLS = 200
+
+abbrev pub RECORD-TEXT : ℕ
+RECORD-TEXT = 32768
+
+-- the most bytes of a call before its text
+abbrev pub RECORD-FRONT : ℕ
+RECORD-FRONT = 15
+
+-- the answers stand behind the room of the calls
+abbrev pub RECORD-ANSWERS : ℕ
+RECORD-ANSWERS = RECORD-CALLS * RECORD-FRONT + RECORD-TEXT
+
+abbrev pub RECORD-BYTES-LEN : ℕ
+RECORD-BYTES-LEN = RECORD-ANSWERS + RECORD-CALLS
+
+-- the words, and the place of the one that says how many bytes the calls have
+abbrev pub RECORD-WORDS-LEN : ℕ
+RECORD-WORDS-LEN = 1
+
+abbrev pub RECORD-USED : ℕ
+RECORD-USED = 0

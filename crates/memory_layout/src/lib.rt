@@ -130,6 +130,25 @@ pub const SMALL_PIECES_LEN: usize = SMALL_PIECES * PIECE_ROOM;
 
 pub const SMALL_STORE_LEN: usize = 4096;
 
+// ---- the record of filed calls, in two lent slices of its own ----
+// The most calls, and the most bytes of their texts.
+pub const RECORD_CALLS: usize = 200;
+
+pub const RECORD_TEXT: usize = 32768;
+
+// The most bytes of a call before its text: a length, a kind and three positions.
+pub const RECORD_FRONT: usize = 15;
+
+// The answers stand behind the room of the calls.
+pub const RECORD_ANSWERS: usize = RECORD_CALLS * RECORD_FRONT + RECORD_TEXT;
+
+pub const RECORD_BYTES_LEN: usize = RECORD_ANSWERS + RECORD_CALLS;
+
+// The words, and the place of the one that says how many bytes the calls have.
+pub const RECORD_WORDS_LEN: usize = 1;
+
+pub const RECORD_USED: usize = 0;
+
 // ---- words ----
 // A word as a place in a slice.
 pub fn wide(x: u32) -> usize

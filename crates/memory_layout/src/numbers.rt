@@ -46,5 +46,8 @@ pub const SHORT_BUFFER: u32 = 14;
 // A pattern above 1, or an exclude list of odd count.
 pub const BAD_OPTION: u32 = 15;
 
-// A sheet, or a record of one, that breaks the rules of its form.
+// A sheet, a record of one, or a call to be filed, that breaks the rules of its form.
 pub const BAD_SHEET: u32 = 16;
+
+// No call with that number is filed.
+pub const NO_SUCH_CALL: u32 = 17;

@@ -3,6 +3,7 @@ pub mod Lists
 pub mod Quads
 pub mod Whole
 pub mod Records
+pub mod Upto
 pub mod Sheets
 pub mod Runs
 pub mod Printed

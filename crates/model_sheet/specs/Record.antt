@@ -7,7 +7,7 @@ use mathlib.Core.List.{List, [], _∷_, _++_}
 use mathlib.Core.Option.{Option, none, some, Option·map}
 use lib.ListN.{length, getD, take, drop}
 use lib.Dec.{ltb, leb, eqb}
-use Rattle.model.specs.Text.{Text}
+use Rattle.model.specs.Text.{Text, sum}
 use Rattle.model_sheet.specs.BigEndian.{number, bytes, Bytes}
 
 -- a record: its kind, its positions in order (0 for those that its kind does not have), its text
@@ -94,6 +94,10 @@ records-behind (suc n) (x ∷ s) = records-behind n s
 -- the records of a whole list of bytes; none if they are not whole records up to its end (`records-end`, `records-next`)
 abbrev pub records : List ℕ → Option (List Recorded)
 records s = records-behind zero s
+
+-- how many bytes of text records have
+abbrev pub text-size : List Recorded → ℕ
+text-size l = sum (λ (r : Recorded). length (r .text)) l
 
 -- ── what can be written ──
 -- a record as its kind has it: numbers of four bytes, nothing where the kind has nothing, and a length that two bytes hold

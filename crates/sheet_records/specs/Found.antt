@@ -1,11 +1,11 @@
 -- What reading at a place and judging a list answer, by cases, and the number that each case stands for.
 use Prim.Native.Nat.{ℕ, _+_, _-_, _≤_, _<_}
 use mathlib.Core.Path.{_≡_}
-use mathlib.Core.List.{List}
+use mathlib.Core.List.{List, _∷_}
 use mathlib.Core.Option.{none, some}
 use mathlib.Core.Bool.{true}
 use lib.ListN.{length, getD, take, drop}
-use Rattle.model_sheet.specs.Record.{Recorded, fits, extent, next-record, records}
+use Rattle.model_sheet.specs.Record.{Recorded, fits, extent, next-record, records, text-size}
 use Rattle.sheet_records.specs.declared.Read.{Read}
 use Rattle.sheet_records.specs.declared.Read.the-variants.{Record, Bad, End}
 use Rattle.sheet_records.specs.declared.Judged.{Judged}
@@ -40,6 +40,12 @@ number-read (Record kind a b c text-at next) = 0
 number-read Bad = 16
 number-read End = 0
 
+-- records stand from a place on, at least one
+pub record Next (r : List ℕ) (at : ℕ) : Type 0 where
+  pub one : Recorded
+  pub rest : List Recorded
+  pub are : records (drop at r) ≡ some (one ∷ rest)
+
 -- whole records up to the end, n of them, at most as many as allowed
 pub record Counted (s : List ℕ) (most n : ℕ) : Type 0 where
   pub list : List Recorded
@@ -47,11 +53,16 @@ pub record Counted (s : List ℕ) (most n : ℕ) : Type 0 where
   pub count : length list ≡ n
   pub few : n ≤ most
 
+-- the same, and their texts have m bytes
+pub record Measured (s : List ℕ) (most n m : ℕ) : Type 0 where
+  pub counted : Counted s most n
+  pub text : text-size (counted .list) ≡ m
+
 abbrev pub Counts : List ℕ → ℕ → Judged → Type 0
-Counts s most (Records n) = Counted s most n
+Counts s most (Records n m) = Measured s most n m
 Counts s most Broken = (l : List Recorded) → records s ≡ some l → most < length l
 
 -- 16 where they are no such list
 abbrev pub number-judged : Judged → ℕ
-number-judged (Records n) = 0
+number-judged (Records n m) = 0
 number-judged Broken = 16

@@ -27,8 +27,8 @@ pub enum Read {
 
 // What a list of bytes is.
 pub enum Judged {
-    // Whole records up to the end, so many, and no more than allowed.
-    Records(usize),
+    // Whole records up to the end, so many, and no more than allowed; and the bytes of their texts.
+    Records { count: usize, text: usize },
     Broken,
 }
 
@@ -157,12 +157,13 @@ pub fn read_at(s: &[u8], at: usize) -> Read
     }
 }
 
-// Whether the bytes are whole records up to their end, and at most so many.
+// Whether the bytes are whole records up to their end, and at most so many; how many, and how many bytes of text they have.
 pub fn count_records(s: &[u8], most: usize) -> Judged
     ensures { λ r. ⌜ Counts (now (s .entry)) most r ⌝ }
 {
     let mut at: usize = 0;
     let mut count: usize = 0;
+    let mut text: usize = 0;
     while at < s.len() {
         match read_at(s, at) {
             Read::Record {
@@ -170,13 +171,14 @@ pub fn count_records(s: &[u8], most: usize) -> Judged
                 a: _,
                 b: _,
                 c: _,
-                text_at: _,
+                text_at,
                 next,
             } => {
                 if count == most {
                     return Judged::Broken;
                 }
                 count += 1;
+                text += next - text_at;
                 at = next;
             }
             Read::Bad => {
@@ -187,5 +189,5 @@ pub fn count_records(s: &[u8], most: usize) -> Judged
             }
         }
     }
-    Judged::Records(count)
+    Judged::Records { count, text }
 }

@@ -40,7 +40,7 @@ pub fn judge_sheet(s: &[u8]) -> SheetJudged
         return SheetJudged::Broken;
     }
     match count_records(&s[behind..], MOST_RECORDS) {
-        Judged::Records(count) => SheetJudged::Sheet { source_n, count },
+        Judged::Records { count, text: _ } => SheetJudged::Sheet { source_n, count },
         Judged::Broken => SheetJudged::Broken,
     }
 }

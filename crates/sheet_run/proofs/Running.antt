@@ -9,7 +9,7 @@ use native.Mathlib.Omega.{arith}
 use Rattle.model.specs.MagicString.{MagicString}
 use Rattle.model.specs.Limits.{Limits}
 use Rattle.model.specs.Call.{run, after, answers}
-use Rattle.model_sheet.specs.Record.{Recorded, next-record, records}
+use Rattle.model_sheet.specs.Record.{Recorded, records}
 use Rattle.model_sheet.specs.Sheet.{call-of, calls-of}
 use Rattle.model_sheet.proofs.Runs.{answer-small}
 use Rattle.memory.specs.Layout.{magicStringOf}
@@ -17,18 +17,10 @@ use Rattle.memory.specs.WellFormed.{limitsOf, Lengths}
 use Rattle.memory.proofs.Desks.{limits-as}
 use Rattle.memory_used.specs.declared.Used.{Used}
 use Rattle.memory_used.specs.Above.{Desk}
-use Rattle.sheet_records.specs.Found.{Counted}
-use Rattle.sheet_records.proofs.Walk.{records-bad, records-past}
+use Rattle.sheet_records.specs.Found.{Counted, Next}
 use Rattle.sheet_run.specs.declared.records.Made.{Made}
-use Rattle.sheet_run.specs.Steps.{Next, Stepped}
+use Rattle.sheet_run.specs.Steps.{Stepped}
 use Rattle.sheet_run.specs.RanAll.{RanAll}
-
--- ── where a record stands, the reader finds one ──
-pub not-bad : {X : Type 0} (r : List ℕ) (at : ℕ) → Next r at → at < length r → next-record (drop at r) ≡ none → X
-not-bad r at x h e = let here = x .are in let nothing = records-bad r at h e in let z : _≡_ {A = ℕ} 0 1 = cc in absurd (omega arith)
-
-pub not-end : {X : Type 0} (r : List ℕ) (at : ℕ) → Next r at → length r ≤ at → X
-not-end r at x h = let here = x .are in let nothing = records-past r at h in let z : _≡_ {A = ℕ} 0 1 = cc in absurd (omega arith)
 
 -- ── the loop ──
 -- From the desk in t₀, p₀ and s₀ the first i records of r have been run, and those from a place on are left: the whole list leaves what they leave from here on,

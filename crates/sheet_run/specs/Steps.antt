@@ -2,18 +2,12 @@
 use Prim.Native.Nat.{ℕ}
 use mathlib.Core.Path.{_≡_}
 use mathlib.Core.List.{List, _∷_}
-use mathlib.Core.Option.{some, Option·map}
+use mathlib.Core.Option.{Option·map}
 use lib.ListN.{drop}
 use Rattle.model_sheet.specs.Record.{Recorded, records}
 use Rattle.model_sheet.specs.Sheet.{call-of}
 use Rattle.memory_used.specs.Above.{Leaves}
 use Rattle.sheet_run.specs.declared.records.Made.{Made}
-
--- records stand from a place on, at least one
-pub record Next (r : List ℕ) (at : ℕ) : Type 0 where
-  pub one : Recorded
-  pub rest : List Recorded
-  pub are : records (drop at r) ≡ some (one ∷ rest)
 
 -- the first of them, and what its call leaves
 pub record Stepped (r : List ℕ) (at : ℕ) (source t p s t′ p′ s′ : List ℕ) (k : Made) : Type 0 where

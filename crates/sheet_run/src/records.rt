@@ -1,8 +1,8 @@
 // A list of records, run on a desk: each call on what the one before it left.
 ghost use lib.ListN.{length};
 ghost use Rattle.memory_used.specs.Above.{Desk};
-ghost use Rattle.sheet_records.specs.Found.{Counted};
-ghost use Rattle.sheet_run.specs.Steps.{Next, Stepped};
+ghost use Rattle.sheet_records.specs.Found.{Counted, Next};
+ghost use Rattle.sheet_run.specs.Steps.{Stepped};
 ghost use Rattle.sheet_run.specs.RanAll.{RanRecords};
 use crate::core_call::core_call;
 use memory_layout::numbers;

@@ -11,16 +11,16 @@ use Rattle.sheet_records.proofs.count_records.Statement.{statement}
 use Rattle.sheet_records.proofs.count_records.Tie as tie
 
 abbrev Inv-loop : tie.InvT-loop
-Inv-loop s most at₀ count₀ at count = Walked s at count × (count ≤ most)
+Inv-loop s most at₀ count₀ text₀ at count text = Walked s at count text × (count ≤ most)
 
 abbrev μ-loop : tie.MeasureT-loop
-μ-loop s most at₀ count₀ at count = length s - at
+μ-loop s most at₀ count₀ text₀ at count text = length s - at
 
 -- the record at hand
-here : (c : tie.After-next Inv-loop μ-loop) → let g = c .next .given .0 in
+here : (c : tie.After-text-at Inv-loop μ-loop) → let g = c .text-at .given .0 in
     Taken (c .before .before .before .before .before .before .args .s .now) (c .before .before .before .before .loop .at) (g .0) (g .1 .0) (g .1 .1 .0) (g .1 .1 .1 .0)
     (g .1 .1 .1 .1 .0) (g .1 .1 .1 .1 .1 .0)
-here c = subst (Found (c .before .before .before .before .before .before .args .s .now) (c .before .before .before .before .loop .at)) (c .next .given .1)
+here c = subst (Found (c .before .before .before .before .before .before .args .s .now) (c .before .before .before .before .loop .at)) (c .text-at .given .1)
     (c .before .before .read-at .ensures)
 
 loop-holds : tie.Need-loop-holds Inv-loop μ-loop
@@ -29,8 +29,8 @@ loop-holds c = (walk-start (c .before .args .s .now), omega arith)
 read-at-requires : tie.Need-read-at-requires Inv-loop μ-loop
 read-at-requires c κs = search needs
 
-enum-known-next : tie.Need-enum-known-next Inv-loop μ-loop
-enum-known-next c = search needs
+enum-known-text-at : tie.Need-enum-known-text-at Inv-loop μ-loop
+enum-known-text-at c = search needs
 
 returns : tie.Need-returns Inv-loop μ-loop
 returns c = walk-full (walk-turn (c .before .before .before .before .before .before .loop .inv .0) (here (c .before .before)))
@@ -38,6 +38,16 @@ returns c = walk-full (walk-turn (c .before .before .before .before .before .bef
 
 add-count : tie.Need-add-count Inv-loop μ-loop
 add-count c = search needs
+
+sub-text : tie.Need-sub-text Inv-loop μ-loop
+sub-text c = let g = here (c .before .before) in omega (arith, g .ends)
+
+add-text : tie.Need-add-text Inv-loop μ-loop
+add-text c =
+    let g = here (c .before .before) in
+    let w = c .before .before .before .before .before .before .loop .inv .0 in
+    let low = c .before .before .before .before .before .before .before .before .fits in
+    omega (arith, g .ends, g .starts, g .there, w .less)
 
 loop-less : tie.Need-loop-less Inv-loop μ-loop
 loop-less c = let g = here (c .before .before) in omega (arith, g .starts, g .ends, g .there)
@@ -70,9 +80,11 @@ count-records-spec =
     μ-loop
     loop-holds
     read-at-requires
-    enum-known-next
+    enum-known-text-at
     returns
     add-count
+    sub-text
+    add-text
     loop-less
     loop-again
     enum-told

@@ -53,7 +53,7 @@ returns-5 c =
     let counted = subst (Counts _ MOST-RECORDS) (c .before .count .given .1) (c .before .before .before .count-records .ensures) in
     is-sheet _ _ (c .before .before .before .before .before .before .u16-at .ensures .0)
     (c .before .before .before .before .before .before .before .before .before .before .if1 .left) (c .before .before .before .before .before .before .before .if3 .left)
-    (c .before .before .before .before .before .if4 .left) counted
+    (c .before .before .before .before .before .if4 .left) (counted .counted)
 
 returns-6 : tie.Need-returns-6
 returns-6 c =

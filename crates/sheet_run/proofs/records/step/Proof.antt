@@ -2,8 +2,7 @@ use mathlib.Core.Path.{subst}
 use native.Mathlib.Omega.{arith}
 use denote.Ref.{now}
 use Rattle.sheet_records.specs.Found.{Found, Taken}
-use Rattle.sheet_records.proofs.Walk.{records-taken}
-use Rattle.sheet_run.proofs.Running.{not-bad, not-end}
+use Rattle.sheet_records.proofs.Walk.{records-taken, not-bad, not-end}
 use borrow.Author.Needs.{needs}
 use Rattle.sheet_run.proofs.records.step.Statement.{statement}
 use Rattle.sheet_run.proofs.records.step.Tie as tie

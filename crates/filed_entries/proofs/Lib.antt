@@ -1,0 +1,6 @@
+pub mod Bytes
+pub mod Places
+pub mod Closing
+pub mod Slices
+pub mod Put
+pub mod Out

@@ -1,0 +1,76 @@
+-- What filing and withdrawing promise of every input.
+use Prim.Native.Nat.{ℕ, _+_, _≤_, _<_}
+use mathlib.Core.Path.{_≡_}
+use mathlib.Core.Bool.{false}
+use mathlib.Core.List.{List}
+use mathlib.Core.Option.{none, some}
+use lib.ListN.{length, getD}
+use Rattle.memory_layout.specs.Layout.{RECORD-ANSWERS}
+use Rattle.model.specs.MagicString.{new}
+use Rattle.model_sheet.specs.Record.{parsed}
+use Rattle.model_sheet.specs.Sheet.{call-of}
+use Rattle.model_filed.specs.Filed.{Entry, calls, Sitting, Answered, refused-filing, file, refused-withdrawal, withdraw}
+use Rattle.memory.specs.Layout.{magicStringOf}
+use Rattle.memory.specs.WellFormed.{limitsOf, Lengths, WellFormed, Taken}
+use Rattle.memory.specs.Calls.{Same, may-write}
+use Rattle.memory.specs.declared.Answer.{Answer}
+use Rattle.filed_record.specs.Record.{usedOf, entriesOf}
+
+-- every byte of the record's slices is as it was
+pub record SameRecord (w b w′ b′ : List ℕ) : Type 0 where
+  pub words : w′ ≡ w
+  pub bytes : b′ ≡ b
+
+-- nothing is changed
+pub record Unchanged (t p s w b t′ p′ s′ w′ b′ : List ℕ) : Type 0 where
+  pub desk : Same t p s t′ p′ s′
+  pub entries : SameRecord w b w′ b′
+
+-- the desk in lent memory, beside these entries
+abbrev pub sittingOf : List ℕ → List ℕ → List ℕ → List ℕ → List Entry → Sitting
+sittingOf source t p s l = record { desk = magicStringOf source t p s; entries = l }
+
+-- behind the longer of the calls' bytes before and after, and behind the more of the n answers before and the m after, every byte is as it was
+pub record KeptBehind (n m : ℕ) (w b w′ b′ : List ℕ) : Type 0 where
+  pub calls : (i : ℕ) → usedOf w ≤ i → usedOf w′ ≤ i → i < RECORD-ANSWERS → getD b′ i 0 ≡ getD b i 0
+  pub answers : (i : ℕ) → RECORD-ANSWERS + n ≤ i → RECORD-ANSWERS + m ≤ i → getD b′ i 0 ≡ getD b i 0
+
+-- A call on a sitting with the entries l: its number and value, and the desk and the record after, are the model's. Numbering, places in the store, unused bytes of it and
+-- bytes of the record that are freed are the program's choice
+pub record Becomes (source t p s w b t′ p′ s′ w′ b′ : List ℕ) (l : List Entry) (o : Answered) (r : Answer) : Type 0 where
+  pub number-is : r .number ≡ o .number
+  pub value-is : r .value ≡ o .value
+  pub desk-is : magicStringOf source t′ p′ s′ ≡ o .left .desk
+  pub record-is : entriesOf w′ b′ ≡ some (o .left .entries)
+  pub well-formed : WellFormed source t′ p′ s′
+  pub lengths : Lengths t p s t′ p′ s′
+  pub kept : KeptBehind (length l) (length (o .left .entries)) w b w′ b′
+
+-- ── filing ──
+pub record FiledOn (call source t p s w b t′ p′ s′ w′ b′ : List ℕ) (l : List Entry) (r : Answer) : Type 0 where
+  pub becomes : Becomes source t p s w b t′ p′ s′ w′ b′ l (file (limitsOf t p s) call (sittingOf source t p s l)) r
+  -- 16, and the record's own 13
+  pub refused : (refused-filing call (calls l) ≡ 0 → ⊥) → Unchanged t p s w b t′ p′ s′ w′ b′
+  -- where the core call changes nothing, the tables of the desk are as they were
+  pub same : may-write (call-of (parsed call)) (r .number) ≡ false → Same t p s t′ p′ s′
+
+-- ── withdrawing: the others are run from a fresh desk ──
+pub record WithdrawnOn (k : ℕ) (source t p s w b t′ p′ s′ w′ b′ : List ℕ) (l : List Entry) (r : Answer) : Type 0 where
+  pub becomes : Becomes source t p s w b t′ p′ s′ w′ b′ l (withdraw (limitsOf t p s) (new source) k (sittingOf source t p s l)) r
+  -- 17
+  pub refused : (refused-withdrawal k l ≡ 0 → ⊥) → Unchanged t p s w b t′ p′ s′ w′ b′
+
+-- ── on any memory ──
+-- 2 and nothing written where it holds no well-formed desk, or no well-formed record; else what P says of the record's entries
+pub record OnSitting (P : List Entry → Type 0) (source t p s w b t′ p′ s′ w′ b′ : List ℕ) (r : Answer) : Type 0 where
+  pub no-desk : (Taken source t p s → ⊥) → (r .number ≡ 2) × (r .value ≡ 0) × Unchanged t p s w b t′ p′ s′ w′ b′
+  pub no-record : entriesOf w b ≡ none → (r .number ≡ 2) × (r .value ≡ 0) × Unchanged t p s w b t′ p′ s′ w′ b′
+  pub taken : Taken source t p s → (l : List Entry) → entriesOf w b ≡ some l → P l
+
+abbrev pub CallFiled : List ℕ → List ℕ → List ℕ → List ℕ → List ℕ → List ℕ → List ℕ → List ℕ → List ℕ → List ℕ → List ℕ → List ℕ → Answer → Type 0
+CallFiled call source t p s w b t′ p′ s′ w′ b′ r =
+    OnSitting (λ l. FiledOn call source t p s w b t′ p′ s′ w′ b′ l r) source t p s w b t′ p′ s′ w′ b′ r
+
+abbrev pub CallWithdrawn : ℕ → List ℕ → List ℕ → List ℕ → List ℕ → List ℕ → List ℕ → List ℕ → List ℕ → List ℕ → List ℕ → List ℕ → Answer → Type 0
+CallWithdrawn k source t p s w b t′ p′ s′ w′ b′ r =
+    OnSitting (λ l. WithdrawnOn k source t p s w b t′ p′ s′ w′ b′ l r) source t p s w b t′ p′ s′ w′ b′ r

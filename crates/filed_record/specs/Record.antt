@@ -1,0 +1,49 @@
+-- The record of filed calls in two lent slices (docs/LAYOUT.md). `words` says how many bytes the calls have; `bytes` holds them one behind the other, as document 02's L1 has
+-- records, and behind their room the answers, a byte each.
+use Prim.Native.Nat.{ℕ, _≤_}
+use mathlib.Core.Path.{_≡_}
+use mathlib.Core.Bool.{Bool, _&&_, cond}
+use mathlib.Core.List.{List}
+use mathlib.Core.Option.{Option, none, some, bind, Option·map}
+use lib.Dec.{leb, eqb}
+use lib.ListN.{length, getD, take, drop}
+use Rattle.memory_layout.specs.Layout.{RECORD-ANSWERS, RECORD-BYTES-LEN, RECORD-WORDS-LEN, RECORD-USED}
+use Rattle.model_sheet.specs.Record.{Recorded, records, text-size}
+use Rattle.model_filed.specs.Filed.{Entry, with-answers, MOST-CALLS, MOST-TEXT, within-bounds}
+use Rattle.filed_record.specs.declared.Size.{Size}
+
+-- how many bytes the calls have
+abbrev pub usedOf : List ℕ → ℕ
+usedOf w = getD w RECORD-USED 0
+
+-- the bytes of the calls, and of the answers; not all of these are answers
+abbrev pub callsOf : List ℕ → List ℕ → List ℕ
+callsOf w b = take (usedOf w) b
+
+abbrev pub answersOf : List ℕ → List ℕ
+answersOf b = drop RECORD-ANSWERS b
+
+-- slices of a record's lengths, and calls that end where their room ends
+unfoldable pub shaped : List ℕ → List ℕ → Bool
+shaped w b = eqb (length w) RECORD-WORDS-LEN && (eqb (length b) RECORD-BYTES-LEN && leb (usedOf w) RECORD-ANSWERS)
+
+-- a list, if it keeps the bounds
+abbrev pub bounded : List Recorded → Option (List Recorded)
+bounded l = cond (within-bounds l) (some l) none
+
+-- the entries of the record that two slices hold; none where they hold no well-formed one: "A record that breaks these bounds or L1's record rules gets 2"
+unfoldable pub entriesOf : List ℕ → List ℕ → Option (List Entry)
+entriesOf w b = cond (shaped w b) (Option·map (λ l. with-answers l (answersOf b)) (bind (records (callsOf w b)) bounded)) none
+
+-- two slices hold a well-formed record of this size, and the calls that it has
+pub record Holds (w b : List ℕ) (z : Size) : Type 0 where
+  pub words : length w ≡ RECORD-WORDS-LEN
+  pub bytes : length b ≡ RECORD-BYTES-LEN
+  pub used : usedOf w ≡ z .used
+  pub room : z .used ≤ RECORD-ANSWERS
+  pub list : List Recorded
+  pub are : records (take (z .used) b) ≡ some list
+  pub count : length list ≡ z .count
+  pub few : z .count ≤ MOST-CALLS
+  pub text : text-size list ≡ z .text
+  pub short : z .text ≤ MOST-TEXT

@@ -1,0 +1,23 @@
+-- The worked sittings, by computation.
+use mathlib.Core.Path.{_≡_, refl}
+use mathlib.Core.List.{map, flatten}
+use mathlib.Core.Option.{bind}
+use Rattle.utf8.specs.Rfc3629.{scalar, sequence, decodeAt, wholeFrom, utf8, between}
+use Rattle.utf8.specs.Chars.{toFirst, chars, code}
+use Rattle.model.specs.Chunk.{contains}
+use Rattle.model.specs.MagicString.{split-at, by-edge-mut, to-string}
+use Rattle.model.specs.Update.{update-chunks, update-with}
+use Rattle.model.specs.Movement.{change-range, relocate}
+use Rattle.model.specs.Limits.{within}
+use Rattle.model.specs.Call.{refused-before, judged, run, perform}
+use Rattle.model_sheet.specs.BigEndian.{number, bytes}
+use Rattle.model_sheet.specs.Record.{positions, carries, fits, quads, encode, extent, numbers, parsed}
+use Rattle.model_sheet.specs.Sheet.{call-of}
+use Rattle.model_filed.specs.Filed.{within-bounds, is-record, refused-filing, file, refused-withdrawal, withdraw}
+use Rattle.model_filed.specs.Worked.{worked, computed}
+
+pub worked-sittings : map computed worked ≡ worked
+unfolding flatten bind scalar sequence decodeAt wholeFrom utf8 between toFirst chars code contains split-at by-edge-mut to-string update-chunks update-with
+    change-range relocate within judged refused-before run perform number bytes positions carries fits quads encode extent numbers parsed call-of within-bounds is-record
+    refused-filing file refused-withdrawal withdraw
+worked-sittings = refl

@@ -1,0 +1,4 @@
+pub mod Filing
+pub mod Kept
+pub mod Numbers
+pub mod Example

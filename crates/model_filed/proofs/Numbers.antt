@@ -1,0 +1,50 @@
+-- The numbers that filing and withdrawing give: those of the call, and no others.
+use Prim.Native.Nat.{ℕ, zero, suc}
+use mathlib.Core.Path.{_≡_, refl, sym, ap, _∙_}
+use mathlib.Core.Bool.{Bool, true, false, _&&_, not, cond}
+use mathlib.Core.List.{List, [], _∷_, _++_}
+use lib.Dec.{ltb, leb}
+use lib.ListN.{length}
+use Rattle.model.specs.MagicString.{MagicString}
+use Rattle.model.specs.Limits.{Limits}
+use Rattle.model.specs.WellFormed.{Formed}
+use Rattle.model.specs.Call.{edit-numbers, run, perform}
+use Rattle.model_preservation.specs.Refusals.{among}
+use Rattle.model_preservation.proofs.Refusals.{answer-listed}
+use Rattle.model_preservation.proofs.Numbers.{listed-behind}
+use Rattle.model_sheet.specs.Record.{Recorded, parsed}
+use Rattle.model_sheet.specs.Sheet.{call-of}
+use Rattle.model_filed.specs.Filed.{Sitting, Answered, calls, within-bounds, is-record, refused-filing, file, refused-withdrawal, withdraw}
+use Rattle.model_filed.proofs.Filing.{file-refused, file-filed, withdraw-refused, withdraw-done}
+
+-- 16 and 13, before any of these
+refused-listed : (s : List ℕ) (l : List Recorded) (ns : List ℕ) → among (refused-filing s l) (16 ∷ 13 ∷ ns) ≡ true
+unfolding refused-filing
+refused-listed s l ns = go (is-record s) (within-bounds (l ++ (parsed s ∷ [])))
+  where
+    go : (a b : Bool) → among (cond (not a) 16 (cond (not b) 13 0)) (16 ∷ 13 ∷ ns) ≡ true
+    go false b = refl
+    go true false = refl
+    go true true = refl
+
+pub file-listed : (k : Limits) (s : List ℕ) (x : Sitting) → Formed (x .desk) → among (file k s x .number) (16 ∷ 13 ∷ edit-numbers (call-of (parsed s))) ≡ true
+unfolding perform
+file-listed k s x f = go (refused-filing s (calls (x .entries))) refl
+  where
+    go : (n : ℕ) → refused-filing s (calls (x .entries)) ≡ n → among (file k s x .number) (16 ∷ 13 ∷ edit-numbers (call-of (parsed s))) ≡ true
+    go (suc n) e =
+        ap (λ (a : Answered). among (a .number) (16 ∷ 13 ∷ edit-numbers (call-of (parsed s)))) (file-refused k s x n e)
+        ∙ sym (ap (λ (i : ℕ). among i (16 ∷ 13 ∷ edit-numbers (call-of (parsed s)))) e)
+        ∙ refused-listed s (calls (x .entries)) (edit-numbers (call-of (parsed s)))
+    go zero e =
+        ap (λ (a : Answered). among (a .number) (16 ∷ 13 ∷ edit-numbers (call-of (parsed s)))) (file-filed k s x e)
+        ∙ listed-behind (run k (call-of (parsed s)) (x .desk) .number) 16 (13 ∷ edit-numbers (call-of (parsed s)))
+        (listed-behind (run k (call-of (parsed s)) (x .desk) .number) 13 (edit-numbers (call-of (parsed s))) (answer-listed k (call-of (parsed s)) (x .desk) f))
+
+pub withdraw-listed : (k : Limits) (start : MagicString) (n : ℕ) (x : Sitting) → among (withdraw k start n x .number) (17 ∷ []) ≡ true
+unfolding withdraw refused-withdrawal
+withdraw-listed k start n x = go (ltb 0 n && leb n (length (x .entries))) refl
+  where
+    go : (b : Bool) → (ltb 0 n && leb n (length (x .entries))) ≡ b → among (withdraw k start n x .number) (17 ∷ []) ≡ true
+    go true e = ap (λ (a : Answered). among (a .number) (17 ∷ [])) (withdraw-done k start n x (rw e refl))
+    go false e = ap (λ (a : Answered). among (a .number) (17 ∷ [])) (withdraw-refused k start n x 16 (rw e refl))

@@ -1,0 +1,109 @@
+-- Document 02, L5: "Keep a record of up to 200 calls of L1's kinds with their answers, accepted or not, and at most 32,768 bytes of text." The record, and what filing a call
+-- and withdrawing one do to it and to the desk. The Rust has no such calls.
+use Prim.Native.Nat.{ℕ, zero, suc, _-_}
+use mathlib.Core.Bool.{Bool, _&&_, not, cond}
+use mathlib.Core.List.{List, [], _∷_, _++_, map}
+use lib.Dec.{ltb, leb, eqb}
+use lib.ListN.{length, getD, take, drop}
+use Rattle.model.specs.MagicString.{MagicString}
+use Rattle.model.specs.Limits.{Limits}
+use Rattle.model.specs.Call.{Edit, change, on-desk, after, answers, perform, edit-numbers, Outcome}
+use Rattle.model_sheet.specs.Record.{Recorded, fits, extent, parsed, text-size}
+use Rattle.model_sheet.specs.Sheet.{call-of, calls-of}
+
+-- ── the record ──
+-- a call that is filed, and its answer
+pub record Entry : Type 0 where
+  pub call : Recorded
+  pub answer : ℕ
+
+abbrev pub calls : List Entry → List Recorded
+calls l = map (λ (e : Entry). e .call) l
+
+-- calls with their answers, one for each
+abbrev pub with-answers : List Recorded → List ℕ → List Entry
+with-answers [] ns = []
+with-answers (r ∷ l) ns = record { call = r; answer = getD ns 0 0 } ∷ with-answers l (drop 1 ns)
+
+-- a desk, and the record beside it
+pub record Sitting : Type 0 where
+  pub desk : MagicString
+  pub entries : List Entry
+
+-- "up to 200 calls .. and at most 32,768 bytes of text"
+abbrev pub MOST-CALLS : ℕ
+MOST-CALLS = 200
+
+abbrev pub MOST-TEXT : ℕ
+MOST-TEXT = 32768
+
+unfoldable pub within-bounds : List Recorded → Bool
+within-bounds l = leb (length l) MOST-CALLS && leb (text-size l) MOST-TEXT
+
+-- ── what a call on a sitting answers and leaves ──
+pub record Answered : Type 0 where
+  pub number : ℕ
+  pub value : ℕ
+  pub left : Sitting
+
+abbrev pub unchanged : ℕ → Sitting → Answered
+unchanged n x = record { number = n; value = 0; left = x }
+
+-- ── filing ──
+-- whether bytes are exactly one record, its length field included
+unfoldable pub is-record : List ℕ → Bool
+is-record s = eqb (extent s) (length s) && fits (getD s 2 0) (extent s)
+
+-- "Filing a call that breaks L1's record rules gives 16 right after 2, and filing beyond either bound then gives 13 .. before the desk is touched"; 0 where it is filed
+unfoldable pub refused-filing : List ℕ → List Recorded → ℕ
+refused-filing s l =
+    cond (not (is-record s)) 16
+    (cond (not (within-bounds (l ++ (parsed s ∷ [])))) 13
+    0)
+
+-- the core call of a record, on a desk
+abbrev pub core-call : Limits → Recorded → MagicString → Outcome
+core-call k r m = perform k (on-desk (change (call-of r))) m
+
+-- a call behind the others, "accepted or not": its core call's number is its answer, and that call's number and value are the filing's
+abbrev pub filed : Limits → Recorded → Sitting → Answered
+filed k r x =
+    let o = core-call k r (x .desk) in
+    record {
+      number = o .shown .number;
+      value = o .shown .value;
+      left = record { desk = o .desk; entries = x .entries ++ (record { call = r; answer = o .shown .number } ∷ []) };
+    }
+
+-- "a call so refused .. isn't filed"
+unfoldable pub file : Limits → List ℕ → Sitting → Answered
+file k s x = elim (refused-filing s (calls (x .entries))) [ suc n ↦ unchanged (suc n) x | zero ↦ filed k (parsed s) x ]
+
+-- ── withdrawing ──
+-- "Calls are counted from 1 among those still filed": a list without its n-th
+abbrev pub without : {A : Type 0} → ℕ → List A → List A
+without n l = take (n - 1) l ++ drop n l
+
+-- calls run in order from a desk: what is left of it, and each call with its answer
+abbrev pub run-anew : Limits → MagicString → List Recorded → Sitting
+run-anew k start l = record { desk = after k (calls-of l) start; entries = with-answers l (answers k (calls-of l) start) }
+
+-- "17, no call with that number"
+unfoldable pub refused-withdrawal : ℕ → List Entry → ℕ
+refused-withdrawal n l = cond (ltb 0 n && leb n (length l)) 0 17
+
+-- "Withdrawing the k-th reports no cuts and leaves desk, text and remaining answers as if the others had been run in order on a fresh desk"; which desk they start from is `start`
+unfoldable pub withdraw : Limits → MagicString → ℕ → Sitting → Answered
+withdraw k start n x =
+    elim (refused-withdrawal n (x .entries)) [
+      | suc i ↦ unchanged (suc i) x
+      | zero ↦ record { number = 0; value = 0; left = run-anew k start (without n (calls (x .entries))) }
+    ]
+
+-- ── numbers ──
+-- those that filing this call and withdrawing may give beside 0, in order. 2 is judged on the memory
+abbrev pub file-numbers : Edit → List ℕ
+file-numbers e = 2 ∷ 16 ∷ 13 ∷ edit-numbers e
+
+abbrev pub withdraw-numbers : List ℕ
+withdraw-numbers = 2 ∷ 17 ∷ []

@@ -1,0 +1,85 @@
+-- Worked sittings, as a table: what is filed and withdrawn on a desk, what each action answers, and the record and the text behind them. proofs/Example.antt computes each.
+use Prim.Native.Nat.{ℕ}
+use mathlib.Core.List.{List, [], _∷_, _++_}
+use Rattle.model.specs.Text.{Text}
+use Rattle.model.specs.MagicString.{MagicString, new, to-string}
+use Rattle.model.specs.Limits.{full}
+use Rattle.model_sheet.specs.Record.{Recorded, encode}
+use Rattle.model_sheet.specs.Worked.{fields}
+use Rattle.model_filed.specs.Filed.{Entry, Sitting}
+use Rattle.model_filed.specs.Kept.{Action, filing, withdrawing, act, acts, begun}
+
+-- the number and the value of each action
+abbrev pub told : MagicString → List Action → Sitting → List (ℕ × ℕ)
+told start [] x = []
+told start (a ∷ l) x = (act full start a x .number, act full start a x .value) ∷ told start l (act full start a x .left)
+
+pub record Worked : Type 0 where
+  pub actions : List Action
+  pub answers : List (ℕ × ℕ)
+  pub entries : List Entry
+  pub text : Text
+
+abbrev pub entry : Recorded → ℕ → Entry
+entry r n = record { call = r; answer = n }
+
+abbrev pub filing-of : Recorded → Action
+filing-of r = filing (encode r)
+
+-- "abcdef"
+abbrev pub source : Text
+source = 0x61 ∷ 0x62 ∷ 0x63 ∷ 0x64 ∷ 0x65 ∷ 0x66 ∷ []
+
+-- update 1 to 4 by "XY"; relocate 2 to 3 to 5; update 1 to 4 by "Q"; prepend_right at 6 of a text that is not UTF-8
+abbrev pub replaced : Recorded
+replaced = fields 2 1 4 0 (0x58 ∷ 0x59 ∷ [])
+
+abbrev pub moved : Recorded
+moved = fields 8 2 3 5 []
+
+abbrev pub again : Recorded
+again = fields 2 1 4 0 (0x51 ∷ [])
+
+abbrev pub not-text : Recorded
+not-text = fields 7 6 0 0 (0xFF ∷ [])
+
+abbrev pub filed-three : List Action
+filed-three = filing-of replaced ∷ filing-of moved ∷ filing-of again ∷ []
+
+abbrev pub worked : List Worked
+worked =
+    -- a refused call is filed too; the text is "aQef"
+    record {
+      actions = filed-three;
+      answers = (0, 2) ∷ (6, 0) ∷ (0, 0) ∷ [];
+      entries = entry replaced 0 ∷ entry moved 6 ∷ entry again 0 ∷ [];
+      text = 0x61 ∷ 0x51 ∷ 0x65 ∷ 0x66 ∷ [];
+    }
+    -- the first withdrawn: the move is accepted now, and the replacement across the moved edge refused; the text is "abdecf"
+    ∷ record {
+      actions = filed-three ++ (withdrawing 1 ∷ []);
+      answers = (0, 2) ∷ (6, 0) ∷ (0, 0) ∷ (0, 0) ∷ [];
+      entries = entry moved 0 ∷ entry again 7 ∷ [];
+      text = 0x61 ∷ 0x62 ∷ 0x64 ∷ 0x65 ∷ 0x63 ∷ 0x66 ∷ [];
+    }
+    -- the last withdrawn: "aXYef"; then there is no third
+    ∷ record {
+      actions = filed-three ++ (withdrawing 3 ∷ withdrawing 3 ∷ withdrawing 0 ∷ []);
+      answers = (0, 2) ∷ (6, 0) ∷ (0, 0) ∷ (0, 0) ∷ (17, 0) ∷ (17, 0) ∷ [];
+      entries = entry replaced 0 ∷ entry moved 6 ∷ [];
+      text = 0x61 ∷ 0x58 ∷ 0x59 ∷ 0x65 ∷ 0x66 ∷ [];
+    }
+    -- no bytes, no such kind and two records are 16; a text that is not UTF-8 is filed with 1; then all is withdrawn
+    ∷ record {
+      actions = filing [] ∷ filing (0 ∷ 1 ∷ 9 ∷ []) ∷ filing (encode moved ++ encode moved) ∷ filing-of not-text ∷ withdrawing 1 ∷ withdrawing 1 ∷ [];
+      answers = (16, 0) ∷ (16, 0) ∷ (16, 0) ∷ (1, 0) ∷ (0, 0) ∷ (17, 0) ∷ [];
+      entries = [];
+      text = source;
+    }
+    ∷ []
+
+-- the sitting as it is computed
+abbrev pub computed : Worked → Worked
+computed w =
+    let x = acts full (new source) (w .actions) (begun (new source)) in
+    record { actions = w .actions; answers = told (new source) (w .actions) (begun (new source)); entries = x .entries; text = to-string (x .desk) }
