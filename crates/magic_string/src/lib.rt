@@ -2,5 +2,6 @@
 // for it; an opening and a sheet ask of the tables their lengths alone.
 pub mod exported_desk;
 pub mod exported_edits;
+pub mod exported_filed;
 pub mod exported_reports;
 pub mod exported_sheet;

@@ -3,6 +3,7 @@ use Prim.Native.Nat.{ℕ}
 use mathlib.Core.Path.{_≡_, refl, sym, ap, _∙_}
 use mathlib.Core.Bool.{true, true≢false}
 use mathlib.Core.List.{List, [], _∷_}
+use mathlib.Core.Option.{Option, none, some}
 use lib.ListN.{length}
 use Rattle.model.specs.MagicString.{new}
 use Rattle.model.proofs.Lists.{bool-elim}
@@ -12,9 +13,15 @@ use Rattle.memory.specs.WellFormed.{limitsOf, Full, Taken}
 use Rattle.model_preservation.specs.Refusals.{among}
 use Rattle.model_preservation.proofs.Refusals.{answer-listed}
 use Rattle.model_preservation.proofs.Numbers.{listed-behind, report-listed, opened-listed}
-use Rattle.model_sheet.specs.Sheet.{sheet-numbers}
+use Rattle.model_sheet.specs.Record.{parsed}
+use Rattle.model_sheet.specs.Sheet.{call-of, sheet-numbers}
 use Rattle.model_sheet.proofs.Runs.{sheet-listed}
-use Rattle.magic_string_numbers.specs.Listed.{EditedListed, ReportedListed, OpenedNumberListed, SheetNumberListed}
+use Rattle.model_filed.specs.Filed.{Entry}
+use Rattle.model_filed.proofs.Numbers.{file-listed, withdraw-listed}
+use Rattle.memory.specs.declared.Answer.{Answer}
+use Rattle.filed_record.specs.Record.{entriesOf}
+use Rattle.filed_record.specs.Promises.{sittingOf, OnSitting}
+use Rattle.magic_string_numbers.specs.Listed.{EditedListed, ReportedListed, OpenedNumberListed, SheetNumberListed, FiledNumberListed, WithdrawnNumberListed}
 
 -- a number that is 2 where P does not hold, and one of these where it does, if 2 is one of them
 either : {P : Type 0} (n : ℕ) (ns : List ℕ) → among 2 ns ≡ true → ((P → ⊥) → n ≡ 2) → (P → among n ns ≡ true) → among n ns ≡ true
@@ -45,3 +52,25 @@ pub sheet-number-listed : SheetNumberListed
 sheet-number-listed sheet t p s a t′ p′ s′ a′ r x =
     either (r .number) sheet-numbers refl (λ none. x .not-sized none .0)
     (λ (w : Full t p s). ap (λ (k : ℕ). among k sheet-numbers) (x .sized w .number-is) ∙ sheet-listed (limitsOf t p s) (length a) (new []) sheet)
+
+-- a call on a desk and a record: 2, or what it answers on the record's entries
+on-sitting : {P : List Entry → Type 0} {source t p s w b t′ p′ s′ w′ b′ : List ℕ} {r : Answer} (ns : List ℕ) → OnSitting P source t p s w b t′ p′ s′ w′ b′ r
+    → (Taken source t p s → (l : List Entry) → P l → among (r .number) ns ≡ true) → among (r .number) (2 ∷ ns) ≡ true
+on-sitting {source = source} {t} {p} {s} {w} {b} {r = r} ns x f =
+    either (r .number) (2 ∷ ns) refl (λ none. x .no-desk none .0) (λ (d : Taken source t p s). go d (entriesOf w b) refl)
+  where
+    go : Taken source t p s → (o : Option (List Entry)) → entriesOf w b ≡ o → among (r .number) (2 ∷ ns) ≡ true
+    go d none e = ap (λ (k : ℕ). among k (2 ∷ ns)) (x .no-record e .0)
+    go d (some l) e = listed-behind (r .number) 2 ns (f d l (x .taken d l e))
+
+pub filed-number-listed : FiledNumberListed
+filed-number-listed call source t p s w b t′ p′ s′ w′ b′ r x =
+    on-sitting (16 ∷ 13 ∷ edit-numbers (call-of (parsed call))) x
+    (λ d l y.
+    ap (λ (k : ℕ). among k (16 ∷ 13 ∷ edit-numbers (call-of (parsed call)))) (y .becomes .number-is)
+    ∙ file-listed (limitsOf t p s) call (sittingOf source t p s l) (d .well-formed .desk .formed))
+
+pub withdrawn-number-listed : WithdrawnNumberListed
+withdrawn-number-listed k source t p s w b t′ p′ s′ w′ b′ r x =
+    on-sitting (17 ∷ []) x
+    (λ d l y. ap (λ (n : ℕ). among n (17 ∷ [])) (y .becomes .number-is) ∙ withdraw-listed (limitsOf t p s) (new source) k (sittingOf source t p s l))

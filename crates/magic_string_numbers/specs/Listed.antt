@@ -4,11 +4,14 @@ use mathlib.Core.Path.{_≡_}
 use mathlib.Core.Bool.{true}
 use mathlib.Core.List.{List}
 use Rattle.model.specs.Call.{Edit, Report, change, report, on-desk, «open», numbers-of}
-use Rattle.model_sheet.specs.Sheet.{sheet-numbers}
+use Rattle.model_sheet.specs.Record.{parsed}
+use Rattle.model_sheet.specs.Sheet.{call-of, sheet-numbers}
+use Rattle.model_filed.specs.Filed.{file-numbers, withdraw-numbers}
 use Rattle.memory.specs.declared.Answer.{Answer}
 use Rattle.memory.specs.Calls.{Edited, Reported, Opened}
 use Rattle.model_preservation.specs.Refusals.{among}
 use Rattle.sheet_run.specs.SheetRan.{SheetRan}
+use Rattle.filed_record.specs.Promises.{CallFiled, CallWithdrawn}
 
 abbrev pub EditedListed : Type 0
 EditedListed = (e : Edit) (source t p s t′ p′ s′ : List ℕ) (number value : ℕ) → Edited e source t p s t′ p′ s′ number value → among number (numbers-of (on-desk (change e))) ≡ true
@@ -22,3 +25,13 @@ OpenedNumberListed = (source t p s t′ p′ s′ : List ℕ) (number : ℕ) →
 
 abbrev pub SheetNumberListed : Type 0
 SheetNumberListed = (sheet t p s a t′ p′ s′ a′ : List ℕ) (r : Answer) → SheetRan sheet t p s a t′ p′ s′ a′ r → among (r .number) sheet-numbers ≡ true
+
+-- filing, whose numbers are 2, 16, 13 and those of the core call; and withdrawing
+abbrev pub FiledNumberListed : Type 0
+FiledNumberListed =
+    (call source t p s w b t′ p′ s′ w′ b′ : List ℕ) (r : Answer) → CallFiled call source t p s w b t′ p′ s′ w′ b′ r
+    → among (r .number) (file-numbers (call-of (parsed call))) ≡ true
+
+abbrev pub WithdrawnNumberListed : Type 0
+WithdrawnNumberListed =
+    (k : ℕ) (source t p s w b t′ p′ s′ w′ b′ : List ℕ) (r : Answer) → CallWithdrawn k source t p s w b t′ p′ s′ w′ b′ r → among (r .number) withdraw-numbers ≡ true

@@ -14,10 +14,14 @@ use Rattle.model_sheet.specs.BigEndian.{number, bytes}
 use Rattle.model_sheet.specs.Record.{positions, carries, fits, quads, encode, extent, numbers, parsed}
 use Rattle.model_sheet.specs.Sheet.{call-of}
 use Rattle.model_filed.specs.Filed.{within-bounds, is-record, refused-filing, file, refused-withdrawal, withdraw}
-use Rattle.model_filed.specs.Worked.{worked, computed}
+use Rattle.model_filed.specs.Worked.{worked, computed, bounds, bound-computed}
 
 pub worked-sittings : map computed worked ≡ worked
 unfolding flatten bind scalar sequence decodeAt wholeFrom utf8 between toFirst chars code contains split-at by-edge-mut to-string update-chunks update-with
     change-range relocate within judged refused-before run perform number bytes positions carries fits quads encode extent numbers parsed call-of within-bounds is-record
     refused-filing file refused-withdrawal withdraw
 worked-sittings = refl
+
+pub worked-bounds : map bound-computed bounds ≡ bounds
+unfolding number bytes positions carries fits quads encode extent numbers parsed within-bounds is-record refused-filing
+worked-bounds = refl

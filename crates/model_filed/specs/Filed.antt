@@ -101,7 +101,7 @@ withdraw k start n x =
     ]
 
 -- ── numbers ──
--- those that filing this call and withdrawing may give beside 0, in order. 2 is judged on the memory
+-- those that filing this call and withdrawing may give beside 0, in order; 13 is the record's own, and again one of the call's. 2 is judged on the memory
 abbrev pub file-numbers : Edit → List ℕ
 file-numbers e = 2 ∷ 16 ∷ 13 ∷ edit-numbers e
 

@@ -1,12 +1,13 @@
 -- Worked sittings, as a table: what is filed and withdrawn on a desk, what each action answers, and the record and the text behind them. proofs/Example.antt computes each.
 use Prim.Native.Nat.{ℕ}
 use mathlib.Core.List.{List, [], _∷_, _++_}
+use lib.ListN.{replicate}
 use Rattle.model.specs.Text.{Text}
 use Rattle.model.specs.MagicString.{MagicString, new, to-string}
 use Rattle.model.specs.Limits.{full}
 use Rattle.model_sheet.specs.Record.{Recorded, encode}
 use Rattle.model_sheet.specs.Worked.{fields}
-use Rattle.model_filed.specs.Filed.{Entry, Sitting}
+use Rattle.model_filed.specs.Filed.{Entry, Sitting, refused-filing}
 use Rattle.model_filed.specs.Kept.{Action, filing, withdrawing, act, acts, begun}
 
 -- the number and the value of each action
@@ -83,3 +84,25 @@ abbrev pub computed : Worked → Worked
 computed w =
     let x = acts full (new source) (w .actions) (begun (new source)) in
     record { actions = w .actions; answers = told (new source) (w .actions) (begun (new source)); entries = x .entries; text = to-string (x .desk) }
+
+-- ── bounds, as a table: calls that are filed, the bytes of one more, and the number that refuses it ──
+abbrev pub text-of : ℕ → Recorded
+text-of n = fields 4 0 0 0 (replicate n 0x61)
+
+abbrev pub bounds : List ((List Recorded × List ℕ) × ℕ)
+bounds =
+    -- "up to 200 calls"
+    ((replicate 199 moved, encode moved), 0)
+    ∷ ((replicate 200 moved, encode moved), 13)
+    -- "at most 32,768 bytes of text"
+    ∷ ((text-of 32767 ∷ [], encode (text-of 1)), 0)
+    ∷ ((text-of 32767 ∷ [], encode (text-of 2)), 13)
+    ∷ ((text-of 32768 ∷ [], encode (text-of 0)), 0)
+    ∷ (([], encode (text-of 32768)), 0)
+    ∷ (([], encode (text-of 32769)), 13)
+    -- 16 comes first
+    ∷ ((replicate 200 moved, []), 16)
+    ∷ []
+
+abbrev pub bound-computed : (List Recorded × List ℕ) × ℕ → (List Recorded × List ℕ) × ℕ
+bound-computed q = (q .0, refused-filing (q .0 .1) (q .0 .0))

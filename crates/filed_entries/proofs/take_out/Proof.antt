@@ -1,4 +1,5 @@
 -- `filed_entries::take_out` meets its contract.
+use native.Mathlib.Omega.{arith}
 use Rattle.filed_entries.proofs.Slices.{behind-lent, entry-out}
 use borrow.Author.Needs.{needs}
 use Rattle.filed_entries.proofs.take_out.Statement.{statement}
@@ -14,7 +15,7 @@ part-place-of-end : tie.Need-part-place-of-end
 part-place-of-end c = search needs
 
 place-of-requires : tie.Need-place-of-requires
-place-of-requires c κs = let start = c .before .before .before .before in behind-lent (start .pre .0) (start .args .i) (start .pre .1)
+place-of-requires c κs = let start = c .before .before .before .before in behind-lent (start .pre .0) _ (omega (arith, start .pre .1))
 
 close-gap-requires : tie.Need-close-gap-requires
 close-gap-requires c κs = search needs

@@ -54,7 +54,7 @@ returns-4 : tie.Need-returns-4
 returns-4 c = no-list _ _ (subst (Counts _ MOST-CALLS) (c .enum-told .given .1) (counts (c .before .before)))
 
 returns-5 : tie.Need-returns-5
-returns-5 c = much-text _ _ (subst (Counts _ MOST-CALLS) (c .before .before .count .given .1) (counts (c .before .before .before .before))) (c .if4 .taken)
+returns-5 c = much-text _ _ (subst (Counts _ MOST-CALLS) (c .before .before .count .given .1) (counts (c .before .before .before .before))) (omega (arith, c .if4 .taken))
 
 returns-6 : tie.Need-returns-6
 returns-6 c =
@@ -62,7 +62,7 @@ returns-6 c =
     holds-of _ _ (wide .result) (c .before .before .before .before .before .before .before .before .before .before .if1 .left)
     (c .before .before .before .before .before .before .before .before .before .if2 .left) (wide .ensures .0)
     (c .before .before .before .before .before .before .if3 .left)
-    (subst (Counts _ MOST-CALLS) (c .before .before .count .given .1) (counts (c .before .before .before .before))) (c .if4 .left)
+    (subst (Counts _ MOST-CALLS) (c .before .before .count .given .1) (counts (c .before .before .before .before))) (omega (arith, c .if4 .left))
 
 pub judge-record-spec : {M : Type 1} → statement M
 judge-record-spec =

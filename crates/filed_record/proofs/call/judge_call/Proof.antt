@@ -23,7 +23,7 @@ returns : tie.Need-returns
 returns c = refuses-more _ _ (here (c .before .before)) (c .if1 .taken)
 
 returns-2 : tie.Need-returns-2
-returns-2 c = refuses-calls _ _ (here (c .before .before .before .before)) (c .before .before .if1 .left) (c .if2 .taken)
+returns-2 c = refuses-calls _ _ (here (c .before .before .before .before)) (omega (arith, c .before .before .if1 .left)) (omega (arith, c .if2 .taken))
 
 sub-if3 : tie.Need-sub-if3
 sub-if3 c = search needs
@@ -35,7 +35,7 @@ returns-3 : tie.Need-returns-3
 returns-3 c =
     let g = here (c .before .before .before .before .before .before) in
     let all = c .before .before .before .before .if1 .left in
-    refuses-text _ _ g all (omega (arith, c .if3 .taken, g .ends, all, c .before .before .before .before .before .before .before .before .before .before .pre))
+    refuses-text _ _ g (omega (arith, all)) (omega (arith, c .if3 .taken, g .ends, all, c .before .before .before .before .before .before .before .before .before .before .pre))
 
 enum-told : tie.Need-enum-told
 enum-told c = search needs
@@ -47,7 +47,7 @@ returns-4 : tie.Need-returns-4
 returns-4 c =
     let g = here (c .before .before .before .before .before .before) in
     let all = c .before .before .before .before .if1 .left in
-    files-call _ _ g all (c .before .before .if2 .left)
+    files-call _ _ g (omega (arith, all)) (omega (arith, c .before .before .if2 .left))
     (omega (arith, c .if3 .left, g .ends, all, c .before .before .before .before .before .before .before .before .before .before .pre))
 
 returns-5 : tie.Need-returns-5

@@ -1,0 +1,54 @@
+-- The exported calls keep a desk and its record in agreement.
+use Prim.Native.Nat.{ℕ}
+use mathlib.Core.Path.{_≡_, refl, sym, ap, subst, _∙_}
+use mathlib.Core.List.{List, []}
+use Rattle.model.specs.MagicString.{MagicString, new}
+use Rattle.model.specs.Limits.{Limits}
+use Rattle.model_filed.specs.Filed.{Entry, Sitting, Answered, file, withdraw}
+use Rattle.model_filed.specs.Kept.{Agrees}
+use Rattle.model_filed.proofs.Kept.{file-agrees, withdraw-agrees}
+use Rattle.memory.specs.Layout.{magicStringOf}
+use Rattle.memory.specs.WellFormed.{limitsOf, Full, Taken}
+use Rattle.memory.specs.declared.Answer.{Answer}
+use Rattle.memory.proofs.Desks.{limits-as}
+use Rattle.filed_record.specs.Promises.{sittingOf, Becomes}
+use Rattle.filed_exported.specs.Sittings.{Lent, Sat, begun, filed, withdrawn, Holds, AlwaysHolds}
+
+-- what a call becomes holds again, if the model's answer agrees
+holds-on : {source : List ℕ} {M M′ : Lent} {l : List Entry} {o : Answered} {r : Answer} → Full (M .chunks) (M .pieces) (M .store)
+    → Becomes source (M .chunks) (M .pieces) (M .store) (M .words) (M .bytes) (M′ .chunks) (M′ .pieces) (M′ .store) (M′ .words) (M′ .bytes) l o r
+    → Agrees (limitsOf (M .chunks) (M .pieces) (M .store)) (new source) (o .left) → Holds source M′
+holds-on {source} {M} {M′} {o = o} f b g =
+    let n = b .lengths in
+    let is : o .left ≡ sittingOf source (M′ .chunks) (M′ .pieces) (M′ .store) (o .left .entries) =
+    λ i. record { desk = sym (b .desk-is) i; entries = o .left .entries } in
+    let limits : limitsOf (M .chunks) (M .pieces) (M .store) ≡ limitsOf (M′ .chunks) (M′ .pieces) (M′ .store) = sym (limits-as n) in
+    record {
+      desk = record {
+        full = record { chunks = n .chunks ∙ f .chunks; pieces = n .pieces ∙ f .pieces; store = n .store ∙ f .store };
+        well-formed = b .well-formed;
+      };
+      entries = o .left .entries;
+      are = b .record-is;
+      agrees = subst (λ (k : Limits). Agrees k (new source) (sittingOf source (M′ .chunks) (M′ .pieces) (M′ .store) (o .left .entries))) limits
+          (subst (Agrees (limitsOf (M .chunks) (M .pieces) (M .store)) (new source)) is g);
+    }
+
+pub always-holds : AlwaysHolds
+always-holds source M (begun {t = t} o f e) =
+    record {
+      desk = record { full = f; well-formed = o .well-formed refl };
+      entries = [];
+      are = e;
+      agrees = λ i. record { desk = o .desk-is refl i; entries = [] };
+    }
+always-holds source M′ (filed {M = M} call x c) =
+    let h = always-holds source M x in
+    let k = limitsOf (M .chunks) (M .pieces) (M .store) in
+    let on = c .taken (h .desk) (h .entries) (h .are) in
+    holds-on {M = M} {M′ = M′} (h .desk .full) (on .becomes) (file-agrees k (new source) (sittingOf source (M .chunks) (M .pieces) (M .store) (h .entries)) (h .agrees) call)
+always-holds source M′ (withdrawn {M = M} n x c) =
+    let h = always-holds source M x in
+    let k = limitsOf (M .chunks) (M .pieces) (M .store) in
+    let on = c .taken (h .desk) (h .entries) (h .are) in
+    holds-on {M = M} {M′ = M′} (h .desk .full) (on .becomes) (withdraw-agrees k (new source) (sittingOf source (M .chunks) (M .pieces) (M .store) (h .entries)) (h .agrees) n)

@@ -1,0 +1,116 @@
+use Rattle.magic_string.proofs.Exported.{seen-none, seen-taken, seen-desk, held-none, held-record, sitting-no-desk, sitting-no-record, sitting-yes}
+use borrow.Author.Needs.{needs}
+use Rattle.magic_string.proofs.exported_filed.magic_string_file.Statement.{statement}
+use Rattle.magic_string.proofs.exported_filed.magic_string_file.Tie as tie
+
+taken-requires : tie.Need-taken-requires
+taken-requires c κs = search needs
+
+enum-known-used : tie.Need-enum-known-used
+enum-known-used c = search needs
+
+enum-told : tie.Need-enum-told
+enum-told c = search needs
+
+same-length : tie.Need-same-length
+same-length c = search needs
+
+same-length-2 : tie.Need-same-length-2
+same-length-2 c = search needs
+
+same-length-3 : tie.Need-same-length-3
+same-length-3 c = search needs
+
+returns : tie.Need-returns
+returns c =
+    let a = c .before .before .before .before .before .before .before .before .before .before .before .before .before .args in
+    sitting-no-desk (seen-none (a .source .now) (a .chunks .now) (a .pieces .now) (a .store .now) (c .enum-told .given .1) (c .before .before .taken .ensures))
+
+judge-record-requires : tie.Need-judge-record-requires
+judge-record-requires c κs = search needs
+
+enum-known-size : tie.Need-enum-known-size
+enum-known-size c = search needs
+
+enum-told-2 : tie.Need-enum-told-2
+enum-told-2 c = search needs
+
+same-length-4 : tie.Need-same-length-4
+same-length-4 c = search needs
+
+same-length-5 : tie.Need-same-length-5
+same-length-5 c = search needs
+
+same-length-6 : tie.Need-same-length-6
+same-length-6 c = search needs
+
+same-length-7 : tie.Need-same-length-7
+same-length-7 c = search needs
+
+same-length-8 : tie.Need-same-length-8
+same-length-8 c = search needs
+
+returns-2 : tie.Need-returns-2
+returns-2 c =
+    let a = c .before .before .before .before .before .before .before .before .before .before .before .before .before .before .before .before .before .before .before .args in
+    sitting-no-record (held-none (a .words .now) (a .bytes .now) (c .enum-told2 .given .1) (c .before .before .judge-record .ensures))
+
+file-requires : tie.Need-file-requires
+file-requires c κs =
+    let a = c .before .before .before .before .before .before .before .before .before .before .before .before .before .before .before .before .before .before .before .before .before .before .before .before .before .args in
+    let used = c .before .before .before .before .before .before .before .before .before .before .before .before .used in
+    let size = c .before .before .before .before .before .before .size in (
+      seen-desk (a .source .now) (a .chunks .now) (a .pieces .now) (a .store .now) (used .given .0 .0) (used .given .1) (c .before .before .before .before .before .before .before .before .before .before .before .before .before .before .taken .ensures),
+      held-record (a .words .now) (a .bytes .now) (size .given .0 .0) (size .given .1) (c .before .before .before .before .before .before .before .before .judge-record .ensures),
+    )
+
+same-length-9 : tie.Need-same-length-9
+same-length-9 c = search needs
+
+same-length-10 : tie.Need-same-length-10
+same-length-10 c = search needs
+
+same-length-11 : tie.Need-same-length-11
+same-length-11 c = search needs
+
+same-length-12 : tie.Need-same-length-12
+same-length-12 c = search needs
+
+same-length-13 : tie.Need-same-length-13
+same-length-13 c = search needs
+
+returns-3 : tie.Need-returns-3
+returns-3 c =
+    let a = c .before .before .before .before .before .before .before .before .before .before .before .before .before .before .before .before .before .before .before .before .before .before .before .before .before .before .before .before .before .before .before .before .before .before .before .before .args in
+    let used = c .before .before .before .before .before .before .before .before .before .before .before .before .before .before .before .before .before .before .before .before .before .before .before .used in
+    let size = c .before .before .before .before .before .before .before .before .before .before .before .before .before .before .before .before .before .size in
+    sitting-yes (seen-taken (a .source .now) (a .chunks .now) (a .pieces .now) (a .store .now) (used .given .0 .0) (used .given .1) (c .before .before .before .before .before .before .before .before .before .before .before .before .before .before .before .before .before .before .before .before .before .before .before .before .before .taken .ensures))
+    (held-record (a .words .now) (a .bytes .now) (size .given .0 .0) (size .given .1) (c .before .before .before .before .before .before .before .before .before .before .before .before .before .before .before .before .before .before .before .judge-record .ensures)) (c .before .before .before .before .before .before .before .before .before .before .file .ensures)
+
+pub magic-string-file-spec : {M : Type 1} → statement M
+magic-string-file-spec =
+    tie.close
+    (tie.spec
+    taken-requires
+    enum-known-used
+    enum-told
+    same-length
+    same-length-2
+    same-length-3
+    returns
+    judge-record-requires
+    enum-known-size
+    enum-told-2
+    same-length-4
+    same-length-5
+    same-length-6
+    same-length-7
+    same-length-8
+    returns-2
+    file-requires
+    same-length-9
+    same-length-10
+    same-length-11
+    same-length-12
+    same-length-13
+    returns-3)

@@ -1,0 +1,105 @@
+use Rattle.magic_string.proofs.Exported.{held-none, held-record, sitting-no-desk, sitting-no-record, sitting-yes}
+use borrow.Author.Needs.{needs}
+use Rattle.magic_string.proofs.exported_filed.magic_string_withdraw.Statement.{statement}
+use Rattle.magic_string.proofs.exported_filed.magic_string_withdraw.Tie as tie
+
+well-formed-requires : tie.Need-well-formed-requires
+well-formed-requires c κs = search needs
+
+judge-record-requires : tie.Need-judge-record-requires
+judge-record-requires c κs = search needs
+
+enum-known-size : tie.Need-enum-known-size
+enum-known-size c = search needs
+
+enum-told : tie.Need-enum-told
+enum-told c = search needs
+
+same-length : tie.Need-same-length
+same-length c = search needs
+
+same-length-2 : tie.Need-same-length-2
+same-length-2 c = search needs
+
+same-length-3 : tie.Need-same-length-3
+same-length-3 c = search needs
+
+same-length-4 : tie.Need-same-length-4
+same-length-4 c = search needs
+
+same-length-5 : tie.Need-same-length-5
+same-length-5 c = search needs
+
+returns : tie.Need-returns
+returns c =
+    let a = c .before .before .before .before .before .before .before .before .before .before .before .before .before .before .before .before .args in
+    sitting-no-record (held-none (a .words .now) (a .bytes .now) (c .enum-told .given .1) (c .before .before .judge-record .ensures))
+
+withdraw-requires : tie.Need-withdraw-requires
+withdraw-requires c κs =
+    let a = c .before .before .before .before .before .before .before .before .before .before .before .before .before .before .before .before .before .before .before .before .before .before .args in
+    let size = c .before .before .before .before .before .before .size in (
+      c .before .before .before .before .before .before .before .before .before .before .before .before .well-formed .ensures .yes (c .before .before .before .before .before .before .before .before .before .before .before .if1 .taken) .well-formed,
+      held-record (a .words .now) (a .bytes .now) (size .given .0 .0) (size .given .1) (c .before .before .before .before .before .before .before .before .judge-record .ensures),
+    )
+
+same-length-6 : tie.Need-same-length-6
+same-length-6 c = search needs
+
+same-length-7 : tie.Need-same-length-7
+same-length-7 c = search needs
+
+same-length-8 : tie.Need-same-length-8
+same-length-8 c = search needs
+
+same-length-9 : tie.Need-same-length-9
+same-length-9 c = search needs
+
+same-length-10 : tie.Need-same-length-10
+same-length-10 c = search needs
+
+returns-2 : tie.Need-returns-2
+returns-2 c =
+    let a = c .before .before .before .before .before .before .before .before .before .before .before .before .before .before .before .before .before .before .before .before .before .before .before .before .before .before .before .before .before .before .before .before .before .args in
+    let size = c .before .before .before .before .before .before .before .before .before .before .before .before .before .before .before .before .before .size in
+    sitting-yes (c .before .before .before .before .before .before .before .before .before .before .before .before .before .before .before .before .before .before .before .before .before .before .before .well-formed .ensures .yes (c .before .before .before .before .before .before .before .before .before .before .before .before .before .before .before .before .before .before .before .before .before .before .if1 .taken))
+    (held-record (a .words .now) (a .bytes .now) (size .given .0 .0) (size .given .1) (c .before .before .before .before .before .before .before .before .before .before .before .before .before .before .before .before .before .before .before .judge-record .ensures)) (c .before .before .before .before .before .before .before .before .before .before .withdraw .ensures)
+
+same-length-11 : tie.Need-same-length-11
+same-length-11 c = search needs
+
+same-length-12 : tie.Need-same-length-12
+same-length-12 c = search needs
+
+same-length-13 : tie.Need-same-length-13
+same-length-13 c = search needs
+
+returns-3 : tie.Need-returns-3
+returns-3 c =
+    sitting-no-desk (c .before .well-formed .ensures .no (c .if1 .left))
+
+pub magic-string-withdraw-spec : {M : Type 1} → statement M
+magic-string-withdraw-spec =
+    tie.close
+    (tie.spec
+    well-formed-requires
+    judge-record-requires
+    enum-known-size
+    enum-told
+    same-length
+    same-length-2
+    same-length-3
+    same-length-4
+    same-length-5
+    returns
+    withdraw-requires
+    same-length-6
+    same-length-7
+    same-length-8
+    same-length-9
+    same-length-10
+    returns-2
+    same-length-11
+    same-length-12
+    same-length-13
+    returns-3)

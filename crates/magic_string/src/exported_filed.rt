@@ -1,0 +1,72 @@
+// Calls filed in a record beside a desk, and withdrawn from it.
+ghost use Rattle.filed_record.specs.Promises.{CallFiled, CallWithdrawn};
+use check_well_formed::Seen;
+use filed_record::Held;
+use memory::Answer;
+use memory_layout::numbers;
+
+#[no_mangle]
+pub extern "C" fn magic_string_file(
+    source: &[u8],
+    chunks: &mut [u32],
+    pieces: &mut [u32],
+    store: &mut [u8],
+    words: &mut [u32],
+    bytes: &mut [u8],
+    call: &[u8],
+) -> Answer
+    ensures { λ r. ⌜ CallFiled (now (call .entry)) (now (source .entry)) (now (chunks .entry)) (now (pieces .entry)) (now (store .entry)) (now (words .entry)) (now (bytes .entry))
+        (now (chunks .exit)) (now (pieces .exit)) (now (store .exit)) (now (words .exit)) (now (bytes .exit)) r ⌝ }
+{
+    let Seen::Desk(used) = check_well_formed::taken(source, chunks, pieces, store) else {
+        return Answer {
+            number: numbers::NOT_WELL_FORMED,
+            value: 0,
+        };
+    };
+    let Held::Record(size) = filed_record::judge_record(words, bytes) else {
+        return Answer {
+            number: numbers::NOT_WELL_FORMED,
+            value: 0,
+        };
+    };
+    filed::file(
+        source,
+        chunks,
+        pieces,
+        store,
+        words,
+        bytes,
+        call,
+        size,
+        used,
+    )
+}
+
+#[no_mangle]
+pub extern "C" fn magic_string_withdraw(
+    source: &[u8],
+    chunks: &mut [u32],
+    pieces: &mut [u32],
+    store: &mut [u8],
+    words: &mut [u32],
+    bytes: &mut [u8],
+    k: u32,
+) -> Answer
+    ensures { λ r. ⌜ CallWithdrawn k (now (source .entry)) (now (chunks .entry)) (now (pieces .entry)) (now (store .entry)) (now (words .entry)) (now (bytes .entry))
+        (now (chunks .exit)) (now (pieces .exit)) (now (store .exit)) (now (words .exit)) (now (bytes .exit)) r ⌝ }
+{
+    if check_well_formed::well_formed(source, chunks, pieces, store) {
+        let Held::Record(size) = filed_record::judge_record(words, bytes) else {
+            return Answer {
+                number: numbers::NOT_WELL_FORMED,
+                value: 0,
+            };
+        };
+        return filed::withdraw(source, chunks, pieces, store, words, bytes, k, size);
+    }
+    Answer {
+        number: numbers::NOT_WELL_FORMED,
+        value: 0,
+    }
+}
