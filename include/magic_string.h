@@ -9,8 +9,8 @@
  * element's type. A slice that is written lies apart from the others, and
  * nothing else writes any of them during the call.
  *
- * A call uses no heap. Its stack, measured: an edit or a sheet up to 128 kB,
- * the check and a report up to 20 kB.
+ * A call uses no heap. Its stack, measured: an edit, a sheet, and a call on a
+ * record up to 128 kB, the check and a report up to 20 kB.
  *
  * The tables do not hold the source, and nothing in them tells which it was. A
  * caller lends the same source to every call on a desk: another one of the same
@@ -23,32 +23,36 @@
  * Every call gives a number and a value. The number is 0 if the call was
  * accepted, or a refusal, whose name is in the enum below:
  *
- *    1 text not UTF-8                    9 moved range not together
- *    2 desk not well formed             10 end past source
- *    3 position inside a character      11 slice starts inside a replaced chunk
- *    4 end before start                 12 slice ends there
- *    5 replace zero width               13 the desk would break a limit
- *    6 cut inside a replacement         14 output buffer too short
- *    7 replace across a moved edge      15 pattern above 1, odd exclude list
- *    8 move into itself                 16 sheet breaks the rules of its form
+ *    1 text not UTF-8                  10 end past source
+ *    2 desk or record not well formed  11 slice starts inside a replaced chunk
+ *    3 position inside a character     12 slice ends there
+ *    4 end before start                13 the desk would break a limit
+ *    5 replace zero width              14 output buffer too short
+ *    6 cut inside a replacement        15 pattern above 1, odd exclude list
+ *    7 replace across a moved edge     16 sheet or call breaks its form's rules
+ *    8 move into itself                17 no call with that number is filed
+ *    9 moved range not together
  *
  * "Numbers" below are those that the call may give, in the order in which they
  * are tested. 13 is given if the desk that the call would leave breaks a limit,
- * and then in place of the answers that it is named for.
+ * and then in place of the answers that it is named for; file gives it for the
+ * limits of a record too.
  *
  * What lent memory holds afterwards:
  *
- *  - The source, texts and sheets are never written.
+ *  - The source, texts, sheets and calls to be filed are never written.
  *  - After 0 the tables hold the desk that the call leaves. Which rows and
  *    which bytes of the store it lies in is the library's choice. Where a call
  *    is said to do nothing, and after every report, each byte of the tables is
  *    as it was.
  *  - After a refusal each byte of the tables is as it was, but where "After"
- *    says that something stays (after 6, 7, 9 and update_with's 10): the tables
- *    then hold that desk, well formed, in rows and bytes of the library's choice.
+ *    says that something stays (after 6, 7, 9 and update_with's 10, by file
+ *    too): the tables then hold that desk, well formed, in rows and bytes of
+ *    the library's choice.
  *  - A report that fills a buffer writes its text to the front of it and leaves
  *    the bytes behind; so does run_sheet with its answers. No refusal writes a
  *    buffer.
+ *  - A record is written by file and withdraw alone, as they say.
  */
 #ifndef MAGIC_STRING_H
 #define MAGIC_STRING_H
@@ -73,6 +77,17 @@ extern "C" {
 #define MAGIC_STRING_SHEET_RECORDS 200
 #define MAGIC_STRING_SHEET_BYTES 57344
 
+/* A record of filed calls: its limits, the calls and the bytes of their texts
+ * together; the most bytes of a filed call before its text; the place of its
+ * word; and where the answers begin in its bytes, behind room for the calls. */
+#define MAGIC_STRING_RECORD_CALLS 200
+#define MAGIC_STRING_RECORD_TEXT 32768
+#define MAGIC_STRING_RECORD_FRONT 15
+#define MAGIC_STRING_RECORD_USED 0
+#define MAGIC_STRING_RECORD_ANSWERS                                            \
+  (MAGIC_STRING_RECORD_CALLS * MAGIC_STRING_RECORD_FRONT +                     \
+   MAGIC_STRING_RECORD_TEXT)
+
 /* Words in a row of chunks, and in a row of pieces. */
 #define MAGIC_STRING_ROW 12
 #define MAGIC_STRING_PIECE 2
@@ -82,6 +97,11 @@ extern "C" {
 #define MAGIC_STRING_CHUNKS_LEN ((1 + MAGIC_STRING_CHUNKS) * MAGIC_STRING_ROW)
 #define MAGIC_STRING_PIECES_LEN (2 * MAGIC_STRING_PIECES * MAGIC_STRING_PIECE)
 #define MAGIC_STRING_STORE_LEN MAGIC_STRING_STORE_BYTES
+
+/* Lengths of a lent record's words and bytes. */
+#define MAGIC_STRING_RECORD_WORDS_LEN 1
+#define MAGIC_STRING_RECORD_BYTES_LEN                                          \
+  (MAGIC_STRING_RECORD_ANSWERS + MAGIC_STRING_RECORD_CALLS)
 
 /* The words of a row of chunks (docs/LAYOUT.md). Row 0 is the desk's own. */
 enum {
@@ -128,11 +148,13 @@ enum {
   MAGIC_STRING_LIMIT = 13,
   MAGIC_STRING_SHORT_BUFFER = 14,
   MAGIC_STRING_BAD_OPTION = 15,
-  MAGIC_STRING_BAD_SHEET = 16
+  MAGIC_STRING_BAD_SHEET = 16,
+  MAGIC_STRING_NO_SUCH_CALL = 17
 };
 
 /* The value is what the call reports, and 0 where it reports nothing. A refused
- * edit reports the cuts that remain (see "edits"), any other refused call 0. */
+ * edit reports the cuts that remain (see "edits"), by file too; any other
+ * refused call 0. */
 typedef struct magic_string_answer {
   uint32_t number;
   uint32_t value;
@@ -308,6 +330,72 @@ magic_string_answer magic_string_run_sheet(const uint8_t *sheet,
                                            size_t pieces_len, uint8_t *store,
                                            size_t store_len, uint8_t *answers,
                                            size_t answers_len);
+
+/* ---- a record: calls filed and withdrawn ---- */
+
+/* A record keeps calls that were made on a desk, with their answers, so that
+ * any of them can be taken back. It is two slices, which the caller lends
+ * behind those of the desk: MAGIC_STRING_RECORD_WORDS_LEN words, and
+ * MAGIC_STRING_RECORD_BYTES_LEN bytes.
+ *
+ *    words   at MAGIC_STRING_RECORD_USED: how many bytes the filed calls have
+ *    bytes   from 0 on the filed calls, one behind the other, each in the form
+ *            of a sheet's record; from MAGIC_STRING_RECORD_ANSWERS on their
+ *            answers in the same order, 0 or a refusal, one byte each
+ *
+ * An empty record has 0 in that word, whatever the bytes are: zeroed memory is
+ * one.
+ *
+ * A record is well formed exactly if it has these lengths, the bytes that the
+ * word counts end at MAGIC_STRING_RECORD_ANSWERS at the latest and are whole
+ * records of a sheet, at most MAGIC_STRING_RECORD_CALLS, and the texts of these
+ * have at most MAGIC_STRING_RECORD_TEXT bytes together. The answers are not
+ * looked at, nor what stands behind the filed calls, nor whether a text is
+ * UTF-8.
+ *
+ * Only file files: an edit, open and run_sheet leave the record as it is. A
+ * desk that was fresh beside an empty record, and that only file and withdraw
+ * have changed since, is what the filed calls leave when they are made in order
+ * on a fresh desk, and the answers are those of that run. Another edit, and
+ * open or run_sheet while calls are filed, may leave a desk that is not; the
+ * next call that is withdrawn makes it so again. Nothing in a record tells
+ * which desk it belongs to: lend the same one to every call on a desk. */
+
+/* Makes the call, which is one record of a sheet, its length included, and
+ * files it behind the others with its answer, whether it was accepted or
+ * refused.
+ * Numbers: 2 for a desk or record that is not well formed, 16 for a call that
+ * is not exactly one record of a sheet, 13 for a record without room for it;
+ * then those of the function of the call's kind, without 2. A record is without
+ * room if MAGIC_STRING_RECORD_CALLS calls are filed, or if the texts would have
+ * more than MAGIC_STRING_RECORD_TEXT bytes together. Value: the cuts that
+ * remain, as that function reports them.
+ * After 2, 16 and the record's 13: the call is not filed, and each byte of the
+ * tables and of the record is as it was.
+ * After 0 and the function's own numbers, its 13 among them: the tables are as
+ * the function leaves them, and the call is filed. Its bytes stand behind those
+ * of the others, its number behind their answers, the word has grown by
+ * call_len, and all else in the record is as it was. So the word tells the 13
+ * of the record, after which it is as it was, from that of the desk. */
+magic_string_answer magic_string_file(MAGIC_STRING_DESK, uint32_t *words,
+                                      size_t words_len, uint8_t *bytes,
+                                      size_t bytes_len, const uint8_t *call,
+                                      size_t call_len);
+
+/* Takes the k-th filed call out of the record, counted from 1 among those that
+ * are filed, and makes the others in order on a fresh desk over the source. So
+ * one that was accepted may be refused now, or the other way round. Edits that
+ * were not filed are lost.
+ * Numbers: 2 for a desk or record that is not well formed, 17 for a k that is 0
+ * or above the count of filed calls. Value: 0.
+ * After 0: the tables hold the desk that the others leave. The record has the
+ * others, one behind the other, with the answers that they got now, and the
+ * word counts their bytes. The bytes that no call and no answer has any more
+ * hold anything; those that none had before are as they were.
+ * After 2 and 17: each byte of the tables and of the record is as it was. */
+magic_string_answer magic_string_withdraw(MAGIC_STRING_DESK, uint32_t *words,
+                                          size_t words_len, uint8_t *bytes,
+                                          size_t bytes_len, uint32_t k);
 
 /* ---- reports: the value is the number of bytes written ---- */
 

@@ -1,4 +1,4 @@
-/* A paper in C: a script is opened and edits are filed on it, with the cuts
+/* A paper in C: a script is opened and edits are made on it, with the cuts
  * that each made and the running text after it, refusals in words, and the desk
  * chunk by chunk at the end. Then a whole paper in a sheet.
  *
@@ -50,7 +50,8 @@ static const char *const words[] = {
     [MAGIC_STRING_SHORT_BUFFER] = "output buffer too short",
     [MAGIC_STRING_BAD_OPTION] =
         "pattern above 1, or an exclude list of odd count",
-    [MAGIC_STRING_BAD_SHEET] = "sheet or record breaks the rules of its form"};
+    [MAGIC_STRING_BAD_SHEET] = "sheet or call breaks the rules of its form",
+    [MAGIC_STRING_NO_SUCH_CALL] = "no call with that number is filed"};
 
 /* The place of a text in the script: its first byte, and the first behind. */
 static uint32_t start(const char *text) {
@@ -72,7 +73,7 @@ static void show(magic_string_answer answer) {
 
 /* Says what an edit answered: its number, in words too, and how many cuts it
  * made that remain, which a refused edit reports as well. */
-static void file(const char *call, magic_string_answer answer) {
+static void edit(const char *call, magic_string_answer answer) {
   printf("%s: %u, %s, cuts: %u\n", call, (unsigned)answer.number,
          words[answer.number], (unsigned)answer.value);
   show(answer);
@@ -164,28 +165,28 @@ int main(void) {
   magic_string_answer opened = magic_string_open(DESK);
   printf("open: %u, %s\n", (unsigned)opened.number, words[opened.number]);
   show(opened);
-  file("replace north",
+  edit("replace north",
        magic_string_update_with(DESK, start("north"), end("north"),
                                 TEXT("north-west"), 0));
-  file("add behind 12",
+  edit("add behind 12",
        magic_string_insert(DESK, end("12"), TEXT(" to 15"), LEFT, BACK));
-  file("add before over",
+  edit("add before over",
        magic_string_insert(DESK, start("over"), TEXT("and "), RIGHT, BACK));
-  file("remove the sea",
+  edit("remove the sea",
        magic_string_remove(DESK, start(", sea"), end("calm")));
-  file("move the air before the wind",
+  edit("move the air before the wind",
        magic_string_relocate(DESK, start("  Air"), start("Good"),
                              start("  Wind")));
-  file("remove from inside the Å",
+  edit("remove from inside the Å",
        magic_string_remove(DESK, start("Å") + 1, end("Å")));
-  file("add inside a replaced word",
+  edit("add inside a replaced word",
        magic_string_insert(DESK, start("north") + 1, TEXT("?"), LEFT, BACK));
-  file("replace across the moved line",
+  edit("replace across the moved line",
        magic_string_update_with(DESK, start("Radio"), end("Wind"), TEXT("?"),
                                 0));
-  file("reset past the source", magic_string_reset(DESK, 0, UINT32_MAX));
-  file("append", magic_string_append(DESK, TEXT("73 \n\n")));
-  file("trim the end", magic_string_trim_end(DESK, 0));
+  edit("reset past the source", magic_string_reset(DESK, 0, UINT32_MAX));
+  edit("append", magic_string_append(DESK, TEXT("73 \n\n")));
+  edit("trim the end", magic_string_trim_end(DESK, 0));
   draw();
   sheets();
   return 0;

@@ -194,6 +194,126 @@ static void sheets(void) {
   free(answers);
 }
 
+/* A record of filed calls in memory of exactly these lengths, and calls in the
+ * form of a sheet's record. */
+static uint32_t *words;
+static uint8_t *bytes;
+
+#define RECORD                                                                 \
+  words, MAGIC_STRING_RECORD_WORDS_LEN, bytes, MAGIC_STRING_RECORD_BYTES_LEN
+#define CALL(c) (const uint8_t *)(c), sizeof(c) - 1
+
+#define REMOVE_3_7 "\0\x09\x01\0\0\0\x03\0\0\0\x07"
+#define REMOVE_7_3 "\0\x09\x01\0\0\0\x07\0\0\0\x03"
+#define APPEND_LEFT_5 "\0\x06\x04\0\0\0\x05!"
+#define NOT_UTF8_5 "\0\x06\x04\0\0\0\x05\xFF"
+#define RELOCATE_2_3_8 "\0\x0D\x08\0\0\0\x02\0\0\0\x03\0\0\0\x08"
+
+/* How many calls are filed: each is as long as its first two bytes say, and
+ * these. */
+static uint32_t filed(void) {
+  uint32_t count = 0, at = 0;
+  for (; at < words[MAGIC_STRING_RECORD_USED]; count++)
+    at += 2 + (uint32_t)(bytes[at] << 8 | bytes[at + 1]);
+  return count;
+}
+
+/* What filing or withdrawing answered, how many calls are filed and in how many
+ * bytes, the answers of the first of them, and the output. */
+static void kept(const char *call, magic_string_answer answer) {
+  uint32_t count = filed();
+  printf("%-28s %2u %u  %u calls, %u bytes:", call, (unsigned)answer.number,
+         (unsigned)answer.value, (unsigned)count,
+         (unsigned)words[MAGIC_STRING_RECORD_USED]);
+  for (uint32_t i = 0; i < count && i < 5; i++)
+    printf(" %u", (unsigned)bytes[MAGIC_STRING_RECORD_ANSWERS + i]);
+  fputs("  ", stdout);
+  answer = magic_string_to_string(DESK, OUT);
+  text(out, answer.value);
+}
+
+/* The answers of both calls on a record that is lent with these lengths. */
+static void lengths(const char *what, size_t words_len, size_t bytes_len) {
+  reported(what, magic_string_file(DESK, words, words_len, bytes, bytes_len,
+                                   CALL(REMOVE_3_7)));
+  reported("  withdraw 1",
+           magic_string_withdraw(DESK, words, words_len, bytes, bytes_len, 1));
+}
+
+/* Tells whether all bytes behind these of the calls, and behind as many
+ * answers, are still 99. */
+static void behind(size_t used, size_t count) {
+  int same = 1;
+  for (size_t i = used; i < MAGIC_STRING_RECORD_ANSWERS; i++)
+    same = same && bytes[i] == 99;
+  for (size_t i = count; i < MAGIC_STRING_RECORD_CALLS; i++)
+    same = same && bytes[MAGIC_STRING_RECORD_ANSWERS + i] == 99;
+  printf("  the bytes behind %s\n", same ? "as before" : "written");
+}
+
+static void records(void) {
+  words = calloc(MAGIC_STRING_RECORD_WORDS_LEN, sizeof *words);
+  bytes = malloc(MAGIC_STRING_RECORD_BYTES_LEN);
+  if (!words || !bytes)
+    exit(1);
+  /* An empty record: its word is 0, whatever the bytes are. */
+  memset(bytes, 99, MAGIC_STRING_RECORD_BYTES_LEN);
+  magic_string_open(DESK);
+  kept("withdraw 1 of none", magic_string_withdraw(DESK, RECORD, 1));
+  kept("file remove 3,7", magic_string_file(DESK, RECORD, CALL(REMOVE_3_7)));
+  kept("file append_left 5",
+       magic_string_file(DESK, RECORD, CALL(APPEND_LEFT_5)));
+  kept("file remove 7,3", magic_string_file(DESK, RECORD, CALL(REMOVE_7_3)));
+  kept("file with byte FF", magic_string_file(DESK, RECORD, CALL(NOT_UTF8_5)));
+  kept("file relocate 2,3,8",
+       magic_string_file(DESK, RECORD, CALL(RELOCATE_2_3_8)));
+  kept("file no byte", magic_string_file(DESK, RECORD, CALL("")));
+  kept("file a byte too many",
+       magic_string_file(DESK, RECORD, CALL(REMOVE_3_7 "\0")));
+  kept("file two calls",
+       magic_string_file(DESK, RECORD, CALL(REMOVE_3_7 REMOVE_3_7)));
+  kept("withdraw 0", magic_string_withdraw(DESK, RECORD, 0));
+  kept("withdraw 6", magic_string_withdraw(DESK, RECORD, 6));
+  uint32_t used = words[MAGIC_STRING_RECORD_USED];
+  behind(used, 5);
+  lengths("file, no word", 0, MAGIC_STRING_RECORD_BYTES_LEN);
+  lengths("file, a byte too few", MAGIC_STRING_RECORD_WORDS_LEN,
+          MAGIC_STRING_RECORD_BYTES_LEN - 1);
+  /* An edit that is not filed, and is lost. */
+  edit("append", magic_string_append(DESK, TEXT("lost")));
+  kept("withdraw 1", magic_string_withdraw(DESK, RECORD, 1));
+  kept("withdraw 4", magic_string_withdraw(DESK, RECORD, 4));
+  behind(used, 5);
+  edit("open", magic_string_open(DESK));
+  kept("withdraw 2", magic_string_withdraw(DESK, RECORD, 2));
+  words[MAGIC_STRING_RECORD_USED]--;
+  lengths("file, a call cut short", MAGIC_STRING_RECORD_WORDS_LEN,
+          MAGIC_STRING_RECORD_BYTES_LEN);
+}
+
+/* 13 for the record, which does not grow, and 13 for the desk. */
+static void limits(void) {
+  static char longest[MAGIC_STRING_STORE_BYTES + 1];
+  words[MAGIC_STRING_RECORD_USED] = 0;
+  magic_string_open(DESK);
+  for (int i = 0; i < MAGIC_STRING_RECORD_CALLS; i++)
+    magic_string_file(DESK, RECORD, CALL(REMOVE_7_3));
+  kept("file a call too many",
+       magic_string_file(DESK, RECORD, CALL(REMOVE_7_3)));
+  kept("withdraw the last",
+       magic_string_withdraw(DESK, RECORD, MAGIC_STRING_RECORD_CALLS));
+  kept("file in its place", magic_string_file(DESK, RECORD, CALL(REMOVE_3_7)));
+  kept("withdraw the first", magic_string_withdraw(DESK, RECORD, 1));
+  words[MAGIC_STRING_RECORD_USED] = 0;
+  memset(longest, 'x', sizeof longest - 1);
+  magic_string_append(DESK, TEXT(longest));
+  kept("file, the desk is full",
+       magic_string_file(DESK, RECORD, CALL(APPEND_LEFT_5)));
+  kept("withdraw 1", magic_string_withdraw(DESK, RECORD, 1));
+  free(words);
+  free(bytes);
+}
+
 int main(void) {
   source_len = strlen(script);
   out_len = source_len + 16;
@@ -213,6 +333,9 @@ int main(void) {
   reports();
   refusals();
   sheets();
+  out_len = source_len + 16;
+  records();
+  limits();
   free(source);
   free(chunks);
   free(pieces);

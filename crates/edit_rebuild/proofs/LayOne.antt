@@ -6,7 +6,7 @@ use native.Mathlib.Omega.{arith}
 use native.Mathlib.Nat.{add-zero}
 use lib.Dec.{eqb}
 use lib.ListN.{length, take, drop, length-drop}
-use lib.Seq.{take-at, drop-at, length-take-le}
+use lib.Seq.{length-take-le}
 use borrow.Author.Tests.{eqb-false, ne-eqb, eq-eqb}
 use Rattle.memory_table.specs.Order.{Entry}
 use Rattle.model.specs.Text.{Text, sum}
@@ -16,7 +16,7 @@ use Rattle.memory_layout.specs.Layout.{NONE}
 use Rattle.memory.specs.Layout.{Place, bytesAt, pieceAt, runOf, replacementOf}
 use Rattle.memory.specs.WellFormed.{ReplacementIn, among, runUses, replacementUses}
 use Rattle.memory_texts.specs.Over.{over}
-use Rattle.memory_texts.proofs.Over.{take-over, part-kept}
+use Rattle.memory_texts.proofs.Over.{take-over, over-all, part-kept}
 use Rattle.memory_texts.proofs.Texts.{tabulate-ext, run-tabulate, run-length}
 use Rattle.memory_texts.specs.Carry.{Carried, RoomOf}
 use Rattle.memory_used.specs.Below.{Below}
@@ -105,11 +105,6 @@ laid-run p s at n {P} {S} {byte} {row} {P'} {S'} {byte'} {row'} c room =
     }
 
 -- ── a replacement ──
-back-of : (S xs : List ℕ) (byte : ℕ) → byte ≤ length S → take (length xs) (drop byte (over S byte xs)) ≡ xs
-unfolding over
-back-of S xs byte h =
-    ap (take (length xs)) (drop-at (take byte S) (xs ++ drop (byte + length xs) S) byte (length-take-le byte S h)) ∙ take-at xs (drop (byte + length xs) S) (length xs) refl
-
 pub text-none : (s S : List ℕ) (at n byte : ℕ) → at ≡ NONE → LaidText s (at, n) (at, n) S byte S byte
 unfolding replacementOf replacementUses
 text-none s S at n byte e =
@@ -135,7 +130,7 @@ text-some s S S' at n byte e h room small q =
     let back : take n (drop byte S') ≡ take n (drop at s) =
     ap (λ (m : ℕ). take m (drop byte S')) (sym l)
     ∙ ap (λ (X : List ℕ). take (length (take n (drop at s))) (drop byte X)) q
-    ∙ back-of S (take n (drop at s)) byte (omega arith) in
+    ∙ over-all S byte (take n (drop at s)) (omega arith) in
     record {
       replacement = rw (ne-eqb at NONE e, ne-eqb byte NONE ne, back);
       below = λ z. omega arith;

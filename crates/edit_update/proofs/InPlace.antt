@@ -1,13 +1,13 @@
 -- `update_with` on the lent tables themselves: the cuts and clears of their rows, and the replacement above all texts in use.
 use mathlib.Core.Path.{_≡_, refl, sym, ap, ap₂, _∙_, subst}
 use mathlib.Core.Bool.{Bool, true}
-use mathlib.Core.List.{List, [], _++_, append-assoc, append-nil}
+use mathlib.Core.List.{List, [], _++_, append-nil}
 use Prim.Native.Nat.{ℕ, _+_, _-_, _*_, _/_, _≤_, _<_}
 use native.Mathlib.Omega.{arith}
 use native.Mathlib.Decide.{ℕ-discrete}
 use lib.Dec.{eqb}
-use lib.ListN.{length, take, drop, length-append, length-take, take-append-drop}
-use lib.Seq.{length-take-le, take-at}
+use lib.ListN.{length, take, drop, length-take, take-append-drop}
+use lib.Seq.{length-take-le}
 use Rattle.memory_layout.specs.Layout.{ROW, NONE}
 use Rattle.memory_table.specs.Order.{entries, countOf}
 use Rattle.model.specs.MagicString.{MagicString}
@@ -29,8 +29,7 @@ use Rattle.edit_split_at.proofs.Cuts.{formed-spans}
 use Rattle.memory_used.specs.declared.Used.{Used}
 use Rattle.memory_used.specs.declared.Outcome.{Outcome}
 use Rattle.memory_used.specs.Above.{Above}
-use Rattle.memory_texts.specs.Over.{over}
-use Rattle.memory_texts.proofs.Over.{take-over}
+use Rattle.memory_texts.proofs.Over.{take-over, take-over-all}
 use Rattle.edit_room_above.specs.Live.{Room}
 use Rattle.edit_room_above.proofs.Bounds.{read-below}
 use Rattle.edit_room_above.proofs.Apart.{rowUses, storeUses, apart-after, store-uses-front}
@@ -82,11 +81,6 @@ module _ (t t' P S : List ℕ) (row byte n : ℕ) (h : Readable t (take (row * 2
       (omega (arith, length-take-le (row * 2) P hr)) (omega (arith, length-take-le byte S hb)) (λ j. omega (arith, rows j)) bytes)
 
 -- ── the limits ──
--- a store up to the end of what was written over it
-take-to : (d : List ℕ) (a : ℕ) (xs : List ℕ) → a ≤ length d → take (a + length xs) (over d a xs) ≡ take a d ++ xs
-unfolding over
-take-to d a xs h = rw (← append-assoc) (take-at (take a d ++ xs) (drop (a + length xs) d) (a + length xs) (simp (length-append, length-take) (omega arith)))
-
 stored-text : (r : ℕ) (text : List ℕ) → r ≡ 0 → stored r text ≡ text
 stored-text r text h = rw h
 
@@ -143,7 +137,7 @@ module _ {a b : ℕ} {text : List ℕ} {o : Bool} {n m : ℕ} {source t P S t' S
     stored-above ls byte eb =
         let d = x .leave no-13 source rows-used bytes-used [] [] ln (lv .readable) spans (length-take-le (l .byte) S (lv .byte)) in
         let e : take byte S' ≡ bytes-used ++ (stored r text ++ []) =
-        ap₂ take eb (x .store) ∙ take-to S (l .byte) (stored r text) (lv .byte) ∙ ap (λ (u : List ℕ). bytes-used ++ u) (sym (append-nil (stored r text))) in
+        ap₂ take eb (x .store) ∙ take-over-all S (l .byte) (stored r text) (lv .byte) ∙ ap (λ (u : List ℕ). bytes-used ++ u) (sym (append-nil (stored r text))) in
         record {
           pieces = few-pieces;
           few = lv .few;

@@ -1,18 +1,17 @@
 -- A call filed, and one refused.
-use Prim.Native.Nat.{ℕ, zero, suc, _+_, _-_, _≤_, _<_}
-use mathlib.Core.Path.{_≡_, refl, sym, ap, ap₂, subst, _∙_}
-use mathlib.Core.Bool.{true}
+use Prim.Native.Nat.{ℕ, zero, suc, _+_, _-_, _≤_}
+use mathlib.Core.Path.{_≡_, refl, sym, ap, subst, _∙_}
 use mathlib.Core.List.{List, [], _∷_, _++_}
 use mathlib.Core.Option.{Option, some}
 use native.Mathlib.Omega.{arith}
-use lib.ListN.{length, take, drop, length-append, length-drop}
+use lib.ListN.{length, drop, length-append, length-drop}
 use lib.Seq.{length-take-le}
-use Rattle.model.specs.Call.{run, cuts-left, perform}
+use Rattle.model.specs.Call.{perform}
 use Rattle.model.proofs.Lists.{sum-snoc}
-use Rattle.model_sheet.specs.Record.{Recorded, parsed, text-size}
+use Rattle.model_sheet.specs.Record.{Recorded, parsed}
 use Rattle.model_sheet.specs.Sheet.{call-of}
 use Rattle.model_sheet.proofs.Runs.{answer-small}
-use Rattle.model_filed.specs.Filed.{Entry, calls, with-answers, Sitting, Answered, unchanged, within-bounds, refused-filing, filed, file}
+use Rattle.model_filed.specs.Filed.{Entry, calls, with-answers, Answered, unchanged, refused-filing, filed, file}
 use Rattle.model_filed.proofs.Filing.{calls-with, with-length, true-bounds, refused-0, file-refused, file-filed}
 use Rattle.memory.specs.Layout.{magicStringOf}
 use Rattle.memory.specs.WellFormed.{limitsOf, WellFormed}
@@ -23,12 +22,12 @@ use Rattle.memory_used.specs.declared.Outcome.{Outcome}
 use Rattle.memory_used.specs.Above.{Leaves}
 use Rattle.sheet_records.specs.Found.{recorded}
 use Rattle.filed_record.specs.declared.Size.{Size}
-use Rattle.filed_record.specs.Record.{answersOf, entriesOf, Holds}
+use Rattle.filed_record.specs.Record.{answersOf, Holds}
 use Rattle.filed_record.specs.Judged.{FilesCall, RefusesCall}
 use Rattle.filed_record.specs.Promises.{Unchanged, sittingOf, KeptBehind, Becomes, FiledOn}
 use Rattle.filed_record.proofs.Holding.{holds-entries, entries-are}
 use Rattle.filed_entries.specs.Entries.{EntryPut}
-use Rattle.filed_entries.proofs.Put.{put-entries, put-kept}
+use Rattle.filed_entries.proofs.Put.{put-behind, put-entries, put-kept}
 use Rattle.filed.specs.Done.{Files}
 
 -- nothing is changed
@@ -73,6 +72,7 @@ module _ {w b : List ℕ} {z : Size} (h : Holds w b z) where
             becomes = becomes-same wf (file (limitsOf t p s) call (sittingOf source t p s held)) (suc m)
                 (file-refused (limitsOf t p s) call (sittingOf source t p s held) m (refuses ∙ q)) q refl;
             refused = λ _. unchanged-all t p s w b;
+            behind = λ z. absurd (omega (arith, refuses, z, j .some));
             same = λ _. all-same t p s;
           }
 
@@ -127,5 +127,6 @@ module _ {w b : List ℕ} {z : Size} (h : Holds w b z) where
                     (put-kept h g e same _ (ap (λ (a : Answered). length (a .left .entries)) is ∙ length-append held _ ∙ ap (λ n. n + 1) held-count));
               };
               refused = λ no. absurd (no not-refused);
+              behind = λ _. put-behind h g e same;
               same = ran .same;
             }

@@ -2,7 +2,7 @@
 use Prim.Native.Nat.{ℕ, zero, suc, _+_, _-_, _≤_, _<_}
 use mathlib.Core.Path.{_≡_, refl, sym, ap, ap₂, subst, _∙_}
 use mathlib.Core.Bool.{true}
-use mathlib.Core.List.{List, []}
+use mathlib.Core.List.{List}
 use mathlib.Core.Option.{Option, some}
 use native.Mathlib.Omega.{arith}
 use borrow.Author.Tests.{le-leb}
@@ -11,29 +11,28 @@ use lib.Seq.{take-at}
 use Rattle.utf8.specs.Rfc3629.{utf8}
 use Rattle.memory_layout.specs.Layout.{RECORD-ANSWERS}
 use Rattle.memory_texts.specs.Over.{over}
-use Rattle.model.specs.MagicString.{MagicString, new}
+use Rattle.model.specs.MagicString.{new}
 use Rattle.model.specs.Limits.{full}
 use Rattle.model.specs.Call.{after, answers, opened}
-use Rattle.model_sheet.specs.Record.{Recorded, records}
+use Rattle.model_sheet.specs.Record.{records}
 use Rattle.model_sheet.specs.Sheet.{calls-of}
 use Rattle.model_sheet.proofs.Runs.{answers-length}
-use Rattle.model_filed.specs.Filed.{Entry, calls, with-answers, Sitting, Answered, MOST-CALLS, without, run-anew, refused-withdrawal, withdraw}
-use Rattle.model_filed.proofs.Filing.{calls-with, with-length, withdrawal-range, withdraw-refused, withdraw-done}
+use Rattle.model_filed.specs.Filed.{Entry, calls, with-answers, Answered, MOST-CALLS, without, run-anew, refused-withdrawal, withdraw}
+use Rattle.model_filed.proofs.Filing.{with-length, withdrawal-range, withdraw-refused, withdraw-done}
 use Rattle.memory.specs.Layout.{magicStringOf}
 use Rattle.memory.specs.WellFormed.{limitsOf, Lengths, WellFormed}
-use Rattle.memory.specs.declared.Answer.{Answer}
 use Rattle.memory.proofs.Desks.{limits-as, short-source}
 use Rattle.memory_used.specs.declared.Used.{Used}
 use Rattle.open.specs.OpenedWith.{Opens, NewDesk}
 use Rattle.sheet_records.specs.Found.{Counted}
-use Rattle.sheet_run.specs.RanAll.{RanAll, RanRecords}
+use Rattle.sheet_run.specs.RanAll.{RanRecords}
 use Rattle.filed_record.specs.declared.Size.{Size}
-use Rattle.filed_record.specs.Record.{answersOf, entriesOf, Holds}
+use Rattle.filed_record.specs.Record.{entriesOf, Holds}
 use Rattle.filed_record.specs.Judged.{RefusesWithdrawal}
 use Rattle.filed_record.specs.Promises.{sittingOf, KeptBehind, WithdrawnOn}
 use Rattle.filed_record.proofs.Holding.{entries-are}
 use Rattle.filed_entries.specs.Entries.{EntryOut}
-use Rattle.filed_entries.proofs.Out.{others, others-count, out-calls, new-entries, new-kept}
+use Rattle.filed_entries.proofs.Out.{others, out-calls, new-entries, new-kept}
 use Rattle.filed.specs.Done.{RunAnew, RunsAnew, Withdraws}
 use Rattle.filed.proofs.Files.{unchanged-all, held, held-calls, held-count, becomes-same}
 

@@ -1,5 +1,5 @@
 -- Bytes moved down, one by one.
-use Prim.Native.Nat.{ℕ, suc, _+_, _-_, _≤_, _<_}
+use Prim.Native.Nat.{ℕ, _+_, _-_, _<_}
 use mathlib.Core.Path.{_≡_, refl, sym, ap, ap₂, _∙_}
 use mathlib.Core.List.{List, [], _∷_, _++_}
 use native.Mathlib.Numerals.{add-one}
@@ -7,9 +7,8 @@ use native.Mathlib.Omega.{arith}
 use lib.ListN.{length, getD, take, drop, set, length-set, length-drop}
 use lib.Seq.{take-suc, getD-drop, length-take-le}
 use Rattle.memory_texts.specs.Over.{over}
-use Rattle.memory_texts.proofs.Over.{over-nil, over-over, length-over}
+use Rattle.memory_texts.proofs.Over.{over-nil, over-over, getD-over, set-over}
 use Rattle.filed_entries.specs.Entries.{Closed}
-use Rattle.filed_entries.proofs.Bytes.{getD-over, set-over}
 
 -- i bytes are moved
 pub record Closing (b₀ b : List ℕ) (at next i : ℕ) : Type 0 where

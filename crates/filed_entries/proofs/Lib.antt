@@ -1,4 +1,3 @@
-pub mod Bytes
 pub mod Places
 pub mod Closing
 pub mod Slices

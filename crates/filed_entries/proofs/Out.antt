@@ -1,26 +1,25 @@
 -- The record with a call less, and the answers of the others written anew.
 use Prim.Native.Nat.{ℕ, zero, suc, _+_, _-_, _≤_, _<_}
-use mathlib.Core.Path.{_≡_, refl, sym, ap, ap₂, subst, _∙_}
+use mathlib.Core.Path.{_≡_, refl, sym, ap, ap₂, _∙_}
 use mathlib.Core.List.{List, [], _∷_, _++_}
 use mathlib.Core.Option.{Option, some}
 use native.Mathlib.Numerals.{add-one}
 use native.Mathlib.Omega.{arith}
-use lib.ListN.{length, getD, take, drop, length-drop, length-take}
+use lib.ListN.{length, getD, take, drop, length-drop}
 use lib.Seq.{length-take-le, take-take}
-use Rattle.memory_layout.specs.Layout.{RECORD-ANSWERS, RECORD-BYTES-LEN}
+use Rattle.memory_layout.specs.Layout.{RECORD-ANSWERS}
 use Rattle.memory_texts.specs.Over.{over}
-use Rattle.memory_texts.proofs.Over.{length-over}
+use Rattle.memory_texts.proofs.Over.{length-over, take-over-all, take-before, drop-at-over, getD-over, getD-before}
 use Rattle.model_sheet.specs.Record.{Recorded, records, text-size}
 use Rattle.model_sheet.proofs.Records.{records-append}
 use Rattle.model_filed.specs.Filed.{Entry, with-answers, MOST-CALLS, without}
 use Rattle.model_filed.proofs.Filing.{with-front}
 use Rattle.sheet_records.specs.Found.{Counted}
 use Rattle.filed_record.specs.declared.Size.{Size}
-use Rattle.filed_record.specs.Record.{usedOf, answersOf, entriesOf, Holds}
+use Rattle.filed_record.specs.Record.{entriesOf, Holds}
 use Rattle.filed_record.specs.Promises.{KeptBehind}
 use Rattle.filed_record.proofs.Holding.{holds-entries}
 use Rattle.filed_entries.specs.Entries.{EntryOut}
-use Rattle.filed_entries.proofs.Bytes.{take-over-all, take-before, drop-at-over, getD-over, getD-before}
 
 -- ── a list without the element behind its first i ──
 less-text : (i : ℕ) (l : List Recorded) → text-size (take i l ++ drop (suc i) l) ≤ text-size l

@@ -1,27 +1,26 @@
 -- The record with a call more.
-use Prim.Native.Nat.{ℕ, zero, suc, _+_, _*_, _-_, _≤_, _<_}
+use Prim.Native.Nat.{ℕ, zero, suc, _+_, _-_, _≤_, _<_}
 use mathlib.Core.Path.{_≡_, refl, sym, ap, ap₂, _∙_}
 use mathlib.Core.List.{List, [], _∷_, _++_}
 use mathlib.Core.Option.{Option, some}
 use native.Mathlib.Omega.{arith}
 use lib.ListN.{length, getD, set, take, drop, length-set, length-append, length-drop}
 use lib.Seq.{length-take-le, take-set-le, getD-set-other}
-use Rattle.memory_layout.specs.Layout.{RECORD-ANSWERS, RECORD-BYTES-LEN}
+use Rattle.memory_layout.specs.Layout.{RECORD-ANSWERS}
 use Rattle.memory_texts.specs.Over.{over}
-use Rattle.memory_texts.proofs.Over.{length-over}
+use Rattle.memory_texts.proofs.Over.{length-over, take-over-all, drop-over, getD-over}
 use Rattle.model.proofs.Lists.{sum-snoc}
-use Rattle.model_sheet.specs.Record.{Recorded, parsed, records, text-size}
+use Rattle.model_sheet.specs.Record.{Recorded, parsed, records}
 use Rattle.model_sheet.proofs.Records.{records-append}
 use Rattle.model_sheet.proofs.Upto.{records-size}
 use Rattle.model_filed.specs.Filed.{Entry, with-answers}
 use Rattle.model_filed.proofs.Filing.{single, single-records}
 use Rattle.filed_record.specs.declared.Size.{Size}
-use Rattle.filed_record.specs.Record.{usedOf, answersOf, entriesOf, Holds}
+use Rattle.filed_record.specs.Record.{callsOf, answersOf, entriesOf, Holds}
 use Rattle.filed_record.specs.Judged.{FilesCall}
 use Rattle.filed_record.specs.Promises.{KeptBehind}
 use Rattle.filed_record.proofs.Holding.{holds-entries}
 use Rattle.filed_entries.specs.Entries.{EntryPut}
-use Rattle.filed_entries.proofs.Bytes.{take-over-all, drop-over, getD-over}
 
 -- an answer written behind those of the calls before
 with-set : (l : List Recorded) (ns : List ℕ) (r : Recorded) (n : ℕ) → length l < length ns
@@ -76,6 +75,9 @@ module _ {w b : List ℕ} {z : Size} (h : Holds w b z) {call : List ℕ} {kind a
         ap (drop RECORD-ANSWERS) (e .bytes)
         ∙ drop-set RECORD-ANSWERS (z .count) answer with-call
         ∙ ap₂ (λ l i. set l i answer) (drop-over b (z .used) call inside RECORD-ANSWERS call-room) (sym (h .count))
+
+    pub put-behind : callsOf w′ b′ ≡ callsOf w b ++ call
+    put-behind = ap (λ n. take n b′) (e .used) ∙ put-calls ∙ ap (λ n. take n b ++ call) (sym (h .used))
 
     put-size : Size
     put-size = record { used = z .used + length call; count = z .count + 1; text = z .text + (length call - text-at) }

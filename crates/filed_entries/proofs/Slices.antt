@@ -1,12 +1,11 @@
 -- The record's slices as the functions leave them.
 use Prim.Native.Nat.{ℕ, _+_, _-_, _≤_, _<_}
-use mathlib.Core.Path.{_≡_, refl, sym, ap, subst, _∙_}
+use mathlib.Core.Path.{_≡_, refl, ap, subst, _∙_}
 use mathlib.Core.List.{List, _++_}
 use native.Mathlib.Omega.{arith}
 use lib.ListN.{length, set, take, drop}
 use lib.Seq.{getD-set-same}
 use Rattle.memory_layout.specs.Layout.{RECORD-ANSWERS, RECORD-USED}
-use Rattle.memory_texts.specs.Over.{over}
 use Rattle.memory_texts.proofs.Over.{put-back}
 use Rattle.model_sheet.specs.Record.{records}
 use Rattle.filed_record.specs.declared.Size.{Size}

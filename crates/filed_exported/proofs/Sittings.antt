@@ -1,18 +1,17 @@
 -- The exported calls keep a desk and its record in agreement.
 use Prim.Native.Nat.{ℕ}
-use mathlib.Core.Path.{_≡_, refl, sym, ap, subst, _∙_}
+use mathlib.Core.Path.{_≡_, refl, sym, subst, _∙_}
 use mathlib.Core.List.{List, []}
-use Rattle.model.specs.MagicString.{MagicString, new}
+use Rattle.model.specs.MagicString.{new}
 use Rattle.model.specs.Limits.{Limits}
-use Rattle.model_filed.specs.Filed.{Entry, Sitting, Answered, file, withdraw}
+use Rattle.model_filed.specs.Filed.{Entry, Answered}
 use Rattle.model_filed.specs.Kept.{Agrees}
 use Rattle.model_filed.proofs.Kept.{file-agrees, withdraw-agrees}
-use Rattle.memory.specs.Layout.{magicStringOf}
-use Rattle.memory.specs.WellFormed.{limitsOf, Full, Taken}
+use Rattle.memory.specs.WellFormed.{limitsOf, Full}
 use Rattle.memory.specs.declared.Answer.{Answer}
 use Rattle.memory.proofs.Desks.{limits-as}
 use Rattle.filed_record.specs.Promises.{sittingOf, Becomes}
-use Rattle.filed_exported.specs.Sittings.{Lent, Sat, begun, filed, withdrawn, Holds, AlwaysHolds}
+use Rattle.filed_exported.specs.Sittings.{Lent, begun, filed, withdrawn, Holds, AlwaysHolds}
 
 -- what a call becomes holds again, if the model's answer agrees
 holds-on : {source : List ℕ} {M M′ : Lent} {l : List Entry} {o : Answered} {r : Answer} → Full (M .chunks) (M .pieces) (M .store)

@@ -1,16 +1,16 @@
 -- A call to be filed, judged.
 use Prim.Native.Nat.{ℕ, _+_, _-_, _≤_, _<_}
-use mathlib.Core.Path.{_≡_, refl, sym, ap, _∙_}
+use mathlib.Core.Path.{_≡_, sym, ap, _∙_}
 use mathlib.Core.Bool.{true}
 use mathlib.Core.List.{List, [], _∷_, _++_}
 use mathlib.Core.Option.{none, some}
-use lib.ListN.{length, take, drop, length-append, length-drop}
+use lib.ListN.{length, drop, length-append, length-drop}
 use lib.Seq.{length-take-le}
 use native.Mathlib.Omega.{arith}
 use Rattle.model.proofs.Lists.{sum-snoc}
-use Rattle.model_sheet.specs.Record.{Recorded, extent, parsed, record-at, next-record, text-size}
+use Rattle.model_sheet.specs.Record.{Recorded, parsed, next-record}
 use Rattle.model_sheet.proofs.Whole.{Whole, whole-of, of-whole}
-use Rattle.model_filed.specs.Filed.{MOST-CALLS, MOST-TEXT, is-record, refused-filing}
+use Rattle.model_filed.specs.Filed.{MOST-CALLS, MOST-TEXT, is-record}
 use Rattle.model_filed.proofs.Filing.{Single, single, of-single, not-single, many-bounds, long-bounds, refused-16, refused-13}
 use Rattle.sheet_records.specs.Found.{recorded, Taken}
 use Rattle.sheet_records.proofs.Walk.{taken-one, next-missing}

@@ -2,7 +2,7 @@
 use Prim.Native.Nat.{ℕ, _+_, _≤_, _<_}
 use mathlib.Core.Path.{_≡_}
 use mathlib.Core.Bool.{false}
-use mathlib.Core.List.{List}
+use mathlib.Core.List.{List, _++_}
 use mathlib.Core.Option.{none, some}
 use lib.ListN.{length, getD}
 use Rattle.memory_layout.specs.Layout.{RECORD-ANSWERS}
@@ -14,7 +14,7 @@ use Rattle.memory.specs.Layout.{magicStringOf}
 use Rattle.memory.specs.WellFormed.{limitsOf, Lengths, WellFormed, Taken}
 use Rattle.memory.specs.Calls.{Same, may-write}
 use Rattle.memory.specs.declared.Answer.{Answer}
-use Rattle.filed_record.specs.Record.{usedOf, entriesOf}
+use Rattle.filed_record.specs.Record.{usedOf, callsOf, entriesOf}
 
 -- every byte of the record's slices is as it was
 pub record SameRecord (w b w′ b′ : List ℕ) : Type 0 where
@@ -51,6 +51,8 @@ pub record FiledOn (call source t p s w b t′ p′ s′ w′ b′ : List ℕ) (
   pub becomes : Becomes source t p s w b t′ p′ s′ w′ b′ l (file (limitsOf t p s) call (sittingOf source t p s l)) r
   -- 16, and the record's own 13
   pub refused : (refused-filing call (calls l) ≡ 0 → ⊥) → Unchanged t p s w b t′ p′ s′ w′ b′
+  -- else the bytes of the call stand behind those of the others
+  pub behind : refused-filing call (calls l) ≡ 0 → callsOf w′ b′ ≡ callsOf w b ++ call
   -- where the core call changes nothing, the tables of the desk are as they were
   pub same : may-write (call-of (parsed call)) (r .number) ≡ false → Same t p s t′ p′ s′
 

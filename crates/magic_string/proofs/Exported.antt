@@ -89,14 +89,14 @@ same-all : (t p s w b : List ℕ) → Unchanged t p s w b t p s w b
 same-all t p s w b = record { desk = record { chunks = refl; pieces = refl; store = refl }; entries = record { words = refl; bytes = refl } }
 
 module _ {P : List Entry → Type 0} {source t p s w b : List ℕ} where
-  pub sitting-no-desk : (Taken source t p s → ⊥) → OnSitting P source t p s w b t p s w b (record { number = 2; value = 0 })
-  sitting-no-desk n = record { no-desk = λ _. (refl, refl, same-all t p s w b); no-record = λ _. (refl, refl, same-all t p s w b); taken = λ d. absurd (n d) }
+  pub sitting-no-desk : {r : Answer} → (Taken source t p s → ⊥) → (r .number ≡ 2) × (r .value ≡ 0) → OnSitting P source t p s w b t p s w b r
+  sitting-no-desk n e = record { no-desk = λ _. (e .0, e .1, same-all t p s w b); no-record = λ _. (e .0, e .1, same-all t p s w b); taken = λ d. absurd (n d) }
 
-  pub sitting-no-record : entriesOf w b ≡ none → OnSitting P source t p s w b t p s w b (record { number = 2; value = 0 })
-  sitting-no-record e =
+  pub sitting-no-record : {r : Answer} → entriesOf w b ≡ none → (r .number ≡ 2) × (r .value ≡ 0) → OnSitting P source t p s w b t p s w b r
+  sitting-no-record h e =
       record {
-        no-desk = λ _. (refl, refl, same-all t p s w b);
-        no-record = λ _. (refl, refl, same-all t p s w b);
+        no-desk = λ _. (e .0, e .1, same-all t p s w b);
+        no-record = λ _. (e .0, e .1, same-all t p s w b);
         taken = λ _ l q. let z : _≡_ {A = ℕ} 0 1 = cc in absurd (omega arith);
       }
 

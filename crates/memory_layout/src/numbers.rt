@@ -4,7 +4,7 @@
 // A text is not UTF-8.
 pub const NOT_UTF8: u32 = 1;
 
-// The lent memory holds no well-formed desk.
+// The lent memory holds no well-formed desk, or no well-formed record.
 pub const NOT_WELL_FORMED: u32 = 2;
 
 // A position lies inside a character.
@@ -37,7 +37,7 @@ pub const SLICE_START: u32 = 11;
 // A slice that ends inside a replaced chunk.
 pub const SLICE_END: u32 = 12;
 
-// The desk would break a limit.
+// The desk, or the record, would break a limit.
 pub const LIMIT: u32 = 13;
 
 // The output buffer is too short.

@@ -1,23 +1,21 @@
 -- Filing and withdrawing, case by case; entries by their calls and answers.
-use Prim.Native.Nat.{ℕ, zero, suc, _+_, _≤_, _<_}
-use mathlib.Core.Path.{_≡_, refl, sym, ap, ap₂, _∙_}
-use mathlib.Core.Bool.{Bool, true, false, _&&_, not, cond}
-use mathlib.Core.List.{List, [], _∷_, _++_, map}
+use Prim.Native.Nat.{ℕ, suc, _+_, _≤_, _<_}
+use mathlib.Core.Path.{_≡_, refl, ap}
+use mathlib.Core.Bool.{Bool, true, false, _&&_, cond}
+use mathlib.Core.List.{List, [], _∷_, _++_}
 use mathlib.Core.Option.{some}
 use lib.Dec.{ltb, leb, eqb}
-use lib.ListN.{length, getD, take, drop, length-append}
-use borrow.Author.Tests.{ltb-true, leb-true, eqb-true, lt-ltb, le-leb, lt-leb, eq-eqb, ne-eqb, le-ltb}
+use lib.ListN.{length, getD, drop}
+use borrow.Author.Tests.{ltb-true, leb-true, eqb-true, lt-ltb, le-leb, lt-leb, eq-eqb}
 use native.Mathlib.Omega.{arith}
 use Rattle.model.specs.MagicString.{MagicString}
 use Rattle.model.specs.Limits.{Limits}
-use Rattle.model.specs.Call.{run, after, answers}
-use Rattle.model.proofs.Lists.{and-left, and-right, sum-snoc}
-use Rattle.model_sheet.specs.Record.{Recorded, fits, extent, parsed, record-at, records, text-size}
-use Rattle.model_sheet.specs.Sheet.{call-of, calls-of}
+use Rattle.model.specs.Call.{answers}
+use Rattle.model.proofs.Lists.{and-left, and-right}
+use Rattle.model_sheet.specs.Record.{Recorded, fits, extent, parsed, records, text-size}
 use Rattle.model_sheet.proofs.Whole.{Whole, fits-facts, facts-fits, of-whole}
 use Rattle.model_sheet.proofs.Upto.{records-one}
-use Rattle.model_sheet.proofs.Runs.{answers-length}
-use Rattle.model_filed.specs.Filed.{Entry, calls, with-answers, Sitting, MOST-CALLS, MOST-TEXT, within-bounds, Answered, unchanged, is-record, refused-filing, filed, file}
+use Rattle.model_filed.specs.Filed.{Entry, calls, with-answers, Sitting, MOST-CALLS, MOST-TEXT, within-bounds, unchanged, is-record, refused-filing, filed, file}
 use Rattle.model_filed.specs.Filed.{without, run-anew, refused-withdrawal, withdraw}
 
 -- ── entries ──

@@ -1,8 +1,7 @@
 -- Whatever is filed and withdrawn, the desk is what the record gives when run.
 use Prim.Native.Nat.{ℕ, zero, suc}
-use mathlib.Core.Path.{_≡_, refl, sym, ap, ap₂, subst, _∙_}
-use mathlib.Core.List.{List, [], _∷_, _++_, map, map-append}
-use lib.ListN.{length}
+use mathlib.Core.Path.{_≡_, refl, sym, ap, subst, _∙_}
+use mathlib.Core.List.{List, [], _∷_, _++_}
 use native.Mathlib.Omega.{arith}
 use Rattle.model.specs.MagicString.{MagicString}
 use Rattle.model.specs.Limits.{Limits}
@@ -10,7 +9,7 @@ use Rattle.model.specs.Call.{run, after, answers, perform}
 use Rattle.model_sheet.specs.Record.{Recorded, parsed}
 use Rattle.model_sheet.specs.Sheet.{call-of, calls-of}
 use Rattle.model_sheet.proofs.Runs.{answers-length}
-use Rattle.model_filed.specs.Filed.{Entry, calls, with-answers, Sitting, Answered, unchanged, core-call, refused-filing, filed, file, without, run-anew, refused-withdrawal, withdraw}
+use Rattle.model_filed.specs.Filed.{calls, with-answers, Sitting, Answered, refused-filing, filed, file, without, run-anew, refused-withdrawal, withdraw}
 use Rattle.model_filed.specs.Kept.{Action, filing, withdrawing, act, acts, begun, Agrees, AlwaysAgrees, LeavesOthers}
 use Rattle.model_filed.proofs.Filing.{calls-with, with-snoc, file-refused, file-filed, withdraw-refused, withdraw-done}
 

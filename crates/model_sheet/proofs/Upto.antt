@@ -1,10 +1,10 @@
 -- Lists of records in parts: one record by its own bytes, those before a place, and how many bytes they have.
 use Prim.Native.Nat.{ℕ, _+_, _*_, _-_, _≤_}
-use mathlib.Core.Path.{_≡_, refl, sym, ap, _∙_}
+use mathlib.Core.Path.{_≡_, sym, ap, _∙_}
 use mathlib.Core.List.{List, [], _∷_, _++_}
 use mathlib.Core.Option.{Option, some, Option·map}
 use lib.ListN.{length, getD, take, drop, length-drop, take-append-drop, drop-of-length-le}
-use lib.Seq.{take-take, take-add, take-length, getD-take, length-take-le}
+use lib.Seq.{take-take, take-add, getD-take, length-take-le}
 use native.Mathlib.Omega.{arith}
 use Rattle.model_sheet.specs.BigEndian.{number}
 use Rattle.model_sheet.specs.Record.{Recorded, positions, front, extent, parsed, record-at, records, text-size}

@@ -1,10 +1,11 @@
 //! `bench`: the time of each call as a ratio to the Rust's, measured in the same
-//! run; whole papers, by exported and by inner calls and as sheets; and the check
-//! alone.
+//! run; whole papers, by exported and by inner calls and as sheets; calls filed and
+//! withdrawn; and the check alone.
 
 mod calls;
 mod check;
 mod desks;
+mod filed;
 #[cfg(feature = "inner")]
 mod inner;
 #[cfg(feature = "inner")]
@@ -40,6 +41,7 @@ fn main() {
   }
   papers::print(&mut core);
   sheets::print(&mut core);
+  filed::print(&mut core);
   #[cfg(feature = "inner")]
   {
     inner::papers(&mut core);

@@ -5,6 +5,8 @@ use std::hint::black_box;
 use oracle::Call;
 use string_wizard::{IndentOptions, MagicString, UpdateOptions};
 
+use crate::timing::least;
+
 /// A call whose text lives as long as the program, as a caller's source does: the
 /// Rust then keeps it without a copy.
 pub struct RustCall {
@@ -73,4 +75,35 @@ impl RustCall {
 /// Keeps what a call gives from being left out.
 fn see<T>(value: T) {
   black_box(value);
+}
+
+/// Nanoseconds of an opening and of these calls.
+pub fn anew(source: &str, calls: &[Call]) -> f64 {
+  let source: &'static str = source.to_string().leak();
+  let calls: Vec<RustCall> = calls.iter().map(RustCall::new).collect();
+  least(
+    || (),
+    |()| {
+      let mut desk = MagicString::new(source);
+      calls.iter().for_each(|call| call.make(&mut desk));
+      see(desk);
+    },
+  )
+}
+
+/// Nanoseconds of these calls on a fresh desk, each kept in a list.
+pub fn kept(source: &str, calls: &[Call]) -> f64 {
+  let source: &'static str = source.to_string().leak();
+  let calls: Vec<RustCall> = calls.iter().map(RustCall::new).collect();
+  least(
+    || MagicString::new(source),
+    |desk| {
+      let mut kept = Vec::new();
+      for call in &calls {
+        call.make(desk);
+        kept.push(call);
+      }
+      see(kept);
+    },
+  )
 }

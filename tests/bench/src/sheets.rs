@@ -2,16 +2,13 @@
 //! beside the Rust, which gets the edits already read; and the judging of the sheet
 //! alone.
 
-use std::hint::black_box;
-
 use differential::{Answer, Core, Image, sheets::fields::Fields};
-use oracle::{Call, Desk, Limits, number::BAD_SHEET, random::Random};
-use string_wizard::MagicString;
+use oracle::{Desk, Limits, number::BAD_SHEET, random::Random};
 
 use crate::{
   desks,
   papers::{self, EDITS},
-  rust::RustCall,
+  rust::anew,
   timing::least,
 };
 
@@ -31,7 +28,7 @@ pub fn print(core: &mut impl Core) {
     };
     let judging = time(core, &last_is_bad(sheet), Answer { number: BAD_SHEET, value: 0 });
     let [theirs, ours, judging] =
-      [rust(&source, &calls), ours, judging.unwrap_or_default()].map(|took| took / 1_000.0);
+      [anew(&source, &calls), ours, judging.unwrap_or_default()].map(|took| took / 1_000.0);
     let name = format!("source of {} bytes", source.len());
     print!("{name:<30} {theirs:>10.1} {ours:>10.1} {:>8.2}", ours / theirs);
     println!(" {judging:>10.1} {:>7.1}%", 100.0 * judging / ours);
@@ -53,18 +50,4 @@ fn time(core: &mut impl Core, sheet: &Fields, expected: Answer) -> Option<f64> {
 fn last_is_bad(mut sheet: Fields) -> Fields {
   sheet.records.last_mut().expect("a record").body[0] = 0;
   sheet
-}
-
-/// Nanoseconds of the Rust's opening and edits.
-fn rust(source: &str, calls: &[Call]) -> f64 {
-  let source: &'static str = source.to_string().leak();
-  let calls: Vec<RustCall> = calls.iter().map(RustCall::new).collect();
-  least(
-    || (),
-    |()| {
-      let mut desk = MagicString::new(source);
-      calls.iter().for_each(|call| call.make(&mut desk));
-      black_box(desk);
-    },
-  )
 }

@@ -4,7 +4,7 @@
 
 use magic_string_sys::{edit, report};
 
-use crate::{Answer, Lent};
+use crate::{Answer, Lent, LentRecord};
 
 /// Edits.
 impl Lent<'_> {
@@ -71,6 +71,24 @@ impl Lent<'_> {
   /// Runs the sheet that is lent in the source's place.
   pub fn run_sheet(&mut self, answers: &mut [u8]) -> Answer {
     unsafe { edit!(self, magic_string_run_sheet, answers.as_mut_ptr(), answers.len()) }
+  }
+}
+
+/// Records of filed calls.
+impl Lent<'_> {
+  pub fn file(&mut self, record: &mut LentRecord, call: &[u8]) -> Answer {
+    let LentRecord { words, bytes } = record;
+    let (words, words_len) = (words.as_mut_ptr(), words.len());
+    let (bytes, bytes_len) = (bytes.as_mut_ptr(), bytes.len());
+    let (call, call_len) = (call.as_ptr(), call.len());
+    unsafe { edit!(self, magic_string_file, words, words_len, bytes, bytes_len, call, call_len) }
+  }
+
+  pub fn withdraw(&mut self, record: &mut LentRecord, k: u32) -> Answer {
+    let LentRecord { words, bytes } = record;
+    let (words, words_len) = (words.as_mut_ptr(), words.len());
+    let (bytes, bytes_len) = (bytes.as_mut_ptr(), bytes.len());
+    unsafe { edit!(self, magic_string_withdraw, words, words_len, bytes, bytes_len, k) }
   }
 }
 

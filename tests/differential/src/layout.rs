@@ -1,11 +1,12 @@
-//! The words of a desk's memory (docs/LAYOUT.md) and the limits of document 01, as
-//! magic_string-sys has them.
+//! The words of a desk's and of a record's memory (docs/LAYOUT.md) and the limits of
+//! document 01, as magic_string-sys has them.
 
 pub use magic_string_sys::layout::{
   CHUNKS as MOST_CHUNKS, CHUNKS_LEN as CHUNK_WORDS, END, INTRO_AT, INTRO_N, LIST_END, NEXT, NONE,
   OUTRO_AT, OUTRO_N, PIECE, PIECE_AT as AT, PIECE_N as N, PIECES as MOST_PIECES,
-  PIECES_LEN as PIECE_WORDS, PREV, ROW, SOURCE_BYTES as MOST_SOURCE, START,
-  STORE_BYTES as MOST_BYTES, STORE_LEN as STORE_BYTES, TEXT_AT, TEXT_N,
+  PIECES_LEN as PIECE_WORDS, PREV, RECORD_ANSWERS, RECORD_BYTES_LEN, RECORD_USED, RECORD_WORDS_LEN,
+  ROW, SHEET_FRONT, SOURCE_BYTES as MOST_SOURCE, START, STORE_BYTES as MOST_BYTES,
+  STORE_LEN as STORE_BYTES, TEXT_AT, TEXT_N,
 };
 
 /// Rows of `pieces`: twice as many as pieces may be held.

@@ -12,6 +12,13 @@ pub struct Lent<'a> {
   pub store: &'a mut [u8],
 }
 
+/// The two slices of a record of filed calls, of any lengths too.
+#[derive(Debug)]
+pub struct LentRecord<'a> {
+  pub words: &'a mut [u32],
+  pub bytes: &'a mut [u8],
+}
+
 impl Lent<'_> {
   /// The sizes of the tables; none where they are no desk's.
   pub fn sizes(&self) -> Option<Sizes> {

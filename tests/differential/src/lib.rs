@@ -1,12 +1,14 @@
 //! Compares a core (the exported functions, or a stand-in) with the oracle: call
 //! by call on random scripts, and image by image on damaged memory; the orders of
-//! lists of edits with each other; and sheets with a plain reading of document 02.
+//! lists of edits with each other; and sheets and records of filed calls with plain
+//! readings of document 02.
 
 pub mod any_order;
 pub mod arguments;
 pub mod compare;
 pub mod cores;
 pub mod damage;
+mod drop_rows;
 mod every_call;
 #[cfg(feature = "archive")]
 mod ffi;
@@ -22,6 +24,7 @@ pub mod papers;
 pub mod run;
 pub mod sheets;
 pub mod shrink;
+pub mod sittings;
 pub mod sizes;
 pub mod step;
 pub mod tally;
@@ -29,7 +32,7 @@ mod well_formed;
 
 pub use cores::{Core, Unseen};
 pub use image::Image;
-pub use lent::Lent;
+pub use lent::{Lent, LentRecord};
 pub use magic_string_sys::Answer;
 pub use oracle::keeps;
 pub use paper::{Made, Paper, Start};

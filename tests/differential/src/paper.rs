@@ -2,9 +2,12 @@
 
 use std::fmt;
 
-use oracle::{Call, DeskData, dump};
+use oracle::{Call, DeskData, dump, random::Random};
 
-use crate::Sizes;
+use crate::{
+  Image, Sizes,
+  image::{Style, encode_in},
+};
 
 #[derive(Debug, Clone)]
 pub struct Paper {
@@ -41,6 +44,20 @@ pub enum Start {
   Desk { desk: DeskData, seed: u64 },
 }
 
+impl Start {
+  /// The memory, in tables of these sizes.
+  pub fn memory(&self, sizes: Sizes) -> Image {
+    match self {
+      Start::Junk { seed } => Image::junk_in(sizes, Vec::new(), &mut Random::new(*seed)),
+      Start::Desk { desk, seed } => {
+        let mut random = Random::new(*seed);
+        let style = Style::any(&mut random).sized(sizes);
+        encode_in(style, desk, &mut random)
+      }
+    }
+  }
+}
+
 /// A call. The seed chooses what the call leaves open: the buffer's pattern, its
 /// length where it is only long enough, and arguments that are not looked at.
 #[derive(Debug, Clone)]
@@ -51,13 +68,7 @@ pub struct Made {
 
 impl fmt::Display for Paper {
   fn fmt(&self, out: &mut fmt::Formatter) -> fmt::Result {
-    match &self.start {
-      Start::Junk { seed } => writeln!(out, "# tables of junk, seed {seed}")?,
-      Start::Desk { desk, seed } => {
-        writeln!(out, "# desk made by hand, memory of seed {seed}")?;
-        writeln!(out, "# {}", dump::print(desk))?;
-      }
-    }
+    write!(out, "{}", self.start)?;
     if self.sizes != Sizes::FULL {
       writeln!(out, "# tables of {}", self.sizes)?;
     }
@@ -68,5 +79,17 @@ impl fmt::Display for Paper {
       writeln!(out, "# up to {} edits at once", self.at_once)?;
     }
     self.calls.iter().try_for_each(|made| writeln!(out, "{}", made.call))
+  }
+}
+
+impl fmt::Display for Start {
+  fn fmt(&self, out: &mut fmt::Formatter) -> fmt::Result {
+    match self {
+      Start::Junk { seed } => writeln!(out, "# tables of junk, seed {seed}"),
+      Start::Desk { desk, seed } => {
+        writeln!(out, "# desk made by hand, memory of seed {seed}")?;
+        writeln!(out, "# {}", dump::print(desk))
+      }
+    }
   }
 }

@@ -3,7 +3,7 @@
 
 use oracle::DeskData;
 
-use crate::{Core, Paper, Start, Tally, run::Difference, run::run};
+use crate::{Core, Paper, Start, Tally, drop_rows::drop_rows, run::Difference, run::run};
 
 /// Papers that are tried at most.
 const MOST_TRIES: usize = 5_000;
@@ -49,21 +49,13 @@ impl<C: Core + Clone> Shrinker<'_, C> {
     self.paper.calls.truncate(self.found.call.map_or(0, |call| call + 1));
   }
 
-  /// Drops rows of calls, long ones first.
   fn drop_calls(&mut self) {
-    let mut row = self.paper.calls.len();
-    while row > 0 {
-      let mut at = 0;
-      while at < self.paper.calls.len() {
-        let mut paper = self.paper.clone();
-        let end = paper.calls.len().min(at + row);
-        paper.calls.drain(at..end);
-        if !self.take(paper) {
-          at += row;
-        }
-      }
-      row /= 2;
-    }
+    let len = |shrinker: &Self| shrinker.paper.calls.len();
+    drop_rows(self, len, |shrinker, row| {
+      let mut paper = shrinker.paper.clone();
+      paper.calls.drain(row);
+      shrinker.take(paper)
+    });
   }
 
   fn simplify_desk(&mut self) {

@@ -3,11 +3,10 @@
 use oracle::{Answer as Expected, Call, Desk, Limits, apply, number, random::Random};
 
 use crate::{
-  Answer, Core, Image, Made, Met, Sizes, Start, Unseen,
-  image::{self, Style},
-  keeps,
+  Answer, Core, Image, Made, Met, Sizes, Start, Unseen, image, keeps,
   layout::{MOST_BYTES, MOST_SOURCE},
   out::Out,
+  well_formed,
 };
 
 /// The oracle's desk and the core's memory, which mean the same.
@@ -15,23 +14,17 @@ use crate::{
 pub struct Both {
   limits: Limits,
   /// None before the first accepted opening.
-  desk: Option<Desk>,
-  image: Image,
+  pub(crate) desk: Option<Desk>,
+  pub(crate) image: Image,
   before: Image,
 }
 
 impl Both {
   pub fn start(sizes: Sizes, start: &Start) -> Self {
+    let image = start.memory(sizes);
     match start {
-      Start::Junk { seed } => {
-        let image = Image::junk_in(sizes, Vec::new(), &mut Random::new(*seed));
-        Self { limits: sizes.limits(), desk: None, before: image.clone(), image }
-      }
-      Start::Desk { desk, seed } => {
-        let mut random = Random::new(*seed);
-        let style = Style::any(&mut random).sized(sizes);
-        Self::of(image::encode_in(style, desk, &mut random))
-      }
+      Start::Junk { .. } => Self::of_no_desk(sizes.limits(), image),
+      Start::Desk { .. } => Self::of(image),
     }
   }
 
@@ -43,10 +36,22 @@ impl Both {
     Self { limits, desk, before: image.clone(), image }
   }
 
+  /// From memory of a desk of the full sizes, or of none.
+  pub fn of_any(image: Image) -> Self {
+    match well_formed(&image.source, &image.chunks, &image.pieces, &image.store) {
+      true => Self::of(image),
+      false => Self::of_no_desk(Limits::FULL, image),
+    }
+  }
+
+  fn of_no_desk(limits: Limits, image: Image) -> Self {
+    Self { limits, desk: None, before: image.clone(), image }
+  }
+
   /// The core takes the memory for what it is.
   pub fn check_start(&mut self, core: &mut impl Core) -> Result<(), String> {
     let expected = if self.desk.is_some() { Answer::ACCEPTED } else { Answer::NO_DESK };
-    self.before.copy_from(&self.image);
+    self.begin();
     let answer = core.well_formed(&self.image.lend());
     if answer != expected {
       return Err(format!("well_formed gives {answer:?}, not {expected:?}"));
@@ -61,7 +66,7 @@ impl Both {
     let (expected, met) = self.expected(&made.call);
     let mut out = Out::new(room(&made.call, &expected, &mut random), &mut random);
 
-    self.before.copy_from(&self.image);
+    self.begin();
     if let Call::Open { source } = &made.call {
       self.image.source.clone_from(source);
     }
@@ -84,7 +89,7 @@ impl Both {
     let calls: Vec<&Call> = list.iter().map(|made| &made.call).collect();
     let (expected, met): (Vec<_>, Vec<_>) = calls.iter().map(|call| self.expected(call)).unzip();
     let unseen = Unseen::any(&mut Random::new(list[0].seed));
-    self.before.copy_from(&self.image);
+    self.begin();
     let answers = core.list(&mut self.image.lend(), &calls, &unseen);
 
     let last = list.len() - 1;
@@ -96,11 +101,22 @@ impl Both {
     }
     let mut each = calls.iter().zip(&expected);
     let kept = each.all(|(call, expected)| keeps::every_byte(call, expected.number));
-    let left = if kept { self.unchanged() } else { self.same_desk() };
-    let source = self.image.source == self.before.source;
-    let left = left.and(source.then_some(()).ok_or("the source changed".to_string()));
-    left.map_err(|what| (last, what))?;
+    self.end(kept).map_err(|what| (last, what))?;
     Ok(met)
+  }
+
+  /// Keeps the memory as it now is, for what is compared with it.
+  pub(crate) fn begin(&mut self) {
+    self.before.copy_from(&self.image);
+  }
+
+  /// The memory holds the oracle's desk, or each byte is as it was at `begin`. The source
+  /// is as it was.
+  pub(crate) fn end(&self, kept: bool) -> Result<(), String> {
+    if self.image.source != self.before.source {
+      return Err("the source changed".to_string());
+    }
+    if kept { self.unchanged() } else { self.same_desk() }
   }
 
   /// The oracle's answer, and what is counted of it.
@@ -163,7 +179,7 @@ fn taken_back(desk: &Desk, call: &Call) -> u32 {
   }
 }
 
-fn check_answer(answer: Answer, expected: &Expected) -> Result<(), String> {
+pub(crate) fn check_answer(answer: Answer, expected: &Expected) -> Result<(), String> {
   if answer.number != expected.number {
     return Err(format!("number {}, not {}", answer.number, expected.number));
   }

@@ -1,9 +1,9 @@
-//! Document 01's numbers and the one that document 02's L1 adds, and which message
+//! Document 01's numbers and those that document 02's L1 and L5 add, and which message
 //! of the Rust is which.
 
 pub const ACCEPTED: u32 = 0;
 pub const NOT_UTF8: u32 = 1;
-/// Memory that is not a desk: no answer of the Rust's.
+/// Memory that is not a desk, or not a record: no answer of the Rust's.
 pub const NOT_WELL_FORMED: u32 = 2;
 pub const INSIDE_CHARACTER: u32 = 3;
 pub const END_BEFORE_START: u32 = 4;
@@ -18,8 +18,10 @@ pub const SLICE_END: u32 = 12;
 pub const LIMIT: u32 = 13;
 pub const SHORT_BUFFER: u32 = 14;
 pub const BAD_OPTION: u32 = 15;
-/// A sheet that breaks its rules: no answer of the Rust's.
+/// A sheet, or a call to be filed, that breaks its rules: no answer of the Rust's.
 pub const BAD_SHEET: u32 = 16;
+/// No call with that number is filed: no answer of the Rust's.
+pub const NO_SUCH_CALL: u32 = 17;
 
 /// Each message by a part that no other has.
 const MESSAGES: [(&str, u32); 10] = [

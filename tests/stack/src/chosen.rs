@@ -1,11 +1,14 @@
 //! Every call on desks that lead it each way: with room, and at each limit, so that
-//! it works on tables of its own; texts at the front of the store, and at its top.
+//! it works on tables of its own; texts at the front of the store, and at its top. Calls
+//! of a sheet's kinds are filed there too, and withdrawn.
 
 use differential::{
-  Core, Made,
+  Core, Image, Made,
   image::{Style, encode_in},
   layout::*,
   made::{Aim, make},
+  sheets::fields::kind,
+  sittings::{Memory, Sides, call_bytes},
   step::Both,
 };
 use oracle::{
@@ -19,16 +22,38 @@ pub fn all(core: &mut impl Core, seed: u64) -> Result<(), String> {
   for aim in AIMS {
     let desk = make(aim, &mut random);
     for style in [Style::tight(), Style::at_top(), Style::any(&mut random)] {
-      let mut start = Both::of(encode_in(style, &desk, &mut random));
+      let image = encode_in(style, &desk, &mut random);
+      let mut start = Both::of(image.clone());
       start.check_start(core)?;
       for call in calls(&desk).into_iter().filter(|call| core.has(call)).collect::<Vec<_>>() {
         let made = Made { call, seed: random.number() };
         let met = start.clone().step(core, &made);
         met.map_err(|what| format!("{aim:?}, {}: {what}", made.call))?;
       }
+      filed(core, &desk, image, &mut random).map_err(|what| format!("{aim:?}, {what}"))?;
     }
   }
   Ok(())
+}
+
+/// The same calls are filed on this memory, each alone, and withdrawn; and all of them,
+/// the first of which is withdrawn.
+fn filed(
+  core: &mut impl Core,
+  desk: &DeskData,
+  image: Image,
+  random: &mut Random,
+) -> Result<(), String> {
+  let start = Sides::of(image, Memory::empty(random));
+  let mut all = start.clone();
+  for call in calls(desk).into_iter().filter(|call| kind(call).is_some()) {
+    let mut alone = start.clone();
+    let mut file = |sides: &mut Sides| sides.file(core, &call_bytes(&call), random);
+    let done = file(&mut alone).and_then(|_| file(&mut all));
+    let done = done.and_then(|_| alone.withdraw(core, 1));
+    done.map_err(|what| format!("file or withdraw {call}: {what}"))?;
+  }
+  all.withdraw(core, 1).map(|_| ()).map_err(|what| format!("withdraw the first: {what}"))
 }
 
 /// Little, and up to each limit.

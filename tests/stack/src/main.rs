@@ -1,7 +1,7 @@
 //! `stack [SEED [COUNT]]`: the most stack that the calls of each group used, on
-//! chosen desks, on random papers of COUNT calls and on sheets. It fails where a call
-//! used more than include/magic_string.h says of its kind, or did not answer as the
-//! oracle.
+//! chosen desks, on random papers of COUNT calls, on sheets and in sittings. It fails
+//! where a call used more than include/magic_string.h says of its kind, or did not answer
+//! as the oracle.
 
 mod chosen;
 mod measured;
@@ -9,7 +9,7 @@ mod painted;
 
 use std::process::ExitCode;
 
-use differential::{Core, Paper, Tally, cores, papers, run::run, sheets};
+use differential::{Core, Paper, Tally, cores, papers, run::run, sheets, sittings};
 use measured::{GROUPS, Measured};
 use oracle::random::Random;
 
@@ -32,7 +32,8 @@ fn main() -> ExitCode {
   let made = chosen::all(&mut core, seed)
     .and_then(|()| random(&mut core, papers::paper, seed, count))
     .and_then(|()| random(&mut core, papers::blanks::paper, seed, count / 4))
-    .and_then(|()| random_sheets(&mut core, seed, count / 10));
+    .and_then(|()| random_sheets(&mut core, seed, count / 10))
+    .and_then(|()| random_sittings(&mut core, seed, count / 20));
   if let Err(what) = made {
     println!("{what}");
     return ExitCode::FAILURE;
@@ -95,5 +96,17 @@ fn random_sheets(core: &mut impl Core, seed: u64, count: u64) -> Result<(), Stri
   (0..count).try_for_each(|_| {
     let handed = sheets::random(seeds.number());
     sheets::run::run(core, &handed, &mut tally).map_err(|what| format!("{handed}\n{what}"))
+  })
+}
+
+/// Random sittings: some of them lead the calls that are filed, and those that a
+/// withdrawal makes anew, to each limit.
+fn random_sittings(core: &mut impl Core, seed: u64, count: u64) -> Result<(), String> {
+  let mut seeds = Random::new(seed);
+  let mut tally = sittings::Tally::default();
+  (0..count).try_for_each(|_| {
+    let sitting = sittings::random(seeds.number());
+    let ran = sittings::run::run(core, &sitting, &mut tally);
+    ran.map_err(|found| format!("{sitting}\n{}", found.what))
   })
 }

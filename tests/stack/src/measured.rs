@@ -3,13 +3,13 @@
 
 use std::collections::BTreeMap;
 
-use differential::{Answer, Core, Lent, Unseen, cores::function};
+use differential::{Answer, Core, Lent, LentRecord, Unseen, cores::function};
 use oracle::Call;
 
 use crate::painted::Painted;
 
 /// The groups, in the order in which they are printed, each with its kind.
-pub const GROUPS: [(&str, usize); 11] = [
+pub const GROUPS: [(&str, usize); 12] = [
   ("open", REPORT),
   ("well_formed", REPORT),
   ("remove, reset", EDIT),
@@ -19,6 +19,7 @@ pub const GROUPS: [(&str, usize); 11] = [
   ("trim, trim_start, trim_end, trim_lines", EDIT),
   ("indent_with", EDIT),
   ("run_sheet", EDIT),
+  ("file, withdraw", EDIT),
   ("slice, to_string, last_line, get_indent_string", REPORT),
   (
     "len, len_utf16, line_count, is_empty, has_changed, last_char, is_range_within_edited_chunk",
@@ -49,6 +50,20 @@ pub struct Measured<C> {
 impl<C: Core> Measured<C> {
   pub fn new(core: C) -> Self {
     Self { core, stack: Painted::new(), most: BTreeMap::new() }
+  }
+
+  /// Notes the stack of the call, which a core may not have.
+  fn measured(
+    &mut self,
+    name: &str,
+    mut call: impl FnMut(&mut C) -> Option<Answer>,
+  ) -> Option<Answer> {
+    let mut answer = None;
+    let bytes = self.stack.used_by(|| answer = call(&mut self.core));
+    if answer.is_some() {
+      self.note(name, bytes);
+    }
+    answer
   }
 
   fn note(&mut self, name: &str, bytes: usize) {
@@ -87,11 +102,14 @@ impl<C: Core> Core for Measured<C> {
   }
 
   fn run_sheet(&mut self, lent: &mut Lent, answers: &mut [u8]) -> Option<Answer> {
-    let mut answer = None;
-    let bytes = self.stack.used_by(|| answer = self.core.run_sheet(lent, answers));
-    if answer.is_some() {
-      self.note("run_sheet", bytes);
-    }
-    answer
+    self.measured("run_sheet", |core| core.run_sheet(lent, answers))
+  }
+
+  fn file(&mut self, lent: &mut Lent, record: &mut LentRecord, call: &[u8]) -> Option<Answer> {
+    self.measured("file", |core| core.file(lent, record, call))
+  }
+
+  fn withdraw(&mut self, lent: &mut Lent, record: &mut LentRecord, k: u32) -> Option<Answer> {
+    self.measured("withdraw", |core| core.withdraw(lent, record, k))
   }
 }

@@ -3,9 +3,9 @@
 use crate::Answer;
 
 /// Declares functions that take the source and the tables first, and their own
-/// arguments behind them: edits write the tables, reports read them. The others take
-/// just the arguments that are written here. A slice passes as its address and its
-/// length in elements.
+/// arguments behind them: those among the edits write the tables, reports read them. The
+/// others take just the arguments that are written here. A slice passes as its address
+/// and its length in elements.
 macro_rules! exported {
   (
     edits { $($(#[$of_edit:meta])* $edit:ident($($edits_argument:ident: $edits_type:ty),*);)* }
@@ -71,6 +71,15 @@ exported! {
     magic_string_indent_with(
       has_indentor: u32, indentor: *const u8, indentor_len: usize,
       exclude: *const u32, exclude_len: usize
+    );
+    /// Makes the call, in the form of a sheet's record, and files it with its answer.
+    magic_string_file(
+      words: *mut u32, words_len: usize, bytes: *mut u8, bytes_len: usize,
+      call: *const u8, call_len: usize
+    );
+    /// Takes the k-th filed call out, and makes the others on a fresh desk.
+    magic_string_withdraw(
+      words: *mut u32, words_len: usize, bytes: *mut u8, bytes_len: usize, k: u32
     );
   }
   reports {

@@ -1,6 +1,7 @@
-//! The limits of a desk and the words of its memory, as docs/LAYOUT.md and
-//! include/magic_string.h have them, and the limits of a sheet, whose form the header
-//! describes. For callers who make or keep desks as memory, or make sheets.
+//! The limits of a desk and of a record of filed calls and the words of their memory, as
+//! docs/LAYOUT.md and include/magic_string.h have them, and the limits of a sheet, whose
+//! form the header describes. For callers who make or keep desks and records as memory,
+//! or make sheets.
 
 /// Most bytes of a source.
 pub const SOURCE_BYTES: usize = 16_384;
@@ -20,12 +21,23 @@ pub const SHEET_RECORDS: usize = 200;
 /// Most bytes of a whole sheet.
 pub const SHEET_BYTES: usize = 57_344;
 
+/// Most calls in a record.
+pub const RECORD_CALLS: usize = 200;
+/// Most bytes in the texts of the filed calls together.
+pub const RECORD_TEXT: usize = 32_768;
+/// Most bytes of a filed call before its text.
+pub const RECORD_FRONT: usize = 15;
+
 /// Length of the table of chunks, in words: the desk's own row and [`CHUNKS`] rows.
 pub const CHUNKS_LEN: usize = (1 + CHUNKS) * ROW;
 /// Length of the table of pieces, in words: two rows for each of [`PIECES`].
 pub const PIECES_LEN: usize = 2 * PIECES * PIECE;
 /// Length of the store, in bytes.
 pub const STORE_LEN: usize = STORE_BYTES;
+/// Length of a record's words.
+pub const RECORD_WORDS_LEN: usize = 1;
+/// Length of a record's bytes: room for the filed calls, and an answer for each.
+pub const RECORD_BYTES_LEN: usize = RECORD_ANSWERS + RECORD_CALLS;
 
 /// Words in a row of chunks.
 pub const ROW: usize = 12;
@@ -57,6 +69,13 @@ pub const TEXT_N: usize = 9;
 pub const PIECE_AT: usize = 0;
 /// How many bytes the text has.
 pub const PIECE_N: usize = 1;
+
+/// Word of a record: how many of its bytes the filed calls have.
+pub const RECORD_USED: usize = 0;
+/// Where the answers begin in a record's bytes, behind the room for the filed calls. The
+/// calls stand one behind the other, each in the form of a sheet's record; the answers
+/// are in their order, a byte each.
+pub const RECORD_ANSWERS: usize = RECORD_CALLS * RECORD_FRONT + RECORD_TEXT;
 
 /// In [`NEXT`] and [`PREV`]: the list ends. It is row 0, the desk's own, whose
 /// [`NEXT`] and [`PREV`] are the first chunk and the last.

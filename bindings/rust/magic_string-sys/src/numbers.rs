@@ -13,7 +13,7 @@ macro_rules! numbers {
 numbers! {
   /// A text is not UTF-8.
   NOT_UTF8 = 1;
-  /// The memory holds no well-formed desk.
+  /// The memory holds no well-formed desk, or no well-formed record.
   NOT_WELL_FORMED = 2;
   /// A position lies inside a character.
   INSIDE_CHARACTER = 3;
@@ -35,12 +35,14 @@ numbers! {
   SLICE_START = 11;
   /// A slice that ends inside a replaced chunk.
   SLICE_END = 12;
-  /// The desk would break a limit.
+  /// The desk, or the record, would break a limit.
   LIMIT = 13;
   /// The output buffer is too short.
   SHORT_BUFFER = 14;
   /// A pattern above 1, or an exclude list of odd count.
   BAD_OPTION = 15;
-  /// A sheet, or a record of one, that breaks the rules of its form.
+  /// A sheet, or a call to be filed, that breaks the rules of its form.
   BAD_SHEET = 16;
+  /// No call with that number is filed.
+  NO_SUCH_CALL = 17;
 }

@@ -1,5 +1,6 @@
 //! The crate declares what include/magic_string.h does, and the lists of refusals are
-//! one list: those of the header, of this crate, of the wrapper and of the library.
+//! one list: those of the header, of this crate, of the wrapper and of the library. So
+//! are the limits.
 
 use std::collections::BTreeSet;
 
@@ -8,6 +9,7 @@ use magic_string_sys::{NAMES, layout::*, numbers::NUMBERS};
 const HEADER: &str = include_str!("../../../../include/magic_string.h");
 const WRAPPER: &str = include_str!("../../magic_string/src/refusal.rs");
 const LIBRARY: &str = include_str!("../../../../crates/memory_layout/src/numbers.rt");
+const LIBRARY_LAYOUT: &str = include_str!("../../../../crates/memory_layout/src/lib.rt");
 const LIBRARY_SHEET: &str = include_str!("../../../../crates/sheet_records/src/sheet.rt");
 
 #[test]
@@ -21,12 +23,23 @@ fn the_functions() {
 
 /// The value of a `#define`: numbers, other such names, sums and products.
 fn defined(name: &str) -> usize {
-  let line = HEADER.lines().find_map(|line| line.strip_prefix(&format!("#define {name} ")));
-  value(&line.unwrap_or_else(|| panic!("{name} is not there")).replace("UINT32_C", ""))
+  // A backslash at the end of a line joins the next one to it.
+  let header = HEADER.replace("\\\n", "");
+  let line = header.lines().find_map(|line| line.strip_prefix(&format!("#define {name} ")));
+  let line = line.unwrap_or_else(|| panic!("{name} is not there"));
+  value(&line.replace("UINT32_C", ""), defined)
+}
+
+/// The value of a constant of the library's layout, the same way.
+fn constant(name: &str) -> usize {
+  let before = format!("pub const {name}: usize = ");
+  let line = LIBRARY_LAYOUT.lines().find_map(|line| line.strip_prefix(&before));
+  let line = line.and_then(|line| line.strip_suffix(';'));
+  value(line.unwrap_or_else(|| panic!("{name} is not there")), constant)
 }
 
 /// The value of a text: the last sum or product outside brackets is made last.
-fn value(text: &str) -> usize {
+fn value(text: &str, named: fn(&str) -> usize) -> usize {
   let text = text.trim();
   for sign in ['+', '*'] {
     let mut depth = 0;
@@ -35,7 +48,7 @@ fn value(text: &str) -> usize {
         ')' => depth += 1,
         '(' => depth -= 1,
         _ if depth == 0 && part == sign => {
-          let (left, right) = (value(&text[..at]), value(&text[at + 1..]));
+          let (left, right) = (value(&text[..at], named), value(&text[at + 1..], named));
           return if sign == '+' { left + right } else { left * right };
         }
         _ => {}
@@ -43,36 +56,54 @@ fn value(text: &str) -> usize {
     }
   }
   if let Some(inside) = text.strip_prefix('(').and_then(|rest| rest.strip_suffix(')')) {
-    return value(inside);
+    return value(inside, named);
   }
   match text.strip_prefix("0x") {
     Some(digits) => usize::from_str_radix(digits, 16).unwrap(),
-    None => text.parse().unwrap_or_else(|_| defined(text)),
+    None => text.parse().unwrap_or_else(|_| named(text)),
   }
 }
 
+/// Limits and lengths of a desk and of a record.
+const LENGTHS: [(&str, usize); 16] = [
+  ("SOURCE_BYTES", SOURCE_BYTES),
+  ("CHUNKS", CHUNKS),
+  ("PIECES", PIECES),
+  ("STORE_BYTES", STORE_BYTES),
+  ("RECORD_CALLS", RECORD_CALLS),
+  ("RECORD_TEXT", RECORD_TEXT),
+  ("RECORD_FRONT", RECORD_FRONT),
+  ("RECORD_USED", RECORD_USED),
+  ("RECORD_ANSWERS", RECORD_ANSWERS),
+  ("CHUNKS_LEN", CHUNKS_LEN),
+  ("PIECES_LEN", PIECES_LEN),
+  ("STORE_LEN", STORE_LEN),
+  ("RECORD_WORDS_LEN", RECORD_WORDS_LEN),
+  ("RECORD_BYTES_LEN", RECORD_BYTES_LEN),
+  ("ROW", ROW),
+  ("PIECE", PIECE),
+];
+
 #[test]
 fn limits_lengths_and_marks() {
-  let values = [
-    ("SOURCE_BYTES", SOURCE_BYTES),
-    ("CHUNKS", CHUNKS),
-    ("PIECES", PIECES),
-    ("STORE_BYTES", STORE_BYTES),
+  let others = [
     ("SHEET_VERSION", SHEET_VERSION.into()),
     ("SHEET_FRONT", SHEET_FRONT),
     ("SHEET_RECORDS", SHEET_RECORDS),
     ("SHEET_BYTES", SHEET_BYTES),
-    ("CHUNKS_LEN", CHUNKS_LEN),
-    ("PIECES_LEN", PIECES_LEN),
-    ("STORE_LEN", STORE_LEN),
-    ("ROW", ROW),
-    ("PIECE", PIECE),
     ("LIST_END", LIST_END as usize),
     ("NONE", NONE as usize),
     ("NO_CHAR", NO_CHAR as usize),
   ];
-  for (name, value) in values {
+  for (name, value) in LENGTHS.into_iter().chain(others) {
     assert_eq!(defined(&format!("MAGIC_STRING_{name}")), value, "{name}");
+  }
+}
+
+#[test]
+fn limits_and_lengths_of_the_library() {
+  for (name, value) in LENGTHS {
+    assert_eq!(constant(name), value, "{name}");
   }
 }
 

@@ -1,9 +1,9 @@
-//! A paper: a script is opened and edits are filed on it, with the cuts that each made
+//! A paper: a script is opened and edits are made on it, with the cuts that each made
 //! and the running text after it. Then the desk chunk by chunk, its reports, and the
-//! sixteen refusals in words.
+//! seventeen refusals in words.
 
 use magic_string::{
-  Chunk, End::*, IndentOptions, MagicString, Refusal, Side::*, UpdateOptions, layout,
+  Chunk, End::*, IndentOptions, MagicString, Refusal, Side::*, Sitting, UpdateOptions, layout,
 };
 
 const SCRIPT: &str = "\
@@ -33,8 +33,8 @@ fn end(text: &str) -> u32 {
   start(text) + text.len() as u32
 }
 
-/// Files an edit: prints the call with its arguments and cuts, then the running text.
-macro_rules! file {
+/// Makes an edit: prints the call with its arguments and cuts, then the running text.
+macro_rules! edit {
   ($desk:ident.$edit:ident($($argument:expr),*)) => {
     let arguments: Vec<String> = vec![$(format!("{:?}", $argument)),*];
     let cuts = $desk.$edit($($argument),*)?.cuts();
@@ -45,21 +45,21 @@ macro_rules! file {
 
 fn edits(desk: &mut MagicString) -> Result<(), Refusal> {
   let (wind, air) = (start("  Wind"), start("  Air"));
-  file!(desk.update(start("north"), end("north"), "north-west"));
-  file!(desk.insert(end("12"), " to 15", Left, Back));
-  file!(desk.insert(start("Wind"), "Gale warning! ", Right, Back));
-  file!(desk.remove(start(", sea"), end("calm")));
-  file!(desk.insert(end("Ålesund"), " Coast", Left, Front));
-  file!(desk.relocate(air, start("Good"), wind));
-  file!(desk.insert(start("Wind"), "News: ", Right, Front));
-  file!(desk.update_with(start("Wind"), end("Wind"), "Storm", UpdateOptions { overwrite: true }));
-  file!(desk.reset(start(", sea"), end("calm")));
-  file!(desk.remove(start(" –"), end("–")));
-  file!(desk.insert(start("over"), "and ", Right, Back));
-  file!(desk.prepend("CQ CQ CQ\n"));
-  file!(desk.append("73 \t\n\n"));
-  file!(desk.trim_end(Some("\\s")));
-  file!(desk.indent_with(IndentOptions { indentor: Some("> "), exclude: &[(air, start("Good"))] }));
+  edit!(desk.update(start("north"), end("north"), "north-west"));
+  edit!(desk.insert(end("12"), " to 15", Left, Back));
+  edit!(desk.insert(start("Wind"), "Gale warning! ", Right, Back));
+  edit!(desk.remove(start(", sea"), end("calm")));
+  edit!(desk.insert(end("Ålesund"), " Coast", Left, Front));
+  edit!(desk.relocate(air, start("Good"), wind));
+  edit!(desk.insert(start("Wind"), "News: ", Right, Front));
+  edit!(desk.update_with(start("Wind"), end("Wind"), "Storm", UpdateOptions { overwrite: true }));
+  edit!(desk.reset(start(", sea"), end("calm")));
+  edit!(desk.remove(start(" –"), end("–")));
+  edit!(desk.insert(start("over"), "and ", Right, Back));
+  edit!(desk.prepend("CQ CQ CQ\n"));
+  edit!(desk.append("73 \t\n\n"));
+  edit!(desk.trim_end(Some("\\s")));
+  edit!(desk.indent_with(IndentOptions { indentor: Some("> "), exclude: &[(air, start("Good"))] }));
   Ok(())
 }
 
@@ -137,6 +137,7 @@ fn refusals(desk: &mut MagicString) {
   refused("write the text to 10 bytes", desk.write_to(&mut [0; 10]));
   refused("trim by another pattern", desk.trim(Some("[0-9]")));
   refused("run a sheet of no byte at all", MagicString::run_sheet(b""));
+  refused("withdraw a call of an empty record", Sitting::default().withdraw(1));
 
   println!("\nThe text has {} bytes, as before: {}", text.len(), desk.to_string() == text);
   let more = desk.chunks().count() - chunks;

@@ -8,7 +8,7 @@
 
 use magic_string_sys::{Answer, edit, magic_string_run_sheet, report};
 
-use crate::{Refusal, memory::Memory};
+use crate::{Refusal, filed::Filed, memory::Memory};
 
 /// The value of a call that was done; a refused one has none.
 pub type Answered = Result<u32, Refusal>;
@@ -107,6 +107,43 @@ impl Memory {
         answers.len(),
       )
     })
+  }
+}
+
+/// A record of filed calls.
+impl Memory {
+  /// Makes the call of a sheet's record and files it. The value, its cuts, counts after a
+  /// refusal too.
+  pub fn file(&mut self, filed: &mut Filed, call: &[u8]) -> Answer {
+    let Filed { words, bytes } = filed;
+    unsafe {
+      edit!(
+        self,
+        magic_string_file,
+        words.as_mut_ptr(),
+        words.len(),
+        bytes.as_mut_ptr(),
+        bytes.len(),
+        call.as_ptr(),
+        call.len()
+      )
+    }
+  }
+
+  /// Takes the k-th filed call out, and makes the others on a fresh desk.
+  pub fn withdraw(&mut self, filed: &mut Filed, k: u32) -> Answer {
+    let Filed { words, bytes } = filed;
+    unsafe {
+      edit!(
+        self,
+        magic_string_withdraw,
+        words.as_mut_ptr(),
+        words.len(),
+        bytes.as_mut_ptr(),
+        bytes.len(),
+        k
+      )
+    }
   }
 }
 

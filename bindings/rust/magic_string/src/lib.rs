@@ -1,4 +1,4 @@
-//! A text and the edits filed on it: string_wizard's `MagicString` over a core in
+//! A text and the edits made on it: string_wizard's `MagicString` over a core in
 //! which every function is proved.
 //!
 //! ```
@@ -27,7 +27,7 @@
 //! - [`MagicString`] owns its source and three tables of fixed length, so it has no
 //!   lifetime, and [limits](layout). [`MagicString::new`] and every edit may give
 //!   [`Refusal::Limit`].
-//! - Errors are a [`Refusal`], one of sixteen, and not a `String`.
+//! - Errors are a [`Refusal`], one of seventeen, and not a `String`.
 //! - Its `append_left`, `append_right`, `prepend_left` and `prepend_right` are one,
 //!   [`MagicString::insert`], with a [`Side`] and an [`End`].
 //! - A position inside a character is refused, where string_wizard may panic, and
@@ -35,17 +35,20 @@
 //! - Trims take the two patterns that string_wizard names. Names and source maps,
 //!   `filename`, `ignore_list`, `replace`, `snip` and the joiner are left out.
 //! - Added: [`MagicString::line_count`], which counts lines as [`str::lines`] does; a
-//!   way to look at what is filed, chunk by chunk ([`MagicString::chunks`]); how many cuts
-//!   the last edit made ([`MagicString::cuts`]); and a whole paper in one call
-//!   ([`MagicString::run_sheet`]).
+//!   way to look at the desk, chunk by chunk ([`MagicString::chunks`]); how many cuts
+//!   the last edit made ([`MagicString::cuts`]); a whole paper in one call
+//!   ([`MagicString::run_sheet`]); and a record of calls, any of which can be taken back
+//!   ([`Sitting`]).
 //!
 //! Positions are byte offsets into the source.
 
 mod chunk;
 mod ffi;
+mod filed;
 mod magic_string;
 mod memory;
 mod refusal;
+mod sitting;
 mod span;
 
 /// For callers who make or keep desks as memory ([`MagicString::from_tables`]), or make
@@ -63,5 +66,6 @@ pub use crate::{
     update::UpdateOptions,
   },
   refusal::Refusal,
+  sitting::{Call, Entry, FilingError, Sitting},
   span::Span,
 };

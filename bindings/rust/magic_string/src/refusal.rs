@@ -40,13 +40,15 @@ pub enum Refusal {
   ShortBuffer = numbers::SHORT_BUFFER,
   /// Pattern above 1, or an exclude list of odd count.
   BadOption = numbers::BAD_OPTION,
-  /// A sheet, or a record of one, that breaks the rules of its form.
+  /// A sheet, or a call to be filed, that breaks the rules of its form.
   BadSheet = numbers::BAD_SHEET,
+  /// No call with that number is filed.
+  NoSuchCall = numbers::NO_SUCH_CALL,
 }
 
 impl Refusal {
   /// All of them, in the order of their numbers.
-  pub const ALL: [Refusal; 16] = [
+  pub const ALL: [Refusal; 17] = [
     Refusal::NotUtf8,
     Refusal::NotWellFormed,
     Refusal::InsideCharacter,
@@ -63,9 +65,10 @@ impl Refusal {
     Refusal::ShortBuffer,
     Refusal::BadOption,
     Refusal::BadSheet,
+    Refusal::NoSuchCall,
   ];
 
-  /// Its number, 1 to 16.
+  /// Its number, 1 to 17.
   pub fn number(self) -> u32 {
     self as u32
   }
@@ -103,7 +106,8 @@ impl fmt::Display for Refusal {
       Refusal::Limit => "the desk would break a limit",
       Refusal::ShortBuffer => "output buffer too short",
       Refusal::BadOption => "pattern above 1, or an exclude list of odd count",
-      Refusal::BadSheet => "sheet or record breaks the rules of its form",
+      Refusal::BadSheet => "sheet or call breaks the rules of its form",
+      Refusal::NoSuchCall => "no call with that number is filed",
     })
   }
 }

@@ -3,7 +3,7 @@
 use magic_string::{Chunk, End::*, IndentOptions, MagicString, Side::*, Span, UpdateOptions};
 
 /// A desk with something of everything.
-fn filed() -> MagicString {
+fn edited() -> MagicString {
   let mut desk = MagicString::new("one, zwö, three\n").unwrap();
   desk.prepend("> ").unwrap().append("[end]").unwrap();
   desk.update(0, 3, "1").unwrap();
@@ -14,7 +14,7 @@ fn filed() -> MagicString {
 
 #[test]
 fn chunk_by_chunk() {
-  let desk = filed();
+  let desk = edited();
   assert_eq!(desk.source(), "one, zwö, three\n");
   assert_eq!(desk.intro(), ["> "]);
   assert_eq!(desk.outro(), ["[end]"]);
@@ -29,7 +29,7 @@ fn chunk_by_chunk() {
 /// The output is what the desk shows, one text behind the other.
 #[test]
 fn fragments_make_the_output() {
-  let desk = filed();
+  let desk = edited();
   let chunks: String = desk.chunks().flat_map(|chunk| chunk.fragments(desk.source())).collect();
   assert_eq!(chunks.len(), desk.len());
   let output = desk.intro().concat() + &chunks + &desk.outro().concat();
@@ -38,7 +38,7 @@ fn fragments_make_the_output() {
 
 #[test]
 fn memory_is_given_and_taken_back() {
-  let mut desk = filed();
+  let mut desk = edited();
   let (chunks, pieces, store) = desk.tables();
   let mut again = MagicString::from_tables(desk.source(), chunks, pieces, store).unwrap();
   assert_eq!(again, desk);
@@ -104,7 +104,7 @@ fn a_clone_is_its_own() {
 
 #[test]
 fn reports() {
-  let desk = filed();
+  let desk = edited();
   assert_eq!(desk.to_string(), "> zwö#1!, \n[end]");
   assert_eq!((desk.len(), desk.len_utf16(), desk.line_count()), (10, 9, 2));
   assert_eq!((desk.is_empty(), desk.has_changed()), (false, true));

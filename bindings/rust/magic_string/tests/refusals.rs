@@ -1,17 +1,18 @@
-//! Each of the sixteen refusals through the wrapper: document 01's own examples,
+//! Each of the seventeen refusals through the wrapper: document 01's own examples,
 //! what the desk is afterwards, and which calls have them.
 //!
-//! Types rule out some ways to a number, though none of the sixteen. 1: texts of
+//! Types rule out some ways to a number, though none of the seventeen. 1: texts of
 //! edits are `str`, so only `from_utf8` and `run_sheet` have it. 2: a `MagicString`
 //! is well formed, so only `from_tables` has it. 14: the wrapper's own buffers are
 //! long enough, so only `write_to` has it. 15: excluded ranges are pairs, so only
-//! trims have it. 16: only `run_sheet` has it (tests/sheet.rs).
+//! trims have it. 16: only `run_sheet` has it (tests/sheet.rs). 17: only
+//! `Sitting::withdraw` has it (tests/sitting.rs).
 
 use magic_string::{
   End::{self, *},
   IndentOptions, MagicString, Refusal,
   Side::{self, *},
-  Span, layout,
+  Sitting, Span, layout,
 };
 use magic_string_sys::numbers::NUMBERS;
 
@@ -57,7 +58,7 @@ fn numbers_and_words() {
   }
   assert_eq!(Refusal::ALL.len(), NUMBERS.len());
   assert_eq!(Refusal::from_number(0), None);
-  assert_eq!(Refusal::from_number(17), None);
+  assert_eq!(Refusal::from_number(18), None);
   let error: &dyn std::error::Error = &Refusal::PastSource;
   assert_eq!(error.to_string(), "end past source");
 }
@@ -265,6 +266,13 @@ fn number_16_sheet_breaks_its_rules() {
     assert_eq!(MagicString::run_sheet(sheet), Err(Refusal::BadSheet));
   }
   assert_eq!(MagicString::run_sheet(b"\x01\0\0").unwrap().desk, MagicString::default());
+}
+
+#[test]
+fn number_17_no_such_call() {
+  let sitting = &mut Sitting::open("abc").unwrap();
+  assert_eq!(sitting.withdraw(0).err(), Some(Refusal::NoSuchCall));
+  assert_eq!(sitting.withdraw(1).err(), Some(Refusal::NoSuchCall));
 }
 
 #[test]

@@ -35,17 +35,33 @@
 //! let error = sheet_script::to_sheet(b"source \"abc\"\nremove 0\n").unwrap_err();
 //! assert_eq!(error.to_string(), "line 2: remove takes two positions");
 //! ```
+//!
+//! A [`Record`] is one call of a sheet; [`records`] reads those that stand one behind the
+//! other.
+//!
+//! ```
+//! use sheet_script::{Kind, Record, records};
+//!
+//! let record = Record { kind: Kind::Relocate, positions: vec![0, 2, 3], text: b"" };
+//! let bytes = record.bytes().unwrap();
+//! assert_eq!(bytes, b"\0\x0D\x08\0\0\0\0\0\0\0\x02\0\0\0\x03");
+//! assert_eq!(records(&bytes).unwrap(), [record]);
+//! ```
 
 mod error;
 mod kind;
 mod line;
 mod new_sheet;
 mod read;
+mod record;
 mod text;
 
 pub mod limits;
 
 pub use error::{ScriptError, SheetError};
+pub use kind::Kind;
+pub use read::records;
+pub use record::Record;
 
 use new_sheet::NewSheet;
 
@@ -71,6 +87,6 @@ pub fn to_sheet(script: &[u8]) -> Result<Vec<u8>, ScriptError> {
 pub fn to_script(sheet: &[u8]) -> Result<String, SheetError> {
   let sheet = read::sheet(sheet)?;
   let source = line::of_source(sheet.source);
-  let records = sheet.records.iter().map(line::of_record);
+  let records = sheet.records.iter().map(|record| format!("{record}\n"));
   Ok(source + &records.collect::<String>())
 }

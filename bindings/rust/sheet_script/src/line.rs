@@ -1,9 +1,8 @@
 //! The lines of a script.
 
 use crate::{
-  kind::Kind,
+  Kind, Record,
   new_sheet::NewSheet,
-  read::Record,
   text::{quoted, unquoted},
 };
 
@@ -17,16 +16,6 @@ pub fn of_source(source: &[u8]) -> String {
     [] => line(source),
     _ => source.split_inclusive(|&byte| byte == b'\n').map(line).collect(),
   }
-}
-
-/// The line of a record.
-pub fn of_record(record: &Record) -> String {
-  let mut words = vec![record.kind.name.to_string()];
-  words.extend(record.positions.iter().map(u32::to_string));
-  if record.kind.has_text {
-    words.push(quoted(record.text));
-  }
-  words.join(" ") + "\n"
 }
 
 /// Adds what a line says to the sheet.
@@ -44,7 +33,7 @@ pub fn add(sheet: &mut NewSheet, line: &[u8]) -> Result<(), String> {
   }
   let kind = Kind::of_name(name).ok_or_else(|| format!("{name} is no call of a sheet"))?;
   let (positions, text) = sorted(kind, arguments(rest)?).ok_or_else(|| takes(kind))?;
-  sheet.record(kind, &positions, &text)
+  sheet.record(&Record { kind, positions, text: &text })
 }
 
 /// The characters up to the first blank, and what follows them.
@@ -85,7 +74,7 @@ fn position(digits: &str) -> Result<u32, String> {
 }
 
 /// The positions and the text, if they are what the kind has.
-fn sorted(kind: &Kind, arguments: Vec<Argument>) -> Option<(Vec<u32>, Vec<u8>)> {
+fn sorted(kind: Kind, arguments: Vec<Argument>) -> Option<(Vec<u32>, Vec<u8>)> {
   let mut positions = Vec::new();
   let mut text = None;
   for argument in arguments {
@@ -95,13 +84,13 @@ fn sorted(kind: &Kind, arguments: Vec<Argument>) -> Option<(Vec<u32>, Vec<u8>)> 
       _ => return None,
     }
   }
-  let fits = positions.len() == kind.positions && text.is_some() == kind.has_text;
+  let fits = positions.len() == kind.positions() && text.is_some() == kind.has_text();
   fits.then(|| (positions, text.unwrap_or_default()))
 }
 
 /// What a call of the kind takes.
-fn takes(kind: &Kind) -> String {
+fn takes(kind: Kind) -> String {
   let positions = ["no position", "one position", "two positions", "three positions"];
-  let text = if kind.has_text { " and a text" } else { "" };
-  format!("{} takes {}{text}", kind.name, positions[kind.positions])
+  let text = if kind.has_text() { " and a text" } else { "" };
+  format!("{} takes {}{text}", kind.name(), positions[kind.positions()])
 }

@@ -1,7 +1,7 @@
 //! A sheet that is written part by part, within its limits.
 
 use crate::{
-  kind::Kind,
+  Record,
   limits::{SHEET_BYTES, SHEET_FRONT, SHEET_RECORDS, SHEET_VERSION},
 };
 
@@ -27,23 +27,20 @@ impl NewSheet {
     self.check_size()
   }
 
-  /// Adds a record. The kind has these positions, and a text or none.
-  pub fn record(&mut self, kind: &Kind, positions: &[u32], text: &[u8]) -> Result<(), String> {
+  /// Adds a record.
+  pub fn record(&mut self, record: &Record) -> Result<(), String> {
     if self.source.is_none() {
       return Err("the source is missing before the first call".to_string());
     }
     if self.count == SHEET_RECORDS {
       return Err(format!("a sheet has at most {SHEET_RECORDS} calls"));
     }
-    let length = u16::try_from(kind.length() + text.len()).map_err(|_| {
-      let most = usize::from(u16::MAX) - kind.length();
-      format!("a text of {} has at most {most} bytes", kind.name)
+    let bytes = record.bytes().ok_or_else(|| {
+      let most = usize::from(u16::MAX) - record.kind.length();
+      format!("a text of {} has at most {most} bytes", record.kind.name())
     })?;
     self.count += 1;
-    self.records.extend(length.to_be_bytes());
-    self.records.push(kind.byte);
-    self.records.extend(positions.iter().flat_map(|position| position.to_be_bytes()));
-    self.records.extend(text);
+    self.records.extend(bytes);
     self.check_size()
   }
 

@@ -1,8 +1,7 @@
 //! A sheet read out of its bytes.
 
 use crate::{
-  SheetError,
-  kind::Kind,
+  Kind, Record, SheetError,
   limits::{SHEET_BYTES, SHEET_FRONT, SHEET_RECORDS, SHEET_VERSION},
 };
 
@@ -11,18 +10,23 @@ pub struct Sheet<'a> {
   pub records: Vec<Record<'a>>,
 }
 
-/// A record. The kind has these positions; the text is empty if it has none.
-pub struct Record<'a> {
-  pub kind: &'static Kind,
-  pub positions: Vec<u32>,
-  pub text: &'a [u8],
-}
-
 /// Reads the whole sheet.
 pub fn sheet(bytes: &[u8]) -> Result<Sheet<'_>, SheetError> {
   let source = source(bytes).map_err(|(byte, what)| SheetError { record: None, byte, what })?;
+  let front = SHEET_FRONT + source.len();
+  let records = records(&bytes[front..]);
+  let records = records.map_err(|error| SheetError { byte: front + error.byte, ..error })?;
+  Ok(Sheet { source, records })
+}
+
+/// The records that stand one behind the other in these bytes, as they do behind the
+/// source of a sheet.
+///
+/// # Errors
+/// The first place at which the bytes break the rules of such records.
+pub fn records(bytes: &[u8]) -> Result<Vec<Record<'_>>, SheetError> {
   let mut records = Vec::new();
-  let mut at = SHEET_FRONT + source.len();
+  let mut at = 0;
   while at < bytes.len() {
     let number = records.len() + 1;
     let named = |(byte, what)| SheetError { record: Some(number), byte: at + byte, what };
@@ -33,7 +37,7 @@ pub fn sheet(bytes: &[u8]) -> Result<Sheet<'_>, SheetError> {
     at += 2 + record.kind.length() + record.text.len();
     records.push(record);
   }
-  Ok(Sheet { source, records })
+  Ok(records)
 }
 
 /// A byte's place, and what is wrong there.
@@ -66,7 +70,7 @@ fn record(bytes: &[u8]) -> Result<Record<'_>, Wrong> {
   };
   let kind = Kind::of_byte(byte).ok_or_else(|| (2, format!("there is no kind {byte}")))?;
   check_length(kind, rest.len())?;
-  let (positions, text) = behind.split_at(4 * kind.positions);
+  let (positions, text) = behind.split_at(4 * kind.positions());
   let (positions, _) = positions.as_chunks();
   let positions = positions.iter().map(|&position| u32::from_be_bytes(position)).collect();
   Ok(Record { kind, positions, text })
@@ -84,13 +88,13 @@ fn behind_length(bytes: &[u8]) -> Result<&[u8], Wrong> {
 }
 
 /// Refuses a length that a record of the kind cannot have.
-fn check_length(kind: &Kind, length: usize) -> Result<(), Wrong> {
-  let (fits, least) = match kind.has_text {
+fn check_length(kind: Kind, length: usize) -> Result<(), Wrong> {
+  let (fits, least) = match kind.has_text() {
     true => (length >= kind.length(), "at least "),
     false => (length == kind.length(), ""),
   };
   if !fits {
-    let (name, right) = (kind.name, kind.length());
+    let (name, right) = (kind.name(), kind.length());
     let what = format!("the record's length is {length}, but that of {name} is {least}{right}");
     return Err((0, what));
   }

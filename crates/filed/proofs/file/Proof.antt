@@ -10,9 +10,12 @@ use Rattle.filed.proofs.file.Statement.{statement}
 use Rattle.filed.proofs.file.Tie as tie
 
 -- the call as it was judged
-here : (c : tie.After-kind) → let a = c .before .before .before .before .before .before .before .before .before .before .args in let g = c .kind .given .0 in
-    FilesCall (now (a .call)) (a .size) (g .0) (g .1 .0) (g .1 .1 .0) (g .1 .1 .1 .0) (g .1 .1 .1 .1 .0)
-here c = let a = c .before .before .before .before .before .before .before .before .before .before .args in subst (JudgesCall (now (a .call)) (a .size)) (c .kind .given .1) (c .before .before .judge-call .ensures)
+here : (c : tie.After-kind) → let a = c .before .before .before .before .before .before .before .before .before .before .args in
+    let g = c .kind .given .0 in FilesCall (now (a .call)) (a .size) (g .0) (g .1 .0) (g .1 .1 .0) (g .1 .1 .1 .0) (g .1 .1 .1 .1 .0)
+here c =
+    let judged = c .before .before in
+    let a = judged .before .before .before .before .before .before .before .before .args in
+    subst (JudgesCall (now (a .call)) (a .size)) (c .kind .given .1) (judged .judge-call .ensures)
 
 judge-call-requires : tie.Need-judge-call-requires
 judge-call-requires c κs = search needs
@@ -33,10 +36,18 @@ core-call-requires : tie.Need-core-call-requires
 core-call-requires c κs = search needs
 
 cast-put-entry : tie.Need-cast-put-entry
-cast-put-entry c = let low = answer-byte (c .before .before .before .before .before .before .before .before .before .before .before .before .before .before .before .before .before .before .before .before .before .before .before .before .before .pre .1) (here (c .before .before .before .before .before .before .before .before .before .before .before .before .before .before .before)) (c .before .before .before .before .before .before .before .before .before .before .before .before .before .before .before .before .before .before .before .before .before .before .before .before .before .pre .0 .well-formed) (c .before .before .before .before .before .before .before .before .before .core-call .ensures) in omega arith
+cast-put-entry c =
+    let core = c .before .before .before .before .before .before .before .before .before in
+    let kind = core .before .before .before .before .before .before in
+    let start = kind .before .before .before .before .before .before .before .before .before .before in
+    let low = answer-byte (start .pre .1) (here kind) (start .pre .0 .well-formed) (core .core-call .ensures) in
+    omega arith
 
 put-entry-requires : tie.Need-put-entry-requires
-put-entry-requires c κs = (c .before .before .before .before .before .before .before .before .before .before .before .before .before .before .before .before .before .before .before .before .before .before .before .before .before .pre .1, (call-room (c .before .before .before .before .before .before .before .before .before .before .before .before .before .before .before .before .before .before .before .before .before .before .before .before .before .pre .1) (here (c .before .before .before .before .before .before .before .before .before .before .before .before .before .before .before)), here (c .before .before .before .before .before .before .before .before .before .before .before .before .before .before .before) .calls))
+put-entry-requires c κs =
+    let kind = c .before .before .before .before .before .before .before .before .before .before .before .before .before .before .before in
+    let start = kind .before .before .before .before .before .before .before .before .before .before in
+    (start .pre .1, (call-room (start .pre .1) (here kind), here kind .calls))
 
 enum-known-number : tie.Need-enum-known-number
 enum-known-number c = search needs
@@ -57,11 +68,19 @@ same-length-5 : tie.Need-same-length-5
 same-length-5 c = search needs
 
 returns : tie.Need-returns
-returns c = files-call (c .before .before .before .before .before .before .before .before .before .before .before .before .before .before .before .before .before .before .before .before .before .before .before .before .before .before .before .before .before .before .pre .1) (here (c .before .before .before .before .before .before .before .before .before .before .before .before .before .before .before .before .before .before .before .before)) (c .before .before .before .before .before .before .before .before .before .before .before .before .before .before .core-call .ensures) (c .before .before .before .before .put-entry .ensures) (c .before .before .before .before .put-entry .kept .0)
+returns c =
+    let put = c .before .before .before .before in
+    let core = put .before .before .before .before .before .before .before .before .before .before in
+    let kind = core .before .before .before .before .before .before in
+    let start = kind .before .before .before .before .before .before .before .before .before .before in
+    files-call (start .pre .1) (here kind) (core .core-call .ensures) (put .put-entry .ensures) (put .put-entry .kept .0)
 
 returns-2 : tie.Need-returns-2
-returns-2 c = files-refused (c .before .before .before .before .before .before .before .before .before .before .before .pre .1) (c .before .before .before .before .before .before .before .before .before .before .before .pre .0 .well-formed)
-    (subst (JudgesCall (now (c .before .before .before .before .before .before .before .before .before .before .before .args .call)) (c .before .before .before .before .before .before .before .before .before .before .before .args .size)) (c .before .number .given .1) (c .before .before .before .judge-call .ensures))
+returns-2 c =
+    let judged = c .before .before .before in
+    let start = judged .before .before .before .before .before .before .before .before in
+    files-refused (start .pre .1) (start .pre .0 .well-formed)
+    (subst (JudgesCall (now (start .args .call)) (start .args .size)) (c .before .number .given .1) (judged .judge-call .ensures))
 
 pub file-spec : {M : Type 1} → statement M
 file-spec =

@@ -18,7 +18,9 @@ slice-aggregate-run-records : tie.Need-slice-aggregate-run-records
 slice-aggregate-run-records c = search needs
 
 run-records-requires : tie.Need-run-records-requires
-run-records-requires c κs = let start = c .before .before .before .before .before .before .before .before .before .before .before in (start .pre .0, counted-lent (now (start .args .bytes)) (start .args .used) (start .pre .1 .1 .1))
+run-records-requires c κs =
+    let start = c .before .before .before .before .before .before .before .before .before .before .before in
+    (start .pre .0, counted-lent (now (start .args .bytes)) (start .args .used) (start .pre .1 .1 .1))
 
 sub-put-answers : tie.Need-sub-put-answers
 sub-put-answers c = search needs
@@ -46,8 +48,10 @@ same-length-4 c = search needs
 
 returns : tie.Need-returns
 returns c =
-    let start = c .before .before .before .before .before .before .before .before .before .before .before .before .before .before .before .before .before .before .before .before .before .before .before .before .before in
-    runs-anew (now (start .args .bytes)) (start .args .used) (start .pre .1 .1 .1) (c .before .before .before .before .before .before .before .before .before .before .before .before .before .run-records .ensures) (c .before .before .put-answers .ensures)
+    let put = c .before .before in
+    let run = put .before .before .before .before .before .before .before .before .before .before .before in
+    let start = run .before .before .before .before .before .before .before .before .before .before .before .before in
+    runs-anew (now (start .args .bytes)) (start .args .used) (start .pre .1 .1 .1) (run .run-records .ensures) (put .put-answers .ensures)
 
 pub run-anew-spec : {M : Type 1} → statement M
 run-anew-spec =

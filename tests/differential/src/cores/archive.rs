@@ -3,7 +3,7 @@
 use oracle::Call;
 
 use super::{Core, Unseen};
-use crate::{Answer, Lent, missing};
+use crate::{Answer, Lent, LentRecord, missing};
 
 #[derive(Debug, Clone, Copy)]
 pub struct Archive;
@@ -64,5 +64,13 @@ impl Core for Archive {
 
   fn run_sheet(&mut self, lent: &mut Lent, answers: &mut [u8]) -> Option<Answer> {
     missing::has_function("run_sheet").then(|| lent.run_sheet(answers))
+  }
+
+  fn file(&mut self, lent: &mut Lent, record: &mut LentRecord, call: &[u8]) -> Option<Answer> {
+    missing::has_function("file").then(|| lent.file(record, call))
+  }
+
+  fn withdraw(&mut self, lent: &mut Lent, record: &mut LentRecord, k: u32) -> Option<Answer> {
+    missing::has_function("withdraw").then(|| lent.withdraw(record, k))
   }
 }

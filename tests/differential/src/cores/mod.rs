@@ -15,7 +15,7 @@ use oracle::Call;
 pub use stand_in::StandIn;
 pub use unseen::Unseen;
 
-use crate::{Answer, Lent, Sizes, holds_desk};
+use crate::{Answer, Lent, LentRecord, Sizes, holds_desk};
 
 pub trait Core {
   /// For the printed report.
@@ -46,6 +46,16 @@ pub trait Core {
   /// Runs the sheet that is lent in the source's place. None where the core runs no
   /// sheets.
   fn run_sheet(&mut self, _lent: &mut Lent, _answers: &mut [u8]) -> Option<Answer> {
+    None
+  }
+
+  /// Makes a call and files it in the record. None where the core files no calls.
+  fn file(&mut self, _lent: &mut Lent, _record: &mut LentRecord, _call: &[u8]) -> Option<Answer> {
+    None
+  }
+
+  /// Takes the k-th call out of the record. None where the core withdraws no calls.
+  fn withdraw(&mut self, _lent: &mut Lent, _record: &mut LentRecord, _k: u32) -> Option<Answer> {
     None
   }
 }

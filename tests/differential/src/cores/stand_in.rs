@@ -6,7 +6,14 @@
 use oracle::{Call, Desk, apply, number, random::Random};
 
 use super::{Core, Unseen, verdict};
-use crate::{Answer, Lent, Sizes, image, image::Style, keeps, sheets::reading};
+use crate::{
+  Answer, Lent, LentRecord, Sizes,
+  image::{self, Style},
+  keeps,
+  layout::{RECORD_ANSWERS, RECORD_USED},
+  sheets::reading,
+  sittings::reading as sittings,
+};
 
 #[derive(Debug, Clone)]
 pub struct StandIn {
@@ -38,6 +45,13 @@ impl StandIn {
     }
   }
 
+  /// The desk in this memory; none where it is not well formed.
+  fn desk(&mut self, lent: &Lent) -> Option<Desk> {
+    let sizes = lent.sizes().filter(|_| self.well_formed(lent) == Answer::ACCEPTED)?;
+    let data = image::decode(lent.source, lent.chunks, lent.pieces, lent.store);
+    Some(Desk::build(sizes.limits(), &data))
+  }
+
   fn lay_out(&mut self, sizes: Sizes, desk: &Desk, lent: &mut Lent) {
     let style = Style::any(&mut self.random).sized(sizes);
     let image = image::encode_in(style, &desk.data(), &mut self.random);
@@ -56,11 +70,9 @@ impl Core for StandIn {
     if matches!(call, Call::Open { .. }) {
       return self.open(lent);
     }
-    let Some(sizes) = lent.sizes().filter(|_| self.well_formed(lent) == Answer::ACCEPTED) else {
+    let (Some(sizes), Some(mut desk)) = (lent.sizes(), self.desk(lent)) else {
       return Answer::NO_DESK;
     };
-    let data = image::decode(lent.source, lent.chunks, lent.pieces, lent.store);
-    let mut desk = Desk::build(sizes.limits(), &data);
     let mut call = call.clone();
     if let Some(room) = call.room_mut() {
       *room = Some(out.len() as u32);
@@ -97,5 +109,43 @@ impl Core for StandIn {
         Answer { number: number::ACCEPTED, value: ran.answers.len() as u32 }
       }
     })
+  }
+
+  /// By the plain reading. There is no inner function for it.
+  fn file(&mut self, lent: &mut Lent, record: &mut LentRecord, call: &[u8]) -> Option<Answer> {
+    if self.any_size {
+      return None;
+    }
+    let mut desk = self.desk(lent);
+    let mut entries = sittings::read(record.words, record.bytes);
+    let count = entries.as_ref().map_or(0, Vec::len);
+    let answer = sittings::file(desk.as_mut(), entries.as_mut(), call);
+    if let (Some(desk), Some(entries)) = (desk, entries)
+      && let Some(filed) = entries.get(count)
+    {
+      record.write(&entries);
+      if !keeps::every_byte(&filed.call, answer.number) {
+        self.lay_out(Sizes::FULL, &desk, lent);
+      }
+    }
+    Some(Answer { number: answer.number, value: answer.value })
+  }
+
+  /// By the plain reading, too. What it frees holds anything.
+  fn withdraw(&mut self, lent: &mut Lent, record: &mut LentRecord, k: u32) -> Option<Answer> {
+    if self.any_size {
+      return None;
+    }
+    let mut desk = self.desk(lent);
+    let mut entries = sittings::read(record.words, record.bytes);
+    let answer = sittings::withdraw(desk.as_mut(), entries.as_mut(), k);
+    if let (Some(desk), Some(entries), number::ACCEPTED) = (desk, entries, answer.number) {
+      let used = record.words[RECORD_USED] as usize;
+      record.bytes[..used].fill(self.random.number() as u8);
+      record.bytes[RECORD_ANSWERS + entries.len()] = self.random.number() as u8;
+      record.write(&entries);
+      self.lay_out(Sizes::FULL, &desk, lent);
+    }
+    Some(Answer { number: answer.number, value: answer.value })
   }
 }

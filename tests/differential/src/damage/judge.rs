@@ -14,6 +14,7 @@ use crate::{
     fields::{Fields, kind},
     run::run_in,
   },
+  sittings::{Memory, Sides, Written, call_bytes},
   step::Both,
 };
 
@@ -47,6 +48,8 @@ pub struct Judge<'a, C> {
   every: [Vec<Call>; 2],
   /// Those of the first that a sheet can have.
   records: Vec<Call>,
+  /// A record of them.
+  filed: Memory,
   before: Image,
   pub verdicts: Verdicts,
 }
@@ -59,7 +62,8 @@ impl<'a, C: Core> Judge<'a, C> {
     let mut records = every[0].clone();
     records.retain(|call| kind(call).is_some());
     every.iter_mut().for_each(|calls| calls.retain(|call| core.has(call)));
-    Self { core, random, every, records, before, verdicts: Verdicts::default() }
+    let filed = Memory::of(&Written::calls(&records), &mut random);
+    Self { core, random, every, records, filed, before, verdicts: Verdicts::default() }
   }
 
   /// Judges the image, which is left as it is.
@@ -71,6 +75,7 @@ impl<'a, C: Core> Judge<'a, C> {
       .verdict(image, holds)
       .and_then(|()| self.open(image))
       .and_then(|()| self.run_sheet(image))
+      .and_then(|()| self.file_and_withdraw(image))
       .and_then(|()| if holds { self.calls_on_desk(image) } else { self.calls_on_no_desk(image) });
     judged.map_err(|what| Found { kind, what, image: Box::new(self.before.clone()) })
   }
@@ -139,6 +144,20 @@ impl<'a, C: Core> Judge<'a, C> {
     let memory = Image { source: sheet, ..image.clone() };
     let ran = run_in(self.core, memory, self.records.len(), &mut self.random);
     self.verdicts.calls += ran.map_err(|what| format!("run_sheet: {what}"))?.is_some() as u64;
+    Ok(())
+  }
+
+  /// Where it is no desk, filing and withdrawing give 2 too and leave every byte, beside a
+  /// record that is in order, with arguments that are and with others.
+  fn file_and_withdraw(&mut self, image: &Image) -> Result<(), String> {
+    let mut sides = Sides::of(image.clone(), self.filed.clone());
+    let call = self.records.get(self.random.below(self.records.len() + 1));
+    let call = call.map_or(Vec::new(), call_bytes);
+    let k = self.random.below(3) as u32;
+    let filed = sides.file(self.core, &call, &mut self.random);
+    let filed = filed.map_err(|what| format!("file: {what}"))?;
+    let withdrawn = sides.withdraw(self.core, k).map_err(|what| format!("withdraw {k}: {what}"))?;
+    self.verdicts.calls += filed.is_some() as u64 + withdrawn.is_some() as u64;
     Ok(())
   }
 

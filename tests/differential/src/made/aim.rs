@@ -65,7 +65,7 @@ impl Aim {
   }
 
   /// At one or more of the limits, or a little below.
-  fn near_limits(random: &mut Random) -> Self {
+  pub fn near_limits(random: &mut Random) -> Self {
     let mut aim = Self { source: random.between(1_600, 3_000), ..Self::medium(random) };
     let which = random.between(1, 15);
     let mut near = |limit: usize| limit - [0, 0, 0, 1, 2, 3, 8, 30][random.below(8)];

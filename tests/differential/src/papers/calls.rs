@@ -34,12 +34,19 @@ impl Caller {
   }
 
   /// Makes the call on the oracle's side.
-  pub(super) fn made(&mut self, call: Call) -> Made {
+  pub fn made(&mut self, call: Call) -> Made {
     apply(&mut self.desk, &call);
     if call.is_edit() {
       self.data = self.desk.data();
     }
     Made { call, seed: self.random.number() }
+  }
+
+  /// Changes the oracle's desk in another way than by a call.
+  pub fn change<T>(&mut self, change: impl FnOnce(&mut Desk) -> T) -> T {
+    let changed = change(&mut self.desk);
+    self.data = self.desk.data();
+    changed
   }
 
   fn any(&mut self) -> Call {
@@ -75,7 +82,7 @@ impl Caller {
   }
 
   /// A source of any length, at and past the limit too, UTF-8 or not.
-  pub(super) fn source(&mut self) -> Vec<u8> {
+  pub fn source(&mut self) -> Vec<u8> {
     let len = [0, 5, 20, 200, MOST_SOURCE, MOST_SOURCE + 1][self.random.below(6)];
     if self.random.one_in(6) {
       return made::invalid(len, &mut self.random);
@@ -102,7 +109,7 @@ impl Caller {
     Call::UpdateWith { start, end, overwrite, text }
   }
 
-  pub(super) fn bytes_left(&self) -> usize {
+  pub fn bytes_left(&self) -> usize {
     self.desk.limits().bytes - self.desk.counts().bytes
   }
 }

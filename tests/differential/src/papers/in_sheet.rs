@@ -50,11 +50,7 @@ fn long(random: &mut Random) -> InSheet {
 fn many_chunks(random: &mut Random) -> InSheet {
   let mut writer = Writer::new(random.between(2_000, 6_000), random);
   while writer.takes(MOST_RECORDS) {
-    let call = match random.below(2) {
-      _ if writer.caller.data.chunks.len() + 3 < MOST_CHUNKS => writer.caller.three_cuts(),
-      0 => writer.caller.edit(),
-      _ => writer.caller.cut().call,
-    };
+    let call = writer.caller.to_most_chunks();
     writer.write(call);
   }
   writer.paper("random sheets, many chunks")
@@ -64,12 +60,7 @@ fn many_chunks(random: &mut Random) -> InSheet {
 fn many_bytes(random: &mut Random) -> InSheet {
   let mut writer = Writer::new(random.between(1, 40), random);
   for _ in 0..random.between(4, 40) {
-    let left = writer.caller.bytes_left();
-    let mut call = writer.caller.edit();
-    if let Some(text) = call.text_mut() {
-      let len = [left.saturating_sub(1), left, left + 1, left / 2, 3][random.below(5)];
-      *text = made::text(len, random).into_bytes();
-    }
+    let call = writer.caller.with_text_of(writer.caller.bytes_left());
     writer.write(call);
   }
   writer.paper("random sheets, many bytes")
@@ -133,24 +124,15 @@ impl Writer {
   /// Writes random calls up to so many records.
   fn any(&mut self, records: usize) {
     while self.takes(records) {
-      let call = match self.caller.random.below(12) {
-        0 => self.caller.replace_chunk(),
-        1 => self.caller.cut().call,
-        _ => self.caller.edit(),
-      };
+      let call = self.caller.in_sheet();
       self.write(call);
     }
   }
 
   /// Writes the call if a sheet can have it, with as much of its text as there is
   /// room for.
-  fn write(&mut self, mut call: Call) {
-    if let Call::UpdateWith { overwrite, .. } = &mut call {
-      *overwrite = 1;
-    }
-    if kind(&call).is_none() {
-      return;
-    }
+  fn write(&mut self, call: Call) {
+    let Some(mut call) = as_in_sheet(call) else { return };
     let over = size(&call).saturating_sub(self.left);
     if let Some(text) = call.text_mut() {
       text.truncate(text.len().saturating_sub(over));
@@ -171,7 +153,50 @@ fn size(call: &Call) -> usize {
   3 + 4 * call.positions().len() + call.text().map_or(0, <[u8]>::len)
 }
 
+/// The call with the options that a sheet's records have, if one of them makes it.
+fn as_in_sheet(mut call: Call) -> Option<Call> {
+  if let Call::UpdateWith { overwrite, .. } = &mut call {
+    *overwrite = 1;
+  }
+  kind(&call).is_some().then_some(call)
+}
+
 impl Caller {
+  /// A call of a sheet's kinds, chosen but not made.
+  pub fn in_sheet(&mut self) -> Call {
+    loop {
+      let call = match self.random.below(12) {
+        0 => self.replace_chunk(),
+        1 => self.cut().call,
+        _ => self.edit(),
+      };
+      if let Some(call) = as_in_sheet(call) {
+        return call;
+      }
+    }
+  }
+
+  /// A move that cuts three times, as long as there may be so many chunks; then any call of
+  /// a sheet's kinds, or one that cuts.
+  pub fn to_most_chunks(&mut self) -> Call {
+    if self.data.chunks.len() + 3 < MOST_CHUNKS {
+      return self.three_cuts();
+    }
+    let cut = self.cut().call;
+    as_in_sheet(cut).filter(|_| self.random.one_in(2)).unwrap_or_else(|| self.in_sheet())
+  }
+
+  /// A call of a sheet's kinds. Its text, if it has one, has so many bytes, one less or
+  /// one more, or half as many, or few.
+  pub fn with_text_of(&mut self, len: usize) -> Call {
+    let mut call = self.in_sheet();
+    if let Some(text) = call.text_mut() {
+      let len = [len.saturating_sub(1), len, len + 1, len / 2, 3][self.random.below(5)];
+      *text = made::text(len, &mut self.random).into_bytes();
+    }
+    call
+  }
+
   /// A move with three places inside chunks, chosen but not made.
   fn three_cuts(&mut self) -> Call {
     let mut places = [(); 3].map(|()| self.between_characters());

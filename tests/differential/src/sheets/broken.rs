@@ -12,16 +12,25 @@ use super::fields::{Fields, Record};
 pub type Tried = (&'static str, Vec<u8>);
 
 pub fn all() -> Vec<Tried> {
-  let mut all = kinds_and_lengths();
+  let with = |sheet: Fields| ("a kind with a length", sheet.bytes());
+  let mut all: Vec<Tried> = kinds_and_lengths().map(with).collect();
   for sheet in small() {
     all.push(("small sheets", sheet.bytes()));
-    all.extend(cut_short(&sheet));
-    all.extend(bits(&sheet));
-    let changed = (0..sheet.records.len()).flat_map(|place| record_changed(&sheet, place));
-    let changed = head_changed(&sheet).into_iter().chain(changed).chain(lengthened(&sheet));
+    all.extend(cut_short(&sheet.bytes()));
+    all.extend(bits(&sheet.bytes()));
+    let changed = head_changed(&sheet).into_iter().chain(list_changed(&sheet));
     all.extend(changed.map(|(tries, sheet)| (tries, sheet.bytes())));
   }
   all
+}
+
+/// The records of these calls, with a rule broken in each place.
+pub fn lists(calls: &[Call]) -> Vec<Vec<u8>> {
+  let sheet = Fields::of(b"", calls);
+  let list = sheet.list();
+  let short_or_turned = cut_short(&list).into_iter().chain(bits(&list)).map(|(_, list)| list);
+  let changed = list_changed(&sheet).into_iter().map(|(_, sheet)| sheet.list());
+  short_or_turned.chain(changed).collect()
 }
 
 /// The request's example, sheets with little in them, and one with every kind.
@@ -41,7 +50,7 @@ fn insert(setting: Setting, at: u32, text: &[u8]) -> Call {
 }
 
 /// Each kind once, and a text that is not UTF-8.
-fn every_kind() -> Vec<Call> {
+pub fn every_kind() -> Vec<Call> {
   vec![
     insert(APPEND_LEFT, 3, b"<"),
     UpdateWith { start: 1, end: 3, overwrite: 1, text: "É".into() },
@@ -55,21 +64,25 @@ fn every_kind() -> Vec<Call> {
   ]
 }
 
-/// The sheet's bytes up to each place.
-fn cut_short(sheet: &Fields) -> Vec<Tried> {
-  let bytes = sheet.bytes();
+/// The bytes up to each place.
+fn cut_short(bytes: &[u8]) -> Vec<Tried> {
   (0..bytes.len()).map(|len| ("cut short", bytes[..len].to_vec())).collect()
 }
 
 /// Each bit turned.
-fn bits(sheet: &Fields) -> Vec<Tried> {
-  let bytes = sheet.bytes();
+fn bits(bytes: &[u8]) -> Vec<Tried> {
   let turned = |bit: usize| {
-    let mut bytes = bytes.clone();
+    let mut bytes = bytes.to_vec();
     bytes[bit / 8] ^= 1 << (bit % 8);
     ("a bit turned", bytes)
   };
   (0..8 * bytes.len()).map(turned).collect()
+}
+
+/// Each record changed, and bytes behind the last.
+fn list_changed(sheet: &Fields) -> Vec<(&'static str, Fields)> {
+  let changed = (0..sheet.records.len()).flat_map(|place| record_changed(sheet, place));
+  changed.chain(lengthened(sheet)).collect()
 }
 
 /// Bytes behind the last record that are none.
@@ -124,13 +137,12 @@ fn beside(len: u16) -> [u16; 7] {
 
 /// One record of each kind and of some that are none, of each length up to a byte more
 /// than any kind's positions have.
-fn kinds_and_lengths() -> Vec<Tried> {
+pub fn kinds_and_lengths() -> impl Iterator<Item = Fields> {
   let kinds = (0..=16).chain(0x80..=0x88).chain([0xff]);
   let record = |kind, len| {
     let mut body = vec![kind];
     body.resize(len, 0);
-    let sheet = Fields { records: vec![Record::new(body)], ..Fields::of(b"abc", &[]) };
-    ("a kind with a length", sheet.bytes())
+    Fields { records: vec![Record::new(body)], ..Fields::of(b"abc", &[]) }
   };
-  kinds.flat_map(|kind| (0..=14).map(move |len| record(kind, len))).collect()
+  kinds.flat_map(move |kind| (0..=14).map(move |len| record(kind, len)))
 }

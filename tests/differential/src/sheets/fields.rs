@@ -32,12 +32,13 @@ impl Fields {
     let mut bytes = vec![self.version];
     bytes.extend(self.source_len.to_be_bytes());
     bytes.extend(&self.source);
-    for Record { len, body } in &self.records {
-      bytes.extend(len.to_be_bytes());
-      bytes.extend(body);
-    }
-    bytes.extend(&self.rest);
+    bytes.extend(self.list());
     bytes
+  }
+
+  /// What stands behind the source.
+  pub fn list(&self) -> Vec<u8> {
+    [join_list(&self.records), self.rest.clone()].concat()
   }
 
   /// Where the record at this place of the list begins.
@@ -51,18 +52,36 @@ impl Fields {
   pub fn split(bytes: &[u8]) -> Option<Self> {
     let (&[version, high, low], bytes) = bytes.split_first_chunk()?;
     let source_len = u16::from_be_bytes([high, low]);
-    let (source, mut rest) = bytes.split_at(bytes.len().min(source_len.into()));
-    let mut records = Vec::new();
-    while let Some((&len, behind)) = rest.split_first_chunk()
-      && let len = u16::from_be_bytes(len)
-      && let Some((body, behind)) = behind.split_at_checked(len.into())
-    {
-      records.push(Record { len, body: body.to_vec() });
-      rest = behind;
-    }
+    let (source, list) = bytes.split_at(bytes.len().min(source_len.into()));
+    let (records, rest) = split_list(list);
     Some(Self { version, source_len, source: source.to_vec(), records, rest: rest.to_vec() })
   }
 }
+
+/// The whole records at the front of these bytes, and what stands behind them.
+pub fn split_list(bytes: &[u8]) -> (Vec<Record>, &[u8]) {
+  let mut records = Vec::new();
+  let mut rest = bytes;
+  while let Some((&len, behind)) = rest.split_first_chunk()
+    && let len = u16::from_be_bytes(len)
+    && let Some((body, behind)) = behind.split_at_checked(len.into())
+  {
+    records.push(Record { len, body: body.to_vec() });
+    rest = behind;
+  }
+  (records, rest)
+}
+
+/// The records one behind the other.
+pub fn join_list(records: &[Record]) -> Vec<u8> {
+  records.iter().map(Record::bytes).collect::<Vec<_>>().concat()
+}
+
+/// How many of so many bytes are dropped.
+pub type Drop = fn(usize) -> usize;
+
+/// What is tried to make a text shorter: without all of it, half of it, a byte.
+pub const DROPS: [Drop; 3] = [|len| len, |len| len / 2, |_| 1];
 
 impl Record {
   pub fn new(body: Vec<u8>) -> Self {
@@ -75,6 +94,10 @@ impl Record {
     body.extend(call.positions().into_iter().flat_map(u32::to_be_bytes));
     body.extend(call.text().unwrap_or_default());
     Self::new(body)
+  }
+
+  pub fn bytes(&self) -> Vec<u8> {
+    [&self.len.to_be_bytes()[..], &self.body].concat()
   }
 
   /// How many positions a record of this kind has.
@@ -92,6 +115,14 @@ impl Record {
     let at = 1 + 4 * self.positions();
     let has_text = matches!(self.body.first(), Some(2 | 4..=7)) && at <= self.body.len();
     has_text.then_some(at)
+  }
+
+  /// Drops some of the text, if it has one.
+  pub fn shorten(&mut self, drop: Drop) {
+    let Some(at) = self.text_at() else { return };
+    let len = self.body.len() - at;
+    self.body.truncate(at + len - drop(len).min(len));
+    self.len = length(&self.body);
   }
 
   /// Lowers each position by so much, or to 0.

@@ -2,7 +2,7 @@
 //! rules broken one by one in every place, what is lent beside a sheet, and random
 //! sheets; and the program's output for many of them.
 
-mod broken;
+pub mod broken;
 pub mod fields;
 mod handed;
 pub mod lent;
@@ -19,7 +19,7 @@ use std::time::{Duration, Instant};
 pub use handed::Handed;
 use oracle::random::Random;
 pub use program::Program;
-pub use random_sheets::handed as random;
+pub use random_sheets::{call_changed, handed as random};
 pub use tally::Tally;
 
 use crate::Core;

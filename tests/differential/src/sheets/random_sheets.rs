@@ -1,7 +1,9 @@
 //! Random sheets, each the same for the same seed: most keep the rules, in some one
 //! is broken.
 
-use oracle::random::Random;
+use std::slice;
+
+use oracle::{Call, random::Random};
 
 use super::{
   Handed,
@@ -9,7 +11,7 @@ use super::{
   fields::Fields,
   reading::MOST_RECORDS,
 };
-use crate::papers::in_sheet;
+use crate::{layout::SHEET_FRONT, papers::in_sheet};
 
 /// One sheet in so many is for the program too.
 const PRINTED: usize = 8;
@@ -27,6 +29,13 @@ pub fn handed(seed: u64) -> Handed {
   let printed = random.one_in(PRINTED);
   let room = room(sheet.records.len(), random);
   Handed { room, printed, ..Handed::new(tries, bytes, random.number()) }
+}
+
+/// The record of this call alone, changed as a sheet is.
+pub fn call_changed(call: &Call, random: &mut Random) -> Vec<u8> {
+  let sheet = Fields::of(b"", slice::from_ref(call));
+  let changed = [field_changed, bits_turned, cut_short][random.below(3)](&sheet, random);
+  changed.get(SHEET_FRONT..).unwrap_or_default().to_vec()
 }
 
 /// As many answers as there are records, or room for more, rarely for fewer.

@@ -22,13 +22,20 @@ pub fn read(sheet: &[u8]) -> Option<Sheet> {
   let [version] = rest.bytes()?;
   let source_len = rest.length()?;
   let source = rest.take(source_len)?.to_vec();
+  let records = records(rest.0)?;
+  let holds = version == 1 && records.len() <= MOST_RECORDS && sheet.len() <= MOST_SHEET;
+  holds.then_some(Sheet { source, records })
+}
+
+/// Whole records up to the end. None where one breaks a rule.
+pub fn records(bytes: &[u8]) -> Option<Vec<(u8, Call)>> {
+  let mut rest = Rest(bytes);
   let mut records = Vec::new();
   while !rest.0.is_empty() {
     let len = rest.length()?;
     records.push(record(rest.take(len)?)?);
   }
-  let holds = version == 1 && records.len() <= MOST_RECORDS && sheet.len() <= MOST_SHEET;
-  holds.then_some(Sheet { source, records })
+  Some(records)
 }
 
 /// What stands behind a record's length: "a kind byte, 32-bit positions, then text".

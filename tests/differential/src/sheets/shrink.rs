@@ -2,9 +2,10 @@
 //! the source shortened, and what is lent made plain.
 
 use super::{
-  fields::{Fields, Record},
+  fields::{DROPS, Drop, Fields},
   handed::{FULL, Handed},
 };
+use crate::drop_rows::drop_rows;
 
 /// Sheets that are tried at most.
 const MOST_TRIES: usize = 5_000;
@@ -61,36 +62,25 @@ impl<D: FnMut(&Handed) -> Option<String>> Shrinker<D> {
     Fields::split(&self.handed.sheet)
   }
 
-  /// Drops rows of records, long ones first, and what stands behind the last.
+  /// Drops what stands behind the last record, and records.
   fn drop_records(&mut self) {
     let Some(sheet) = self.fields() else { return };
-    let mut row = sheet.records.len();
     self.take_sheet(Fields { rest: Vec::new(), ..sheet });
-    while row > 0 {
-      let mut at = 0;
-      while let Some(mut sheet) = self.fields().filter(|sheet| at < sheet.records.len()) {
-        let end = sheet.records.len().min(at + row);
-        sheet.records.drain(at..end);
-        if !self.take_sheet(sheet) {
-          at += row;
-        }
-      }
-      row /= 2;
-    }
+    let len = |shrinker: &Self| shrinker.fields().map_or(0, |sheet| sheet.records.len());
+    drop_rows(self, len, |shrinker, row| {
+      let Some(mut sheet) = shrinker.fields() else { return false };
+      sheet.records.drain(row);
+      shrinker.take_sheet(sheet)
+    });
   }
 
   /// Each text to nothing, or as far down as it goes by halves and bytes.
   fn shorten_texts(&mut self) {
     let records = self.fields().map_or(0, |sheet| sheet.records.len());
     for place in 0..records {
-      let shorter = |sheet: &mut Fields, drop: fn(usize) -> usize| {
-        let Some(record) = sheet.records.get_mut(place) else { return };
-        let Some(at) = record.text_at() else { return };
-        let len = record.body.len() - at;
-        record.body.truncate(at + len - drop(len).min(len));
-        *record = Record::new(std::mem::take(&mut record.body));
-      };
-      self.shorten(shorter);
+      self.shorten(|sheet, drop| {
+        sheet.records.iter_mut().skip(place).take(1).for_each(|record| record.shorten(drop));
+      });
     }
   }
 
@@ -113,8 +103,7 @@ impl<D: FnMut(&Handed) -> Option<String>> Shrinker<D> {
 
   /// Drops all of a part, else half of it, else a byte, as long as one of them can be
   /// taken.
-  fn shorten(&mut self, shorter: impl Fn(&mut Fields, fn(usize) -> usize)) {
-    const DROPS: [fn(usize) -> usize; 3] = [|len| len, |len| len / 2, |_| 1];
+  fn shorten(&mut self, shorter: impl Fn(&mut Fields, Drop)) {
     let mut taken = true;
     while taken {
       taken = DROPS.into_iter().any(|drop| {

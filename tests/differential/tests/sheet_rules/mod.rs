@@ -1,6 +1,9 @@
 //! A second reading of sheets, each field at its place, by rules that can be changed
 //! one by one; and a core that runs sheets by it.
 
+// Each test uses a part of it.
+#![allow(dead_code)]
+
 use std::array;
 
 use differential::{Answer, Core, Lent, Unseen, cores::StandIn, image, layout::*};
@@ -121,13 +124,13 @@ impl Rules {
   }
 
   /// The length at this place, 0 where there is none.
-  fn length_at(&self, sheet: &[u8], at: usize) -> usize {
+  pub fn length_at(&self, sheet: &[u8], at: usize) -> usize {
     let field = sheet.get(at..at + 2).and_then(|field| field.try_into().ok());
     field.map_or(0, self.length).into()
   }
 
   /// The call of a record with so many bytes behind its length.
-  fn call(&self, record: &[u8], len: usize) -> Option<Call> {
+  pub fn call(&self, record: &[u8], len: usize) -> Option<Call> {
     let kind = self.kinds[usize::from(*record.get(2)?)];
     if !(self.fits)(kind, len) {
       return None;

@@ -15,7 +15,7 @@ use magic_string_sys::Answer;
 
 use crate::{Chunks, Refusal, ffi::Answered, layout::*, memory::Memory};
 
-/// A text and the edits filed on it: document 01's desk.
+/// A text and the edits made on it: document 01's desk.
 ///
 /// It owns its source and its tables, some 73 kB on the heap. Two are equal if
 /// they are the same desk: the same source and the same texts at the same places,
@@ -82,7 +82,7 @@ impl MagicString {
   }
 }
 
-/// What is filed.
+/// What stands on the desk.
 impl MagicString {
   /// The text that the desk was opened with.
   pub fn source(&self) -> &str {
@@ -156,9 +156,12 @@ impl MagicString {
   }
 }
 
-/// Edits stand in files of their own; each is made here.
+/// Edits stand in files of their own; each is made here, and so are the calls on a record.
 impl MagicString {
-  fn edit(&mut self, call: impl FnOnce(&mut Memory) -> Answer) -> Result<&mut Self, Refusal> {
+  pub(crate) fn edit(
+    &mut self,
+    call: impl FnOnce(&mut Memory) -> Answer,
+  ) -> Result<&mut Self, Refusal> {
     let Answer { number, value } = call(&mut self.memory);
     self.cuts = value;
     Refusal::answer(number)?;
@@ -267,7 +270,7 @@ impl fmt::Display for MagicString {
   }
 }
 
-/// What is filed, not the words of the tables.
+/// What stands on the desk, not the words of its tables.
 impl fmt::Debug for MagicString {
   fn fmt(&self, out: &mut fmt::Formatter) -> fmt::Result {
     out

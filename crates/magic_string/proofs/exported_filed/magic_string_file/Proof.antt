@@ -12,6 +12,9 @@ enum-known-used c = search needs
 enum-told : tie.Need-enum-told
 enum-told c = search needs
 
+not-well-formed-requires : tie.Need-not-well-formed-requires
+not-well-formed-requires c κs = search needs
+
 same-length : tie.Need-same-length
 same-length c = search needs
 
@@ -23,8 +26,10 @@ same-length-3 c = search needs
 
 returns : tie.Need-returns
 returns c =
-    let a = c .before .before .before .before .before .before .before .before .before .before .before .before .before .args in
-    sitting-no-desk (seen-none (a .source .now) (a .chunks .now) (a .pieces .now) (a .store .now) (c .enum-told .given .1) (c .before .before .taken .ensures))
+    let told = c .before in
+    let seen = told .before .before in
+    let a = seen .before .before .before .before .before .before .before .before .before .before .before .args in
+    sitting-no-desk (seen-none (a .source .now) (a .chunks .now) (a .pieces .now) (a .store .now) (told .enum-told .given .1) (seen .taken .ensures)) (c .not-well-formed .ensures)
 
 judge-record-requires : tie.Need-judge-record-requires
 judge-record-requires c κs = search needs
@@ -34,6 +39,9 @@ enum-known-size c = search needs
 
 enum-told-2 : tie.Need-enum-told-2
 enum-told-2 c = search needs
+
+not-well-formed-requires-2 : tie.Need-not-well-formed-requires-2
+not-well-formed-requires-2 c κs = search needs
 
 same-length-4 : tie.Need-same-length-4
 same-length-4 c = search needs
@@ -52,16 +60,20 @@ same-length-8 c = search needs
 
 returns-2 : tie.Need-returns-2
 returns-2 c =
-    let a = c .before .before .before .before .before .before .before .before .before .before .before .before .before .before .before .before .before .before .before .args in
-    sitting-no-record (held-none (a .words .now) (a .bytes .now) (c .enum-told2 .given .1) (c .before .before .judge-record .ensures))
+    let told = c .before in
+    let held = told .before .before in
+    let a = held .before .before .before .before .before .before .before .before .before .before .before .before .before .before .before .before .before .args in
+    sitting-no-record (held-none (a .words .now) (a .bytes .now) (told .enum-told2 .given .1) (held .judge-record .ensures)) (c .not-well-formed2 .ensures)
 
 file-requires : tie.Need-file-requires
 file-requires c κs =
-    let a = c .before .before .before .before .before .before .before .before .before .before .before .before .before .before .before .before .before .before .before .before .before .before .before .before .before .args in
-    let used = c .before .before .before .before .before .before .before .before .before .before .before .before .used in
-    let size = c .before .before .before .before .before .before .size in (
-      seen-desk (a .source .now) (a .chunks .now) (a .pieces .now) (a .store .now) (used .given .0 .0) (used .given .1) (c .before .before .before .before .before .before .before .before .before .before .before .before .before .before .taken .ensures),
-      held-record (a .words .now) (a .bytes .now) (size .given .0 .0) (size .given .1) (c .before .before .before .before .before .before .before .before .judge-record .ensures),
+    let size = c .before .before .before .before .before .before in
+    let held = size .before .before in
+    let used = held .before .before .before .before in
+    let seen = used .before .before in
+    let a = seen .before .before .before .before .before .before .before .before .before .before .before .args in (
+      seen-desk (a .source .now) (a .chunks .now) (a .pieces .now) (a .store .now) (used .used .given .0 .0) (used .used .given .1) (seen .taken .ensures),
+      held-record (a .words .now) (a .bytes .now) (size .size .given .0 .0) (size .size .given .1) (held .judge-record .ensures),
     )
 
 same-length-9 : tie.Need-same-length-9
@@ -81,11 +93,14 @@ same-length-13 c = search needs
 
 returns-3 : tie.Need-returns-3
 returns-3 c =
-    let a = c .before .before .before .before .before .before .before .before .before .before .before .before .before .before .before .before .before .before .before .before .before .before .before .before .before .before .before .before .before .before .before .before .before .before .before .before .args in
-    let used = c .before .before .before .before .before .before .before .before .before .before .before .before .before .before .before .before .before .before .before .before .before .before .before .used in
-    let size = c .before .before .before .before .before .before .before .before .before .before .before .before .before .before .before .before .before .size in
-    sitting-yes (seen-taken (a .source .now) (a .chunks .now) (a .pieces .now) (a .store .now) (used .given .0 .0) (used .given .1) (c .before .before .before .before .before .before .before .before .before .before .before .before .before .before .before .before .before .before .before .before .before .before .before .before .before .taken .ensures))
-    (held-record (a .words .now) (a .bytes .now) (size .given .0 .0) (size .given .1) (c .before .before .before .before .before .before .before .before .before .before .before .before .before .before .before .before .before .before .before .judge-record .ensures)) (c .before .before .before .before .before .before .before .before .before .before .file .ensures)
+    let done = c .before .before .before .before .before .before .before .before .before .before in
+    let size = done .before .before .before .before .before .before .before in
+    let held = size .before .before in
+    let used = held .before .before .before .before in
+    let seen = used .before .before in
+    let a = seen .before .before .before .before .before .before .before .before .before .before .before .args in
+    sitting-yes (seen-taken (a .source .now) (a .chunks .now) (a .pieces .now) (a .store .now) (used .used .given .0 .0) (used .used .given .1) (seen .taken .ensures))
+    (held-record (a .words .now) (a .bytes .now) (size .size .given .0 .0) (size .size .given .1) (held .judge-record .ensures)) (done .file .ensures)
 
 pub magic-string-file-spec : {M : Type 1} → statement M
 magic-string-file-spec =
@@ -94,6 +109,7 @@ magic-string-file-spec =
     taken-requires
     enum-known-used
     enum-told
+    not-well-formed-requires
     same-length
     same-length-2
     same-length-3
@@ -101,6 +117,7 @@ magic-string-file-spec =
     judge-record-requires
     enum-known-size
     enum-told-2
+    not-well-formed-requires-2
     same-length-4
     same-length-5
     same-length-6

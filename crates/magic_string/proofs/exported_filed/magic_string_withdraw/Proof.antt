@@ -15,6 +15,9 @@ enum-known-size c = search needs
 enum-told : tie.Need-enum-told
 enum-told c = search needs
 
+not-well-formed-requires : tie.Need-not-well-formed-requires
+not-well-formed-requires c κs = search needs
+
 same-length : tie.Need-same-length
 same-length c = search needs
 
@@ -32,15 +35,19 @@ same-length-5 c = search needs
 
 returns : tie.Need-returns
 returns c =
-    let a = c .before .before .before .before .before .before .before .before .before .before .before .before .before .before .before .before .args in
-    sitting-no-record (held-none (a .words .now) (a .bytes .now) (c .enum-told .given .1) (c .before .before .judge-record .ensures))
+    let told = c .before in
+    let held = told .before .before in
+    let a = held .before .before .before .before .before .before .before .before .before .before .before .before .before .before .args in
+    sitting-no-record (held-none (a .words .now) (a .bytes .now) (told .enum-told .given .1) (held .judge-record .ensures)) (c .not-well-formed .ensures)
 
 withdraw-requires : tie.Need-withdraw-requires
 withdraw-requires c κs =
-    let a = c .before .before .before .before .before .before .before .before .before .before .before .before .before .before .before .before .before .before .before .before .before .before .args in
-    let size = c .before .before .before .before .before .before .size in (
-      c .before .before .before .before .before .before .before .before .before .before .before .before .well-formed .ensures .yes (c .before .before .before .before .before .before .before .before .before .before .before .if1 .taken) .well-formed,
-      held-record (a .words .now) (a .bytes .now) (size .given .0 .0) (size .given .1) (c .before .before .before .before .before .before .before .before .judge-record .ensures),
+    let size = c .before .before .before .before .before .before in
+    let held = size .before .before in
+    let seen = held .before .before .before in
+    let a = seen .before .before .before .before .before .before .before .before .before .before .before .args in (
+      seen .before .well-formed .ensures .yes (seen .if1 .taken) .well-formed,
+      held-record (a .words .now) (a .bytes .now) (size .size .given .0 .0) (size .size .given .1) (held .judge-record .ensures),
     )
 
 same-length-6 : tie.Need-same-length-6
@@ -60,10 +67,16 @@ same-length-10 c = search needs
 
 returns-2 : tie.Need-returns-2
 returns-2 c =
-    let a = c .before .before .before .before .before .before .before .before .before .before .before .before .before .before .before .before .before .before .before .before .before .before .before .before .before .before .before .before .before .before .before .before .before .args in
-    let size = c .before .before .before .before .before .before .before .before .before .before .before .before .before .before .before .before .before .size in
-    sitting-yes (c .before .before .before .before .before .before .before .before .before .before .before .before .before .before .before .before .before .before .before .before .before .before .before .well-formed .ensures .yes (c .before .before .before .before .before .before .before .before .before .before .before .before .before .before .before .before .before .before .before .before .before .before .if1 .taken))
-    (held-record (a .words .now) (a .bytes .now) (size .given .0 .0) (size .given .1) (c .before .before .before .before .before .before .before .before .before .before .before .before .before .before .before .before .before .before .before .judge-record .ensures)) (c .before .before .before .before .before .before .before .before .before .before .withdraw .ensures)
+    let done = c .before .before .before .before .before .before .before .before .before .before in
+    let size = done .before .before .before .before .before .before .before in
+    let held = size .before .before in
+    let seen = held .before .before .before in
+    let a = seen .before .before .before .before .before .before .before .before .before .before .before .args in
+    sitting-yes (seen .before .well-formed .ensures .yes (seen .if1 .taken))
+    (held-record (a .words .now) (a .bytes .now) (size .size .given .0 .0) (size .size .given .1) (held .judge-record .ensures)) (done .withdraw .ensures)
+
+not-well-formed-requires-2 : tie.Need-not-well-formed-requires-2
+not-well-formed-requires-2 c κs = search needs
 
 same-length-11 : tie.Need-same-length-11
 same-length-11 c = search needs
@@ -76,7 +89,7 @@ same-length-13 c = search needs
 
 returns-3 : tie.Need-returns-3
 returns-3 c =
-    sitting-no-desk (c .before .well-formed .ensures .no (c .if1 .left))
+    sitting-no-desk (c .before .before .well-formed .ensures .no (c .before .if1 .left)) (c .not-well-formed2 .ensures)
 
 pub magic-string-withdraw-spec : {M : Type 1} → statement M
 magic-string-withdraw-spec =
@@ -86,6 +99,7 @@ magic-string-withdraw-spec =
     judge-record-requires
     enum-known-size
     enum-told
+    not-well-formed-requires
     same-length
     same-length-2
     same-length-3
@@ -99,6 +113,7 @@ magic-string-withdraw-spec =
     same-length-9
     same-length-10
     returns-2
+    not-well-formed-requires-2
     same-length-11
     same-length-12
     same-length-13

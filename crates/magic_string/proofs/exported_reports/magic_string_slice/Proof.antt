@@ -24,7 +24,9 @@ returns : tie.Need-returns
 returns c =
     let a = c .before .before .before .before .before .before .before .before .before .before .before .before .args in
     let option = c .before .before .before .before .before .before .flag in
-    reported-as (ap (λ (o : Bool). Slice (a .start) (endOf o (a .end)) (length (a .out .now))) (option .ensures)) (reported-yes (c .before .before .before .before .before .well-formed .ensures .yes (c .before .before .before .before .if1 .taken)) (c .before .before .slice .ensures))
+    let desk = c .before .before .before .before in
+    reported-as (ap (λ (o : Bool). Slice (a .start) (endOf o (a .end)) (length (a .out .now))) (option .ensures))
+    (reported-yes (desk .before .well-formed .ensures .yes (desk .if1 .taken)) (c .before .before .slice .ensures))
 
 returns-2 : tie.Need-returns-2
 returns-2 c = reported-no (c .before .well-formed .ensures .no (c .if1 .left))

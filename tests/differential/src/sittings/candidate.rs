@@ -1,0 +1,128 @@
+//! A candidate chooses actions at random, aimed at the desk as those before them leave it.
+
+use oracle::{Call, DeskData, random::Random};
+
+use super::{
+  Action, Sitting, Written,
+  memory::call_bytes,
+  reading::{self, Entry},
+};
+use crate::{Start, made, papers::Caller, sheets::call_changed};
+
+/// Chooses actions, and does them by the reading.
+pub struct Candidate {
+  start: DeskData,
+  written: Written,
+  pub caller: Caller,
+  pub record: Vec<Entry>,
+  actions: Vec<Action>,
+  random: Random,
+}
+
+impl Candidate {
+  /// At this desk, with these calls in the record, which may have any answers.
+  pub fn new(desk: DeskData, calls: Vec<Call>, random: &mut Random) -> Self {
+    Self {
+      caller: Caller::new(desk.clone(), random.number()),
+      start: desk,
+      written: Written::calls(&calls),
+      record: calls.into_iter().map(|call| Entry { call, answer: 0 }).collect(),
+      actions: Vec::new(),
+      random: Random::new(random.number()),
+    }
+  }
+
+  pub fn sitting(mut self, tries: &'static str) -> Sitting {
+    let start = Start::Desk { desk: self.start, seed: self.random.number() };
+    let seed = self.random.number();
+    let (record, actions) = (self.written, self.actions);
+    Sitting { tries, start, harm: None, record, actions, seed }
+  }
+
+  /// So many actions.
+  pub fn any(&mut self, count: usize) {
+    for _ in 0..count {
+      match self.random.below(20) {
+        0..=10 => self.file_any(),
+        11..=14 => self.withdraw_any(),
+        15 => {
+          let count = self.record.len() as u32;
+          let k = [0, count + 1, count + 2, count + 0x100, u32::MAX][self.random.below(5)];
+          self.withdraw(k);
+        }
+        16 => self.file_changed(),
+        17 => self.open_anew(),
+        _ => self.make_any(),
+      }
+    }
+  }
+
+  pub fn file_any(&mut self) {
+    let call = self.caller.in_sheet();
+    self.file(call);
+  }
+
+  /// With as much of its text as a record's length allows.
+  pub fn file(&mut self, mut call: Call) {
+    let room = usize::from(u16::MAX) - 1 - 4 * call.positions().len();
+    if let Some(text) = call.text_mut() {
+      text.truncate(room);
+    }
+    self.file_bytes(call_bytes(&call));
+  }
+
+  /// A call that breaks a rule, most often.
+  fn file_changed(&mut self) {
+    let call = self.caller.in_sheet();
+    if is_short(&call) {
+      let bytes = call_changed(&call, &mut self.random);
+      self.file_bytes(bytes);
+    }
+  }
+
+  fn file_bytes(&mut self, bytes: Vec<u8>) {
+    self.caller.change(|desk| reading::file(Some(desk), Some(&mut self.record), &bytes));
+    self.actions.push(Action::File(bytes));
+  }
+
+  /// One of the calls that are filed, often the first or the last.
+  pub fn withdraw_any(&mut self) {
+    let count = self.record.len();
+    if count > 0 {
+      let any = self.random.between(1, count);
+      let k = [1, count, any, any][self.random.below(4)];
+      self.withdraw(k as u32);
+    }
+  }
+
+  fn withdraw(&mut self, k: u32) {
+    self.caller.change(|desk| reading::withdraw(Some(desk), Some(&mut self.record), k));
+    self.actions.push(Action::Withdraw(k));
+  }
+
+  /// A call that is not filed, an edit most often.
+  fn make_any(&mut self) {
+    let made = self.caller.call_on_desk();
+    self.actions.push(Action::Make(made));
+  }
+
+  pub fn make(&mut self, call: Call) {
+    let made = self.caller.made(call);
+    self.actions.push(Action::Make(made));
+  }
+
+  /// Opens the same source or another, sometimes one that is refused. The record stays.
+  fn open_anew(&mut self) {
+    let source = match self.random.below(3) {
+      0 => self.caller.source(),
+      1 => made::text(self.random.between(0, 24), &mut self.random).into_bytes(),
+      _ => self.start.source.clone().into_bytes(),
+    };
+    self.make(Call::Open { source });
+  }
+}
+
+/// Whether it can be changed in many ways without many bytes.
+pub fn is_short(call: &Call) -> bool {
+  call.text().is_none_or(|text| text.len() < 1_000)
+}

@@ -1,0 +1,146 @@
+//! The memory of a record as it is lent, and cells beside it that are not lent.
+
+use std::ops::Range;
+
+use oracle::{Call, random::Random};
+
+use super::{Written, reading::Entry};
+use crate::{LentRecord, layout::*, sheets::fields::Record};
+
+/// Cells that are lent, in the middle of others.
+#[derive(Debug, Clone, PartialEq, Eq)]
+pub struct Cells<T> {
+  all: Vec<T>,
+  lent: Range<usize>,
+}
+
+impl<T: Copy> Cells<T> {
+  /// So many cells, at any place, with what `fill` gives in each.
+  fn new(len: usize, random: &mut Random, mut fill: impl FnMut(&mut Random) -> T) -> Self {
+    let ahead = random.between(8, 15);
+    let all = (0..ahead + len + 24).map(|_| fill(random)).collect();
+    Self { all, lent: ahead..ahead + len }
+  }
+
+  /// These cells, with junk beside them.
+  pub fn of(cells: &[T], random: &mut Random, junk: impl FnMut(&mut Random) -> T) -> Self {
+    let mut new = Self::new(cells.len(), random, junk);
+    new.lend().copy_from_slice(cells);
+    new
+  }
+
+  pub fn lent(&self) -> &[T] {
+    &self.all[self.lent.clone()]
+  }
+
+  pub fn lend(&mut self) -> &mut [T] {
+    &mut self.all[self.lent.clone()]
+  }
+}
+
+/// The words and the bytes of a record.
+#[derive(Debug, Clone, PartialEq, Eq)]
+pub struct Memory {
+  pub words: Cells<u32>,
+  pub bytes: Cells<u8>,
+}
+
+impl Memory {
+  /// What is written, with zeros in all other cells, or with junk.
+  pub fn of(written: &Written, random: &mut Random) -> Self {
+    let Written { used, calls, answers, lengths: [words, bytes] } = written;
+    let mask = if random.one_in(3) { 0 } else { u64::MAX };
+    let junk = |random: &mut Random| random.number() & mask;
+    let mut memory = Self {
+      words: Cells::new(*words, random, |random| junk(random) as u32),
+      bytes: Cells::new(*bytes, random, |random| junk(random) as u8),
+    };
+    put(memory.words.lend(), RECORD_USED, &[*used]);
+    put(memory.bytes.lend(), 0, calls);
+    put(memory.bytes.lend(), RECORD_ANSWERS, answers);
+    memory
+  }
+
+  /// An empty record.
+  pub fn empty(random: &mut Random) -> Self {
+    Self::of(&Written::calls(&[]), random)
+  }
+
+  pub fn lend(&mut self) -> LentRecord<'_> {
+    LentRecord { words: self.words.lend(), bytes: self.bytes.lend() }
+  }
+
+  /// How many bytes the filed calls have.
+  pub fn used(&self) -> usize {
+    self.words.lent()[RECORD_USED] as usize
+  }
+
+  /// Takes these bytes of the calls and these answers over from the other memory.
+  pub fn take_over(&mut self, other: &Self, calls: Range<usize>, answers: Range<usize>) {
+    let answers = RECORD_ANSWERS + answers.start..RECORD_ANSWERS + answers.end;
+    for freed in [calls, answers].into_iter().filter(|freed| !freed.is_empty()) {
+      self.bytes.lend()[freed.clone()].copy_from_slice(&other.bytes.lent()[freed]);
+    }
+  }
+
+  /// What differs from the memory that is expected, if anything does.
+  pub fn same_as(&self, expected: &Self) -> Result<(), String> {
+    if self == expected {
+      return Ok(());
+    }
+    let (bytes, others) = (self.bytes.lent(), expected.bytes.lent());
+    let place = bytes.iter().zip(others).position(|(byte, other)| byte != other);
+    let used = expected.words.lent().get(RECORD_USED);
+    Err(match (self.words.lent().get(RECORD_USED), place) {
+      (word, _) if word != used => format!("the used bytes are {word:?}, not {used:?}"),
+      (_, Some(at)) => {
+        let (byte, other) = (bytes[at], others[at]);
+        format!("byte {at} of the record is {byte}, not {other}")
+      }
+      _ => "a cell beside the record changed".to_string(),
+    })
+  }
+}
+
+/// Writes as many cells as there is room for.
+fn put<T: Copy>(cells: &mut [T], at: usize, written: &[T]) {
+  let room = cells.get_mut(at..).unwrap_or_default();
+  let len = room.len().min(written.len());
+  room[..len].copy_from_slice(&written[..len]);
+}
+
+impl LentRecord<'_> {
+  /// Writes the calls one behind the other, how many bytes they have, and the answers.
+  pub fn write(&mut self, record: &[Entry]) {
+    let Written { used, calls, answers, .. } = Written::of(record);
+    self.words[RECORD_USED] = used;
+    self.bytes[..calls.len()].copy_from_slice(&calls);
+    self.bytes[RECORD_ANSWERS..][..answers.len()].copy_from_slice(&answers);
+  }
+}
+
+/// The call in the form of a sheet's record.
+pub fn call_bytes(call: &Call) -> Vec<u8> {
+  Record::of(call).bytes()
+}
+
+#[cfg(test)]
+mod tests {
+  use super::*;
+
+  /// Cells beside those that are lent are compared too.
+  #[test]
+  fn cells_beside_are_told() {
+    let memory = Memory::empty(&mut Random::new(1));
+    for place in [0, memory.bytes.lent.start - 1, memory.bytes.lent.end] {
+      let mut other = memory.clone();
+      other.bytes.all[place] ^= 1;
+      assert!(other.same_as(&memory).is_err());
+    }
+    for place in [0, memory.words.lent.start - 1, memory.words.lent.end] {
+      let mut other = memory.clone();
+      other.words.all[place] ^= 1;
+      assert!(other.same_as(&memory).is_err());
+    }
+  }
+}

@@ -1,0 +1,56 @@
+//! Calls filed and withdrawn (document 02's L5) on a core and by a plain reading of the
+//! request: bounds, broken calls, damaged records and desks, and random sittings.
+
+mod bounds;
+mod candidate;
+mod damaged;
+pub mod due;
+mod memory;
+mod random_sittings;
+pub mod reading;
+pub mod run;
+mod shrink;
+mod sides;
+mod sitting;
+mod tally;
+
+use std::time::{Duration, Instant};
+
+pub use memory::{Memory, call_bytes};
+use oracle::random::Random;
+pub use random_sittings::sitting as random;
+pub use sides::{Filing, Sides, Withdrawal};
+pub use sitting::{Action, HARMS, Harm, Sitting, Written};
+pub use tally::Tally;
+
+use crate::{Core, run::Difference};
+
+/// What was compared, and the smallest sitting found on which the sides differ, if one
+/// was.
+pub struct Compared {
+  pub tally: Tally,
+  pub different: Option<(Sitting, Difference)>,
+}
+
+/// Compares all sittings of `chosen` and then random ones: until there were so many of
+/// them, time is up, or the sides differ.
+pub fn compare<C: Core + Clone>(core: &mut C, seed: u64, count: u64, most: Duration) -> Compared {
+  let began = Instant::now();
+  let mut seeds = Random::new(seed);
+  let mut tally = Tally::default();
+  let chosen = chosen(&mut seeds).into_iter();
+  let at_random = (0..count).map(|_| random(seeds.number()));
+  for sitting in chosen.chain(at_random.take_while(|_| began.elapsed() < most)) {
+    if let Err(found) = run::run(core, &sitting, &mut tally) {
+      return Compared { tally, different: Some(shrink::shrink(core, sitting, found)) };
+    }
+  }
+  Compared { tally, different: None }
+}
+
+/// The bounds of a record, every rule broken in every place, and every choice of
+/// refusals.
+pub fn chosen(seeds: &mut Random) -> Vec<Sitting> {
+  let all = [bounds::all(), damaged::all(), due::all()].concat().into_iter();
+  all.map(|sitting| sitting.seeded(seeds)).collect()
+}

@@ -1,0 +1,154 @@
+//! A sitting: a desk, a record beside it, and what is done with both.
+
+use std::fmt;
+
+use oracle::{Call, Desk, Limits, hex, random::Random};
+
+use super::{
+  memory::{Memory, call_bytes},
+  reading::{self, Entry},
+};
+use crate::{Image, Made, Sizes, Start, layout::*, sheets::reading::records};
+
+#[derive(Debug, Clone)]
+pub struct Sitting {
+  /// What it is there to try.
+  pub tries: &'static str,
+  pub start: Start,
+  /// What makes the desk none, if anything does.
+  pub harm: Option<Harm>,
+  pub record: Written,
+  pub actions: Vec<Action>,
+  /// Chooses the cells that are not looked at, and places.
+  pub seed: u64,
+}
+
+#[derive(Debug, Clone)]
+pub enum Action {
+  /// Files the call of these bytes.
+  File(Vec<u8>),
+  /// Withdraws the call with this number.
+  Withdraw(u32),
+  /// Makes a call that is not filed.
+  Make(Made),
+}
+
+impl Action {
+  pub fn file(call: &Call) -> Self {
+    Action::File(call_bytes(call))
+  }
+}
+
+/// What a record's memory holds at first.
+#[derive(Debug, Clone, PartialEq, Eq)]
+pub struct Written {
+  /// How many bytes are said to be used.
+  pub used: u32,
+  /// From the front of the bytes on: filed calls, whole or not.
+  pub calls: Vec<u8>,
+  /// From the answers' place on.
+  pub answers: Vec<u8>,
+  /// How many words and bytes are lent.
+  pub lengths: [usize; 2],
+}
+
+impl Written {
+  /// These bytes, all of them used, in memory of the right lengths.
+  pub fn bytes(calls: Vec<u8>) -> Self {
+    let lengths = [RECORD_WORDS_LEN, RECORD_BYTES_LEN];
+    Self { used: calls.len() as u32, calls, answers: Vec::new(), lengths }
+  }
+
+  /// These calls, with any answers.
+  pub fn calls(calls: &[Call]) -> Self {
+    Self::bytes(calls.iter().map(call_bytes).collect::<Vec<_>>().concat())
+  }
+
+  /// These calls with their answers.
+  pub fn of(record: &[Entry]) -> Self {
+    let calls: Vec<_> = record.iter().map(|entry| call_bytes(&entry.call)).collect();
+    let answers = record.iter().map(|entry| entry.answer).collect();
+    Self { answers, ..Self::bytes(calls.concat()) }
+  }
+}
+
+/// A change after which memory is no desk, by its name.
+#[derive(Debug, Clone, Copy)]
+pub struct Harm {
+  pub name: &'static str,
+  pub harm: fn(&mut Image),
+}
+
+pub const HARMS: [Harm; 6] = [
+  Harm { name: "no chunk", harm: |image| image.chunks[START] = 0 },
+  Harm { name: "a list that does not end", harm: |image| *image.word_mut(1, NEXT) = 1 },
+  Harm { name: "a source with a byte more", harm: |image| image.source.push(b'a') },
+  Harm { name: "a shorter table of chunks", harm: |image| _ = image.chunks.pop() },
+  Harm { name: "no pieces", harm: |image| image.pieces.clear() },
+  Harm { name: "a longer store", harm: |image| image.store.push(0) },
+];
+
+impl Sitting {
+  /// On a fresh desk over this source.
+  pub fn fresh(tries: &'static str, source: &str, record: Written, actions: Vec<Action>) -> Self {
+    let desk = Desk::open(Limits::FULL, source.as_bytes()).expect("a source within the limits");
+    let start = Start::Desk { desk: desk.data(), seed: 0 };
+    Self { tries, start, harm: None, record, actions, seed: 0 }
+  }
+
+  /// The same with other memory.
+  pub fn seeded(mut self, seeds: &mut Random) -> Self {
+    let (Start::Junk { seed } | Start::Desk { seed, .. }) = &mut self.start;
+    (*seed, self.seed) = (seeds.number(), seeds.number());
+    self
+  }
+
+  /// What is lent at first.
+  pub fn memory(&self, random: &mut Random) -> (Image, Memory) {
+    let mut image = self.start.memory(Sizes::FULL);
+    if let Some(Harm { harm, .. }) = self.harm {
+      harm(&mut image);
+    }
+    (image, Memory::of(&self.record, random))
+  }
+}
+
+impl fmt::Display for Sitting {
+  fn fmt(&self, out: &mut fmt::Formatter) -> fmt::Result {
+    writeln!(out, "# {}, seed {}", self.tries, self.seed)?;
+    write!(out, "{}", self.start)?;
+    if let Some(Harm { name, .. }) = self.harm {
+      writeln!(out, "# no desk: {name}")?;
+    }
+    write!(out, "{}", self.record)?;
+    self.actions.iter().try_for_each(|action| writeln!(out, "{action}"))
+  }
+}
+
+/// The calls where the record is well formed, else its bytes.
+impl fmt::Display for Written {
+  fn fmt(&self, out: &mut fmt::Formatter) -> fmt::Result {
+    let memory = Memory::of(self, &mut Random::new(0));
+    if let Some(record) = reading::read(memory.words.lent(), memory.bytes.lent()) {
+      writeln!(out, "# a record of {} calls", record.len())?;
+      let mut same = record.chunk_by(|one, other| one.call == other.call);
+      return same.try_for_each(|same| writeln!(out, "#   {} times {}", same.len(), same[0].call));
+    }
+    let Written { used, calls, lengths: [words, bytes], .. } = self;
+    writeln!(out, "# no record: {words} words, {bytes} bytes, used {used}")?;
+    writeln!(out, "# {}", hex::encode(calls))
+  }
+}
+
+impl fmt::Display for Action {
+  fn fmt(&self, out: &mut fmt::Formatter) -> fmt::Result {
+    match self {
+      Action::File(bytes) => match records(bytes).as_deref() {
+        Some([(_, call)]) => write!(out, "file {call}"),
+        _ => write!(out, "file {} (it breaks the rules)", hex::encode(bytes)),
+      },
+      Action::Withdraw(k) => write!(out, "withdraw {k}"),
+      Action::Make(Made { call, .. }) => write!(out, "{call}"),
+    }
+  }
+}

@@ -1,0 +1,267 @@
+//! A second reading of records of filed calls, each field at its place, by rules that can
+//! be changed one by one; and a core that files and withdraws by it.
+
+use differential::{
+  Answer, Core, Lent, LentRecord, Unseen, cores::StandIn, image, keeps, layout::*, well_formed,
+};
+use oracle::{Answer as Given, Call, Desk, Limits, apply};
+
+use crate::sheet_rules::{self, put};
+
+/// What a filing or a withdrawal is refused for. `Call` is what the call itself is refused
+/// for, where there is no room for it.
+#[derive(Debug, Clone, Copy, PartialEq, Eq)]
+pub enum Ground {
+  NoDesk,
+  NoRecord,
+  BadCall,
+  NoRoom,
+  Call,
+  NoSuchCall,
+}
+
+/// How many calls and how many bytes of text there are at most.
+#[derive(Debug, Clone, Copy)]
+pub struct Bounds {
+  pub calls: usize,
+  pub text: usize,
+}
+
+/// A call as its bytes and as it reads.
+pub type Filed = (Vec<u8>, Call);
+
+/// A record: its calls, and the answers.
+#[derive(Debug, Clone)]
+pub struct Held {
+  pub calls: Vec<Filed>,
+  pub answers: Vec<u8>,
+}
+
+#[derive(Clone)]
+pub struct Rules {
+  /// The form of filed calls, and of one that is to be filed.
+  pub filed: sheet_rules::Rules,
+  pub call: sheet_rules::Rules,
+  /// The lengths of words and bytes.
+  pub lengths: fn(usize, usize) -> bool,
+  /// How many bytes a word says are used.
+  pub used: fn(u32) -> usize,
+  /// Of a record that is lent, and of one in which a call is filed.
+  pub held: Bounds,
+  pub room: Bounds,
+  /// How many bytes of a call are counted as text.
+  pub text: fn(&Filed) -> usize,
+  /// What else is asked of the memory of a record.
+  pub also: fn(&LentRecord, &Held) -> bool,
+  /// The call that is to be filed, out of those that were handed in.
+  pub one: fn(Vec<Filed>) -> Option<Filed>,
+  /// In the order in which it is tested.
+  pub file_order: [Ground; 5],
+  /// Whether a call with this answer is filed, and with what answer.
+  pub files: fn(u32) -> Option<u32>,
+  /// Whether one that has no room is filed all the same.
+  pub files_without_room: bool,
+  pub make: fn(&mut Desk, &Call) -> Given,
+  /// Whether the desk is laid out anew, by whether each byte must stay.
+  pub lays_out: fn(bool) -> bool,
+  pub value: fn(&Given, &Held) -> u32,
+  pub withdraw_order: [Ground; 3],
+  /// The place of the k-th of so many calls.
+  pub place: fn(u32, usize) -> Option<usize>,
+  /// The desk on which a withdrawal makes the calls.
+  pub start: fn(&Desk) -> Desk,
+  /// Makes the calls that are left, of which the first so many stood before the one that
+  /// was taken out, with the answers that they had.
+  pub again: fn(&mut Desk, &[Call], &[u8], usize) -> Vec<u8>,
+  /// The value of a withdrawal, by the desk before and behind it.
+  pub withdrawn: fn(&Desk, &Desk) -> u32,
+  /// Writes the record that is left, in the place of the one that was there.
+  pub put_filed: fn(&mut LentRecord, &Held, &Held),
+  pub put_withdrawn: fn(&mut LentRecord, &Held, &Held),
+}
+
+pub fn again(desk: &mut Desk, calls: &[Call]) -> Vec<u8> {
+  calls.iter().map(|call| apply(desk, call).number as u8).collect()
+}
+
+pub fn fresh(desk: &Desk) -> Desk {
+  Desk::open(Limits::FULL, desk.magic_string().source().as_bytes()).expect("the source of a desk")
+}
+
+pub fn put_word(record: &mut LentRecord, held: &Held) {
+  record.words[RECORD_USED] = held.calls.iter().map(|(bytes, _)| bytes.len() as u32).sum();
+}
+
+/// From the byte at this place on, as far as there is room.
+pub fn put_bytes(record: &mut LentRecord, at: usize, bytes: &[u8]) {
+  record.bytes.iter_mut().skip(at).zip(bytes).for_each(|(place, byte)| *place = *byte);
+}
+
+pub fn put_calls(record: &mut LentRecord, held: &Held) {
+  let bytes: Vec<u8> = held.calls.iter().flat_map(|(bytes, _)| bytes).copied().collect();
+  put_bytes(record, 0, &bytes);
+}
+
+pub fn put_all(record: &mut LentRecord, _: &Held, held: &Held) {
+  put_word(record, held);
+  put_calls(record, held);
+  put_bytes(record, RECORD_ANSWERS, &held.answers);
+}
+
+impl Rules {
+  pub fn right() -> Self {
+    let bounds = Bounds { calls: 200, text: 32_768 };
+    Self {
+      filed: sheet_rules::Rules::right(),
+      call: sheet_rules::Rules::right(),
+      lengths: |words, bytes| words == 1 && bytes == 35_968,
+      used: |word| word as usize,
+      held: bounds,
+      room: bounds,
+      text: |(_, call)| call.text().map_or(0, <[u8]>::len),
+      also: |_, _| true,
+      one: |calls| calls.try_into().ok().map(|[call]: [_; 1]| call),
+      file_order: [Ground::NoDesk, Ground::NoRecord, Ground::BadCall, Ground::NoRoom, Ground::Call],
+      files: Some,
+      files_without_room: false,
+      make: apply,
+      lays_out: |kept| !kept,
+      value: |given, _| given.value,
+      withdraw_order: [Ground::NoDesk, Ground::NoRecord, Ground::NoSuchCall],
+      place: |k, count| (k as usize).checked_sub(1).filter(|&place| place < count),
+      start: fresh,
+      again: |desk, calls, _, _| again(desk, calls),
+      withdrawn: |_, _| 0,
+      put_filed: put_all,
+      put_withdrawn: put_all,
+    }
+  }
+
+  /// Whether the record keeps the bounds.
+  fn keeps(&self, bounds: Bounds, calls: &[Filed]) -> bool {
+    calls.len() <= bounds.calls && calls.iter().map(self.text).sum::<usize>() <= bounds.text
+  }
+
+  fn held(&self, record: &LentRecord) -> Option<Held> {
+    if !(self.lengths)(record.words.len(), record.bytes.len()) {
+      return None;
+    }
+    let used = (self.used)(record.words[RECORD_USED]);
+    let calls = list(&self.filed, record.bytes.get(..used)?)?;
+    let answers = record.bytes.iter().skip(RECORD_ANSWERS).take(calls.len()).copied().collect();
+    let held = Held { calls, answers };
+    (self.keeps(self.held, &held.calls) && (self.also)(record, &held)).then_some(held)
+  }
+
+  fn file(&self, lent: &mut Lent, record: &mut LentRecord, call: &[u8]) -> Answer {
+    let (desk, held) = (desk(lent), self.held(record));
+    let call = list(&self.call, call).and_then(self.one);
+    let own = |(desk, call): (&Desk, &Filed)| {
+      let number = (self.make)(&mut desk.clone(), &call.1).number;
+      (number != 0).then_some(number)
+    };
+    let no_room = held.as_ref().is_some_and(|held| {
+      let calls: Vec<_> = held.calls.iter().chain(&call).cloned().collect();
+      held.calls.len() >= self.room.calls || !self.keeps(self.room, &calls)
+    });
+    let number = |ground: &Ground| match ground {
+      Ground::NoDesk => desk.is_none().then_some(2),
+      Ground::NoRecord => held.is_none().then_some(2),
+      Ground::BadCall => call.is_none().then_some(16),
+      Ground::NoRoom => no_room.then_some(13),
+      _ => desk.as_ref().zip(call.as_ref()).filter(|_| no_room).and_then(own),
+    };
+    let refused = self.file_order.iter().find_map(number);
+    if let (Some(number), false) = (refused, self.files_without_room && refused == Some(13)) {
+      return Answer { number, value: 0 };
+    }
+    let (Some(mut desk), Some(held), Some(call)) = (desk, held, call) else {
+      return Answer::NO_DESK;
+    };
+    let given = (self.make)(&mut desk, &call.1);
+    if let Some(answer) = (self.files)(given.number) {
+      let mut filed = held.clone();
+      filed.calls.push(call.clone());
+      filed.answers.push(answer as u8);
+      (self.put_filed)(record, &held, &filed);
+    }
+    if (self.lays_out)(keeps::every_byte(&call.1, given.number)) {
+      put(&desk, lent);
+    }
+    Answer { number: refused.unwrap_or(given.number), value: (self.value)(&given, &held) }
+  }
+
+  fn withdraw(&self, lent: &mut Lent, record: &mut LentRecord, k: u32) -> Answer {
+    let (desk, held) = (desk(lent), self.held(record));
+    let count = held.as_ref().map_or(usize::MAX, |held| held.calls.len());
+    let place = (self.place)(k, count);
+    let number = |ground: &Ground| match ground {
+      Ground::NoDesk => desk.is_none().then_some(2),
+      Ground::NoRecord => held.is_none().then_some(2),
+      _ => place.is_none().then_some(17),
+    };
+    if let Some(number) = self.withdraw_order.iter().find_map(number) {
+      return Answer { number, value: 0 };
+    }
+    let (Some(desk), Some(held), Some(place)) = (desk, held, place) else {
+      return Answer::NO_DESK;
+    };
+    let mut left = held.clone();
+    left.calls.remove(place);
+    left.answers.remove(place);
+    let calls: Vec<Call> = left.calls.iter().map(|(_, call)| call.clone()).collect();
+    let mut made = (self.start)(&desk);
+    left.answers = (self.again)(&mut made, &calls, &left.answers, place);
+    (self.put_withdrawn)(record, &held, &left);
+    put(&made, lent);
+    Answer { number: 0, value: (self.withdrawn)(&desk, &made) }
+  }
+}
+
+/// Whole calls up to the end.
+fn list(form: &sheet_rules::Rules, bytes: &[u8]) -> Option<Vec<Filed>> {
+  let mut calls = Vec::new();
+  let mut at = 0;
+  while at + form.passed_over < bytes.len() {
+    let len = form.length_at(bytes, at).saturating_sub(form.counted);
+    let call = bytes.get(at..at + 2 + len)?;
+    calls.push((call.to_vec(), form.call(call, len)?));
+    at += call.len();
+  }
+  Some(calls)
+}
+
+fn desk(lent: &Lent) -> Option<Desk> {
+  let Lent { source, chunks, pieces, store } = lent;
+  let holds = well_formed(source, chunks, pieces, store);
+  holds.then(|| Desk::build(Limits::FULL, &image::decode(source, chunks, pieces, store)))
+}
+
+/// A core with these rules, and a right one beside.
+#[derive(Clone)]
+pub struct Wrong {
+  pub right: StandIn,
+  pub rules: Rules,
+}
+
+impl Core for Wrong {
+  fn name(&self) -> &'static str {
+    "wrong"
+  }
+
+  fn call(&mut self, lent: &mut Lent, call: &Call, unseen: &Unseen, out: &mut [u8]) -> Answer {
+    self.right.call(lent, call, unseen, out)
+  }
+
+  fn well_formed(&mut self, lent: &Lent) -> Answer {
+    self.right.well_formed(lent)
+  }
+
+  fn file(&mut self, lent: &mut Lent, record: &mut LentRecord, call: &[u8]) -> Option<Answer> {
+    Some(self.rules.file(lent, record, call))
+  }
+
+  fn withdraw(&mut self, lent: &mut Lent, record: &mut LentRecord, k: u32) -> Option<Answer> {
+    Some(self.rules.withdraw(lent, record, k))
+  }
+}

@@ -1,0 +1,90 @@
+//! Random sittings on both sides: calls filed and withdrawn.
+
+use std::collections::BTreeSet;
+
+use magic_string::Sitting;
+use oracle::random::Random;
+use wrapper::{
+  data,
+  sitting::{Calls, Plain, entries, file},
+};
+
+/// What was met.
+#[derive(Default)]
+struct Met {
+  filed: BTreeSet<u32>,
+  not_filed: usize,
+  withdrawn: BTreeSet<u32>,
+  /// Later calls that turned from accepted to refused, and the other way.
+  to_refused: usize,
+  to_accepted: usize,
+}
+
+/// Steps on both sides, each answer and all that is left compared.
+fn run(calls: &mut Calls, steps: usize, withdrawals: usize, met: &mut Met) {
+  let mut sitting = Sitting::open(calls.source).unwrap();
+  let mut plain = Plain::open(calls.source);
+  for _ in 0..steps {
+    if calls.random.one_in(withdrawals) {
+      let k = calls.random.below(plain.entries.len() + 2);
+      let before: Vec<u32> = plain.entries.iter().map(|&(_, number)| number).collect();
+      let number = plain.withdraw(k);
+      let answer = sitting.withdraw(k).map(drop);
+      assert_eq!(answer.map_or_else(|refusal| refusal.number(), |()| 0), number);
+      assert_eq!(sitting.desk().cuts(), 0);
+      met.withdrawn.insert(number);
+      if number == 0 {
+        let later = before[k..].iter().zip(&plain.entries[k - 1..]);
+        met.to_refused += later.clone().filter(|&(&was, &(_, is))| was == 0 && is != 0).count();
+        met.to_accepted += later.filter(|&(&was, &(_, is))| was != 0 && is == 0).count();
+      }
+    } else {
+      let call = calls.call();
+      let answer = plain.file(&call);
+      assert_eq!(file(&mut sitting, &call), answer, "{call}");
+      met.not_filed += usize::from(answer.is_none());
+      met.filed.extend(answer.map(|answer| answer.number));
+    }
+    assert_eq!(sitting.len(), plain.entries.len());
+    assert_eq!(sitting.entries(), entries(&plain));
+    assert_eq!(data(sitting.desk()), plain.desk.data());
+  }
+}
+
+#[test]
+fn short_sittings_are_the_same() {
+  let random = &mut Random::new(1);
+  let mut met = Met::default();
+  for source in ["abcdefgh", "aébc €d😀\nefg", ""].into_iter().cycle().take(1_500) {
+    run(&mut Calls { random, source, text: 8, moves: 1 }, 30, 4, &mut met);
+  }
+  // Every number of such calls but the limit.
+  assert_eq!(met.filed, BTreeSet::from([0, 3, 4, 5, 6, 7, 8, 9, 10]));
+  assert_eq!(met.withdrawn, BTreeSet::from([0, 17]));
+  let turned = [met.to_refused, met.to_accepted];
+  assert!(turned.iter().all(|&calls| calls > 50), "{turned:?}");
+}
+
+/// More calls than a record takes, and more text.
+#[test]
+fn full_records_are_the_same() {
+  let random = &mut Random::new(2);
+  for (text, steps) in [(8, 260), (6_000, 120)] {
+    let mut met = Met::default();
+    for _ in 0..10 {
+      run(&mut Calls { random, source: "abcdefghijklmnop", text, moves: 1 }, steps, 40, &mut met);
+    }
+    assert!(met.not_filed > 100 && met.withdrawn.contains(&0), "{}", met.not_filed);
+  }
+}
+
+/// Moves on a long source, so that the desk has as many chunks as it may have, in the end.
+#[test]
+fn full_desks_are_the_same() {
+  let (random, source) = (&mut Random::new(3), &"abcdefgh".repeat(1_000));
+  let mut met = Met::default();
+  for _ in 0..3 {
+    run(&mut Calls { random, source, text: 8, moves: 4 }, 200, 40, &mut met);
+  }
+  assert!(met.filed.contains(&13), "{:?}", met.filed);
+}
