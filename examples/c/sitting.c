@@ -3,8 +3,8 @@
  * change.
  *
  *   rt staticlib magic_string
- *   gcc -Iinclude examples/c/sitting.c target/staticlib/libmagic_string.a -o
- * sitting
+ *   gcc -Iinclude -o sitting examples/c/sitting.c \
+ *       target/staticlib/libmagic_string.a
  */
 #include "magic_string.h"
 

@@ -4,8 +4,7 @@ use mathlib.Core.Path.{_≡_, refl, sym, ap, subst, _∙_}
 use mathlib.Core.List.{List, [], _∷_, _++_}
 use mathlib.Core.Option.{Option, some}
 use native.Mathlib.Omega.{arith}
-use lib.ListN.{length, drop, length-append, length-drop}
-use lib.Seq.{length-take-le}
+use lib.ListN.{length, length-append}
 use Rattle.model.specs.Call.{perform}
 use Rattle.model.proofs.Lists.{sum-snoc}
 use Rattle.model_sheet.specs.Record.{Recorded, parsed}
@@ -26,6 +25,7 @@ use Rattle.filed_record.specs.Record.{answersOf, Holds}
 use Rattle.filed_record.specs.Judged.{FilesCall, RefusesCall}
 use Rattle.filed_record.specs.Promises.{Unchanged, sittingOf, KeptBehind, Becomes, FiledOn}
 use Rattle.filed_record.proofs.Holding.{holds-entries, entries-are}
+use Rattle.filed_record.proofs.Calls.{files-text}
 use Rattle.filed_entries.specs.Entries.{EntryPut}
 use Rattle.filed_entries.proofs.Put.{put-behind, put-entries, put-kept}
 use Rattle.filed.specs.Done.{Files}
@@ -79,13 +79,10 @@ module _ {w b : List ℕ} {z : Size} (h : Holds w b z) where
   module _ {call : List ℕ} {kind a b₁ c text-at : ℕ} (g : FilesCall call z kind a b₁ c text-at) where
     not-refused : refused-filing call (calls held) ≡ 0
     not-refused =
-        let text : length (parsed call .text) ≡ length call - text-at =
-        ap (λ (r : Recorded). length (r .text)) (sym (g .fields))
-        ∙ length-take-le (length call - text-at) (drop text-at call) (omega (arith, length-drop text-at call)) in
         ap (refused-filing call) held-calls
         ∙ refused-0 call (h .list) (g .single) (true-bounds (h .list ++ (parsed call ∷ [])) (record {
           few = omega (arith, g .calls, h .count, length-append (h .list) (parsed call ∷ []));
-          text = omega (arith, g .texts, h .text, text, sum-snoc (λ (r : Recorded). length (r .text)) (h .list) (parsed call));
+          text = omega (arith, g .texts, h .text, files-text g, sum-snoc (λ (r : Recorded). length (r .text)) (h .list) (parsed call));
         }))
 
     -- an answer is a byte

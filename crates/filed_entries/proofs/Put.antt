@@ -20,6 +20,7 @@ use Rattle.filed_record.specs.Record.{callsOf, answersOf, entriesOf, Holds}
 use Rattle.filed_record.specs.Judged.{FilesCall}
 use Rattle.filed_record.specs.Promises.{KeptBehind}
 use Rattle.filed_record.proofs.Holding.{holds-entries}
+use Rattle.filed_record.proofs.Calls.{files-text}
 use Rattle.filed_entries.specs.Entries.{EntryPut}
 
 -- an answer written behind those of the calls before
@@ -36,11 +37,6 @@ drop-set (suc a) n x [] = refl
 drop-set (suc a) n x (y ∷ l) = ap (λ i. drop (suc a) (set (y ∷ l) i x)) (let e : suc a + n ≡ suc (a + n) = omega arith in e) ∙ drop-set a n x l
 
 module _ {w b : List ℕ} {z : Size} (h : Holds w b z) {call : List ℕ} {kind a b₁ c text-at : ℕ} (g : FilesCall call z kind a b₁ c text-at) where
-  text-length : length (parsed call .text) ≡ length call - text-at
-  text-length =
-      ap (λ (r : Recorded). length (r .text)) (sym (g .fields))
-      ∙ length-take-le (length call - text-at) (drop text-at call) (omega (arith, length-drop text-at call))
-
   -- there is room for it
   pub call-room : z .used + length call ≤ RECORD-ANSWERS
   call-room =
@@ -51,7 +47,7 @@ module _ {w b : List ℕ} {z : Size} (h : Holds w b z) {call : List ℕ} {kind a
         arith,
         records-size (take (z .used) b) (h .are),
         records-size call (single-records (single call (g .single))),
-        text-length,
+        files-text g,
         h .count,
         h .text,
       )
@@ -97,7 +93,7 @@ module _ {w b : List ℕ} {z : Size} (h : Holds w b z) {call : List ℕ} {kind a
           are = ap records put-calls ∙ records-append (take (z .used) b) call (h .are) (single-records (single call (g .single)));
           count = length-append (h .list) (parsed call ∷ []) ∙ ap (λ n. n + 1) (h .count);
           few = omega arith;
-          text = sum-snoc (λ (r : Recorded). length (r .text)) (h .list) (parsed call) ∙ ap₂ (λ m n. m + n) (h .text) text-length;
+          text = sum-snoc (λ (r : Recorded). length (r .text)) (h .list) (parsed call) ∙ ap₂ (λ m n. m + n) (h .text) (files-text g);
           short = g .texts;
         }
 

@@ -77,3 +77,9 @@ module _ (s : List ℕ) (z : Size) where
             calls = h;
             texts = t;
           }
+
+-- the text reaches to the end of the record
+pub files-text : {s : List ℕ} {z : Size} {kind a b c text-at : ℕ} → FilesCall s z kind a b c text-at → length (parsed s .text) ≡ length s - text-at
+files-text {s} {text-at = text-at} g =
+    ap (λ (r : Recorded). length (r .text)) (sym (g .fields))
+    ∙ length-take-le (length s - text-at) (drop text-at s) (omega (arith, length-drop text-at s))

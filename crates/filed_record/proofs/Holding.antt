@@ -1,7 +1,7 @@
 -- Which memory holds a record.
 use Prim.Native.Nat.{ℕ, _-_, _≤_, _<_}
 use mathlib.Core.Path.{_≡_, refl, sym, ap, _∙_}
-use mathlib.Core.Bool.{Bool, true, false, _&&_, cond}
+use mathlib.Core.Bool.{Bool, true, false, cond, and-false}
 use mathlib.Core.List.{List}
 use mathlib.Core.Option.{Option, none, some, bind, Option·map}
 use lib.Dec.{eqb}
@@ -49,20 +49,11 @@ module _ (w b : List ℕ) where
 
   pub other-bytes : (length b ≡ RECORD-BYTES-LEN → ⊥) → entriesOf w b ≡ none
   unfolding shaped
-  other-bytes h = unshaped (rw (ne-eqb (length b) RECORD-BYTES-LEN h) (and-no (eqb (length w) RECORD-WORDS-LEN)))
-    where
-      and-no : (t : Bool) → (t && false) ≡ false
-      and-no true = refl
-      and-no false = refl
+  other-bytes h = unshaped (rw (ne-eqb (length b) RECORD-BYTES-LEN h) (and-false (eqb (length w) RECORD-WORDS-LEN)))
 
   pub used-past : RECORD-ANSWERS < usedOf w → entriesOf w b ≡ none
   unfolding shaped
-  used-past h = unshaped (rw (lt-leb (usedOf w) RECORD-ANSWERS h) (and-no (eqb (length w) RECORD-WORDS-LEN) (eqb (length b) RECORD-BYTES-LEN)))
-    where
-      and-no : (t u : Bool) → (t && (u && false)) ≡ false
-      and-no true true = refl
-      and-no true false = refl
-      and-no false u = refl
+  used-past h = unshaped (rw (lt-leb (usedOf w) RECORD-ANSWERS h, and-false (eqb (length b) RECORD-BYTES-LEN)) (and-false (eqb (length w) RECORD-WORDS-LEN)))
 
   beyond : ((l : List Recorded) → records (callsOf w b) ≡ some l → within-bounds l ≡ false) → entriesOf w b ≡ none
   unfolding bind

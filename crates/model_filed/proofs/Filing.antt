@@ -1,7 +1,7 @@
 -- Filing and withdrawing, case by case; entries by their calls and answers.
 use Prim.Native.Nat.{ℕ, suc, _+_, _≤_, _<_}
 use mathlib.Core.Path.{_≡_, refl, ap}
-use mathlib.Core.Bool.{Bool, true, false, _&&_, cond}
+use mathlib.Core.Bool.{Bool, true, false, _&&_, cond, and-false}
 use mathlib.Core.List.{List, [], _∷_, _++_}
 use mathlib.Core.Option.{some}
 use lib.Dec.{ltb, leb, eqb}
@@ -64,11 +64,7 @@ many-bounds l h = rw (lt-leb (length l) MOST-CALLS h) refl
 
 pub long-bounds : (l : List Recorded) → MOST-TEXT < text-size l → within-bounds l ≡ false
 unfolding within-bounds
-long-bounds l h = rw (lt-leb (text-size l) MOST-TEXT h) (and-no (leb (length l) MOST-CALLS))
-  where
-    and-no : (b : Bool) → (b && false) ≡ false
-    and-no true = refl
-    and-no false = refl
+long-bounds l h = rw (lt-leb (text-size l) MOST-TEXT h) (and-false (leb (length l) MOST-CALLS))
 
 -- ── one record ──
 -- bytes that are exactly one record
@@ -153,8 +149,4 @@ module _ (n : ℕ) (l : List Entry) where
 
   pub withdrawal-past : length l < n → refused-withdrawal n l ≡ 17
   unfolding refused-withdrawal
-  withdrawal-past h = rw (lt-leb n (length l) h) (and-no (ltb 0 n))
-    where
-      and-no : (b : Bool) → _≡_ {A = ℕ} (cond (b && false) 0 17) 17
-      and-no true = refl
-      and-no false = refl
+  withdrawal-past h = rw (lt-leb n (length l) h, and-false (ltb 0 n)) refl

@@ -2,7 +2,6 @@
 use Prim.Native.Nat.{_-_, _≤_}
 use mathlib.Core.Path.{_≡_, subst}
 use native.Mathlib.Omega.{arith}
-use Rattle.filed_entries.specs.Places.{Behind}
 use Rattle.filed_entries.proofs.Places.{Going, going-start, going-next, going-turn, located}
 use borrow.Author.Needs.{needs}
 use Rattle.filed_entries.proofs.place.place_of.Statement.{statement}
