@@ -1,20 +1,6 @@
 // Calls filed in a record beside a desk, and withdrawn from it.
-ghost use mathlib.Core.Path.{_≡_};
 ghost use Rattle.filed_record.specs.Promises.{CallFiled, CallWithdrawn};
-use check_well_formed::Seen;
-use filed_record::Held;
 use memory::Answer;
-use memory_layout::numbers;
-
-// No desk, or no record.
-fn not_well_formed() -> Answer
-    ensures { λ r. ⌜ (r .number ≡ 2) × (r .value ≡ 0) ⌝ }
-{
-    Answer {
-        number: numbers::NOT_WELL_FORMED,
-        value: 0,
-    }
-}
 
 #[no_mangle]
 pub extern "C" fn magic_string_file(
@@ -29,23 +15,7 @@ pub extern "C" fn magic_string_file(
     ensures { λ r. ⌜ CallFiled (now (call .entry)) (now (source .entry)) (now (chunks .entry)) (now (pieces .entry)) (now (store .entry)) (now (words .entry)) (now (bytes .entry))
         (now (chunks .exit)) (now (pieces .exit)) (now (store .exit)) (now (words .exit)) (now (bytes .exit)) r ⌝ }
 {
-    let Seen::Desk(used) = check_well_formed::taken(source, chunks, pieces, store) else {
-        return not_well_formed();
-    };
-    let Held::Record(size) = filed_record::judge_record(words, bytes) else {
-        return not_well_formed();
-    };
-    filed::file(
-        source,
-        chunks,
-        pieces,
-        store,
-        words,
-        bytes,
-        call,
-        size,
-        used,
-    )
+    filed_checked::file(source, chunks, pieces, store, words, bytes, call)
 }
 
 #[no_mangle]
@@ -61,11 +31,5 @@ pub extern "C" fn magic_string_withdraw(
     ensures { λ r. ⌜ CallWithdrawn k (now (source .entry)) (now (chunks .entry)) (now (pieces .entry)) (now (store .entry)) (now (words .entry)) (now (bytes .entry))
         (now (chunks .exit)) (now (pieces .exit)) (now (store .exit)) (now (words .exit)) (now (bytes .exit)) r ⌝ }
 {
-    if check_well_formed::well_formed(source, chunks, pieces, store) {
-        let Held::Record(size) = filed_record::judge_record(words, bytes) else {
-            return not_well_formed();
-        };
-        return filed::withdraw(source, chunks, pieces, store, words, bytes, k, size);
-    }
-    not_well_formed()
+    filed_checked::withdraw(source, chunks, pieces, store, words, bytes, k)
 }

@@ -1,7 +1,8 @@
-use Rattle.magic_string.proofs.Exported.{seen-none, seen-taken, seen-desk, held-none, held-record, sitting-no-desk, sitting-no-record, sitting-yes}
+use Rattle.check_well_formed.proofs.Told.{seen-none, seen-taken, seen-desk}
+use Rattle.filed_checked.proofs.Checked.{held-none, held-record, sitting-no-desk, sitting-no-record, sitting-yes}
 use borrow.Author.Needs.{needs}
-use Rattle.magic_string.proofs.exported_filed.magic_string_file.Statement.{statement}
-use Rattle.magic_string.proofs.exported_filed.magic_string_file.Tie as tie
+use Rattle.filed_checked.proofs.file.Statement.{statement}
+use Rattle.filed_checked.proofs.file.Tie as tie
 
 taken-requires : tie.Need-taken-requires
 taken-requires c κs = search needs
@@ -102,8 +103,8 @@ returns-3 c =
     sitting-yes (seen-taken (a .source .now) (a .chunks .now) (a .pieces .now) (a .store .now) (used .used .given .0 .0) (used .used .given .1) (seen .taken .ensures))
     (held-record (a .words .now) (a .bytes .now) (size .size .given .0 .0) (size .size .given .1) (held .judge-record .ensures)) (done .file .ensures)
 
-pub magic-string-file-spec : {M : Type 1} → statement M
-magic-string-file-spec =
+pub file-spec : {M : Type 1} → statement M
+file-spec =
     tie.close
     (tie.spec
     taken-requires

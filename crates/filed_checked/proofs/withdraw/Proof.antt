@@ -1,7 +1,7 @@
-use Rattle.magic_string.proofs.Exported.{held-none, held-record, sitting-no-desk, sitting-no-record, sitting-yes}
+use Rattle.filed_checked.proofs.Checked.{held-none, held-record, sitting-no-desk, sitting-no-record, sitting-yes}
 use borrow.Author.Needs.{needs}
-use Rattle.magic_string.proofs.exported_filed.magic_string_withdraw.Statement.{statement}
-use Rattle.magic_string.proofs.exported_filed.magic_string_withdraw.Tie as tie
+use Rattle.filed_checked.proofs.withdraw.Statement.{statement}
+use Rattle.filed_checked.proofs.withdraw.Tie as tie
 
 well-formed-requires : tie.Need-well-formed-requires
 well-formed-requires c κs = search needs
@@ -91,8 +91,8 @@ returns-3 : tie.Need-returns-3
 returns-3 c =
     sitting-no-desk (c .before .before .well-formed .ensures .no (c .before .if1 .left)) (c .not-well-formed2 .ensures)
 
-pub magic-string-withdraw-spec : {M : Type 1} → statement M
-magic-string-withdraw-spec =
+pub withdraw-spec : {M : Type 1} → statement M
+withdraw-spec =
     tie.close
     (tie.spec
     well-formed-requires
