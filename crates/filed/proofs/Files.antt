@@ -32,7 +32,7 @@ use Rattle.filed.specs.Done.{Files}
 
 -- nothing is changed
 pub unchanged-all : (t p s w b : List ℕ) → Unchanged t p s w b t p s w b
-unchanged-all t p s w b = record { desk = all-same t p s; entries = record { words = refl; bytes = refl } }
+unchanged-all t p s w b = record { desk = all-same t p s; slices = record { words = refl; bytes = refl } }
 
 module _ {w b : List ℕ} {z : Size} (h : Holds w b z) where
   -- the entries of the record

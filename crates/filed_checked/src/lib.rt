@@ -16,6 +16,7 @@ fn not_well_formed() -> Answer
     }
 }
 
+// Makes the call and files it.
 pub fn file(
     source: &[u8],
     chunks: &mut [u32],
@@ -47,6 +48,7 @@ pub fn file(
     )
 }
 
+// Withdraws the k-th call.
 pub fn withdraw(
     source: &[u8],
     chunks: &mut [u32],

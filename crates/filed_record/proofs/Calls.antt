@@ -13,7 +13,7 @@ use Rattle.model_sheet.proofs.Whole.{Whole, whole-of, of-whole}
 use Rattle.model_filed.specs.Filed.{MOST-CALLS, MOST-TEXT, is-record}
 use Rattle.model_filed.proofs.Filing.{Single, single, of-single, not-single, many-bounds, long-bounds, refused-16, refused-13}
 use Rattle.sheet_records.specs.Found.{recorded, Taken}
-use Rattle.sheet_records.proofs.Walk.{taken-one, next-missing}
+use Rattle.sheet_records.proofs.Walk.{taken-one, taken-text, next-missing}
 use Rattle.filed_record.specs.declared.Size.{Size}
 use Rattle.filed_record.specs.Judged.{FilesCall, RefusesCall}
 
@@ -50,8 +50,7 @@ module _ (s : List ℕ) (z : Size) where
 
       text-length : length (parsed s .text) ≡ length s - text-at
       text-length =
-          let ends = g .ends in
-          ap (λ (r : Recorded). length (r .text)) (sym fields) ∙ length-take-le (next - text-at) (drop text-at s) (omega (arith, length-drop text-at s)) ∙ omega arith
+          ap (λ (r : Recorded). length (r .text)) (sym fields) ∙ taken-text g ∙ omega arith
 
       pub refuses-calls : MOST-CALLS ≤ z .count → RefusesCall s z 13
       refuses-calls h =

@@ -21,16 +21,16 @@ pub record SameRecord (w b w′ b′ : List ℕ) : Type 0 where
   pub words : w′ ≡ w
   pub bytes : b′ ≡ b
 
--- nothing is changed
+-- nothing is changed: the tables of the desk and the record's slices
 pub record Unchanged (t p s w b t′ p′ s′ w′ b′ : List ℕ) : Type 0 where
   pub desk : Same t p s t′ p′ s′
-  pub entries : SameRecord w b w′ b′
+  pub slices : SameRecord w b w′ b′
 
 -- the desk in lent memory, beside these entries
 abbrev pub sittingOf : List ℕ → List ℕ → List ℕ → List ℕ → List Entry → Sitting
 sittingOf source t p s l = record { desk = magicStringOf source t p s; entries = l }
 
--- behind the longer of the calls' bytes before and after, and behind the more of the n answers before and the m after, every byte is as it was
+-- each byte that lies behind the calls both as they were and as they are, and each that lies behind the n answers before and the m after, is as it was
 pub record KeptBehind (n m : ℕ) (w b w′ b′ : List ℕ) : Type 0 where
   pub calls : (i : ℕ) → usedOf w ≤ i → usedOf w′ ≤ i → i < RECORD-ANSWERS → getD b′ i 0 ≡ getD b i 0
   pub answers : (i : ℕ) → RECORD-ANSWERS + n ≤ i → RECORD-ANSWERS + m ≤ i → getD b′ i 0 ≡ getD b i 0

@@ -23,7 +23,7 @@ callsOf w b = take (usedOf w) b
 abbrev pub answersOf : List ℕ → List ℕ
 answersOf b = drop RECORD-ANSWERS b
 
--- slices of a record's lengths, and calls that end where their room ends
+-- slices of a record's lengths, and calls that end inside their room: what stands behind it are answers
 unfoldable pub shaped : List ℕ → List ℕ → Bool
 shaped w b = eqb (length w) RECORD-WORDS-LEN && (eqb (length b) RECORD-BYTES-LEN && leb (usedOf w) RECORD-ANSWERS)
 

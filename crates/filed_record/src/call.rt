@@ -16,7 +16,7 @@ pub enum Filing {
         c: u32,
         text_at: usize,
     },
-    // What refuses it.
+    // The number that refuses it.
     Refused(u32),
 }
 

@@ -70,7 +70,8 @@ taken-one {s} {at} {kind} {a} {b} {c} {text-at} {next} g =
     let size : length (drop (extent (drop at s)) (drop at s)) ≡ length (drop next s) = ap length (h .1) in
     (h .0, omega (arith, length-drop (extent (drop at s)) (drop at s), length-drop at s, length-drop next s))
 
-taken-text : {s : List ℕ} {at kind a b c text-at next : ℕ} → Taken s at kind a b c text-at next → length (take (next - text-at) (drop text-at s)) ≡ next - text-at
+-- its text is all of its part
+pub taken-text : {s : List ℕ} {at kind a b c text-at next : ℕ} → Taken s at kind a b c text-at next → length (take (next - text-at) (drop text-at s)) ≡ next - text-at
 taken-text {s} {text-at = text-at} {next = next} g =
     let ends = g .ends in let there = g .there in length-take-le (next - text-at) (drop text-at s) (omega (arith, length-drop text-at s))
 

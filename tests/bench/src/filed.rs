@@ -10,7 +10,7 @@ use oracle::{Call, Desk, Limits, apply, random::Random};
 use crate::{
   desks,
   papers::{self, EDITS},
-  rust::{anew, kept},
+  rust::{anew, kept, see},
   timing::least,
 };
 
@@ -30,7 +30,7 @@ pub fn print(core: &mut impl Core) {
     line(&format!("source of {} bytes, filing", source.len()), kept(&source, &calls), ours);
     for (name, place) in WITHDRAWN {
       let ours = withdrawing(core, &source, &calls, place);
-      let theirs = anew(&source, &without(&calls, place));
+      let theirs = anew(&source, &without(&calls, place), see);
       line(&format!("  withdrawing the {name}"), theirs, ours);
     }
   }

@@ -1,16 +1,18 @@
 //! Whole papers: an opening, 200 edits, and the output.
 
-use std::hint::black_box;
-
 use differential::{Core, Image, Unseen};
 use oracle::{
   Call::{self, *},
   Desk, Limits, SETTINGS, apply,
   random::Random,
 };
-use string_wizard::MagicString;
 
-use crate::{calls::ROOM, desks, rust::RustCall, timing::least};
+use crate::{
+  calls::ROOM,
+  desks,
+  rust::{anew, see},
+  timing::least,
+};
 
 pub const EDITS: usize = 200;
 
@@ -54,16 +56,7 @@ pub fn edits(desk: &Desk, seed: u64) -> Vec<Call> {
 }
 
 pub fn rust(source: &str, calls: &[Call]) -> f64 {
-  let source: &'static str = source.to_string().leak();
-  let calls: Vec<RustCall> = calls.iter().map(RustCall::new).collect();
-  least(
-    || (),
-    |()| {
-      let mut desk = MagicString::new(source);
-      calls.iter().for_each(|call| call.make(&mut desk));
-      black_box(desk.to_string());
-    },
-  )
+  anew(source, calls, |desk| see(desk.to_string()))
 }
 
 fn time(core: &mut impl Core, source: &str, calls: &[Call]) -> f64 {

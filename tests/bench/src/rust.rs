@@ -73,12 +73,12 @@ impl RustCall {
 }
 
 /// Keeps what a call gives from being left out.
-fn see<T>(value: T) {
+pub fn see<T>(value: T) {
   black_box(value);
 }
 
-/// Nanoseconds of an opening and of these calls.
-pub fn anew(source: &str, calls: &[Call]) -> f64 {
+/// Nanoseconds of an opening, of these calls, and of what is done with the desk at last.
+pub fn anew(source: &str, calls: &[Call], last: impl Fn(MagicString<'static>)) -> f64 {
   let source: &'static str = source.to_string().leak();
   let calls: Vec<RustCall> = calls.iter().map(RustCall::new).collect();
   least(
@@ -86,7 +86,7 @@ pub fn anew(source: &str, calls: &[Call]) -> f64 {
     |()| {
       let mut desk = MagicString::new(source);
       calls.iter().for_each(|call| call.make(&mut desk));
-      see(desk);
+      last(desk);
     },
   )
 }

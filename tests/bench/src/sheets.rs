@@ -8,7 +8,7 @@ use oracle::{Desk, Limits, number::BAD_SHEET, random::Random};
 use crate::{
   desks,
   papers::{self, EDITS},
-  rust::anew,
+  rust::{anew, see},
   timing::least,
 };
 
@@ -28,7 +28,7 @@ pub fn print(core: &mut impl Core) {
     };
     let judging = time(core, &last_is_bad(sheet), Answer { number: BAD_SHEET, value: 0 });
     let [theirs, ours, judging] =
-      [anew(&source, &calls), ours, judging.unwrap_or_default()].map(|took| took / 1_000.0);
+      [anew(&source, &calls, see), ours, judging.unwrap_or_default()].map(|took| took / 1_000.0);
     let name = format!("source of {} bytes", source.len());
     print!("{name:<30} {theirs:>10.1} {ours:>10.1} {:>8.2}", ours / theirs);
     println!(" {judging:>10.1} {:>7.1}%", 100.0 * judging / ours);
