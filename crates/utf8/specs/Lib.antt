@@ -3,3 +3,4 @@ pub mod Chars
 pub mod WhiteSpace
 pub mod Ascii
 pub mod Abnf
+pub mod Width

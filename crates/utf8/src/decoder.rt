@@ -3,6 +3,7 @@ ghost use mathlib.Core.Path.{_≡_};
 ghost use Prim.Native.Nat.{_+_, _*_, _%_, _<_, _≤_};
 ghost use lib.ListN.{getD};
 ghost use Rattle.utf8.specs.Rfc3629.{follows, decodeAt, sequence, scalar};
+ghost use Rattle.utf8.specs.Width.{WidthFrom};
 use crate::Decoded;
 
 // The byte at i, or 0 past the end, which is no following byte.
@@ -18,6 +19,23 @@ pub fn following(b: u32) -> bool
     ensures { λ r. ⌜ r ≡ follows b ⌝ }
 {
     b & 0xc0 == 0x80
+}
+
+// How many bytes a character takes whose first byte is a.
+pub fn width(a: u32) -> usize
+    requires { ⌜ a < 256 ⌝ }
+    ensures { λ r. ⌜ WidthFrom a r ⌝ }
+{
+    if a < 0x80 {
+        return 1;
+    }
+    if a < 0xe0 {
+        return 2;
+    }
+    if a < 0xf0 {
+        return 3;
+    }
+    4
 }
 
 // The low six bits of a following byte are joined to the left part.
@@ -61,18 +79,18 @@ fn long(a: u32, b: u32, c: u32, d: u32) -> Decoded
         return Decoded::Invalid;
     }
     if a < 0xe0 {
-        return checked(0x80, join(a & 0x1f, b), 2);
+        return checked(0x80, join(a & 0x1f, b), width(a));
     }
     if !following(c) {
         return Decoded::Invalid;
     }
     if a < 0xf0 {
-        return checked(0x800, join(join(a & 0xf, b), c), 3);
+        return checked(0x800, join(join(a & 0xf, b), c), width(a));
     }
     if !following(d) {
         return Decoded::Invalid;
     }
-    checked(0x10000, join(join(join(a & 7, b), c), d), 4)
+    checked(0x10000, join(join(join(a & 7, b), c), d), width(a))
 }
 
 // What stands at `at`: a character with its code and its width, no character, or the end.
@@ -84,7 +102,10 @@ pub fn decode(s: &[u8], at: usize) -> Decoded
     }
     let a = byte_at(s, at);
     if a < 0x80 {
-        return Decoded::Char { code: a, width: 1 };
+        return Decoded::Char {
+            code: a,
+            width: width(a),
+        };
     }
     long(
         a,

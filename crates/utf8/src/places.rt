@@ -7,6 +7,7 @@ ghost use Rattle.utf8.specs.Rfc3629.{decodeAt, utf8, between, widthOf, L
 use crate::Decoded;
 use crate::decoder::decode;
 use crate::decoder::following;
+use crate::decoder::width;
 
 // Whether p stands between two characters of the text s, or at or past its end.
 pub fn boundary(s: &[u8], p: usize) -> bool
@@ -26,7 +27,7 @@ pub fn width_at(s: &[u8], i: usize) -> usize
     ensures { λ r. ⌜ r ≡ widthOf (decodeAt (now (s .entry)) i) ⌝ }
 {
     if s[i] < 0x80 {
-        return 1;
+        return width(s[i] as u32);
     }
     match decode(s, i) {
         Decoded::Char { code: _, width } => width,

@@ -14,10 +14,15 @@ returns c =
 byte-at-requires : tie.Need-byte-at-requires
 byte-at-requires c κs = search needs
 
+width-requires : tie.Need-width-requires
+width-requires c κs = search needs
+
 returns-2 : tie.Need-returns-2
 returns-2 c =
-    let e = c .before .byte-at .ensures .0 in
-    rw e (sym (at-start (c .before .before .before .before .args .s .now) (c .before .before .before .before .args .at) (omega arith) ∙ seq-1 _ _ _ _ (rw e at (c .if2 .taken))))
+    let e = c .before .before .byte-at .ensures .0 in
+    let l = c .before .if2 .taken in
+    rw (c .width .ensures .one l, e) (sym (at-start (c .before .before .before .before .before .args .s .now) (c .before .before .before .before .before .args .at) (omega arith)
+    ∙ seq-1 _ _ _ _ (rw e at l)))
 
 add-byte-at : tie.Need-add-byte-at
 add-byte-at c = search needs
@@ -51,6 +56,7 @@ decode-spec =
     (tie.spec
     returns
     byte-at-requires
+    width-requires
     returns-2
     add-byte-at
     byte-at-requires-2

@@ -9,10 +9,20 @@ use Rattle.utf8.proofs.places.width_at.Tie as tie
 shared-slice-read-if1 : tie.Need-shared-slice-read-if1
 shared-slice-read-if1 c = search needs
 
+shared-slice-read-width : tie.Need-shared-slice-read-width
+shared-slice-read-width c = search needs
+
+cast-width : tie.Need-cast-width
+cast-width c = search needs
+
+width-requires : tie.Need-width-requires
+width-requires c κs = search needs
+
 returns : tie.Need-returns
 returns c =
-    let x = c .before .before .before .args in
-    width-one (x .s .now) (x .i) (c .before .before .before .pre) (c .if1 .taken)
+    let x = c .before .before .before .before .before .args in
+    let l = c .before .before .if1 .taken in
+    c .width .ensures .one l ∙ width-one (x .s .now) (x .i) (c .before .before .before .before .before .pre) l
 
 decode-requires : tie.Need-decode-requires
 decode-requires c κs = search needs
@@ -27,7 +37,7 @@ enum-told-2 : tie.Need-enum-told-2
 enum-told-2 c = search needs
 
 returns-2 : tie.Need-returns-2
-returns-2 c = sym (ap widthOf (sym (c .before .before .before .decode .ensures) ∙ c .before .width .given .1))
+returns-2 c = sym (ap widthOf (sym (c .before .before .before .decode .ensures) ∙ c .before .width2 .given .1))
 
 returns-3 : tie.Need-returns-3
 returns-3 c = sym (ap widthOf (sym (c .before .before .decode .ensures) ∙ c .enum-told .given .1))
@@ -40,6 +50,9 @@ width-at-spec =
     tie.close
     (tie.spec
     shared-slice-read-if1
+    shared-slice-read-width
+    cast-width
+    width-requires
     returns
     decode-requires
     enum-known-width
