@@ -21,21 +21,13 @@ pub fn following(b: u32) -> bool
     b & 0xc0 == 0x80
 }
 
-// How many bytes a character takes whose first byte is a.
+// How many bytes a character takes whose first byte is a: as many as a has leading ones, and one where it has none. A sum, with no branch.
 pub fn width(a: u32) -> usize
     requires { ⌜ a < 256 ⌝ }
     ensures { λ r. ⌜ WidthFrom a r ⌝ }
 {
-    if a < 0x80 {
-        return 1;
-    }
-    if a < 0xe0 {
-        return 2;
-    }
-    if a < 0xf0 {
-        return 3;
-    }
-    4
+    let n = u8::leading_zeros(!(a as u8));
+    (n + (8 - n) / 8) as usize
 }
 
 // The low six bits of a following byte are joined to the left part.
