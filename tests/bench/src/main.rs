@@ -1,6 +1,6 @@
 //! `bench`: the time of each call as a ratio to the Rust's, measured in the same
 //! run; whole papers, by exported and by inner calls and as sheets; calls filed and
-//! withdrawn; and the check alone.
+//! withdrawn; the check of a desk alone, and that of a text.
 
 mod calls;
 mod check;
@@ -13,6 +13,7 @@ mod moved;
 mod papers;
 mod rust;
 mod sheets;
+mod texts;
 mod timing;
 
 use differential::{Core, cores};
@@ -49,4 +50,5 @@ fn main() {
     inner::top();
   }
   check::print(&mut core);
+  texts::print(&mut core);
 }

@@ -12,15 +12,30 @@ pub struct Arguments {
 /// `SEED COUNT [SECONDS]`. Other words are told on standard error, with the
 /// program's name, and make it fail.
 pub fn seed_count_seconds(program: &str) -> Result<Arguments, ExitCode> {
-  let words: Vec<Option<u64>> = std::env::args().skip(1).map(|word| word.parse().ok()).collect();
-  match words[..] {
+  match numbers()[..] {
     [Some(seed), Some(count)] => Ok(Arguments { seed, count, most: Duration::MAX }),
     [Some(seed), Some(count), Some(seconds)] => {
       Ok(Arguments { seed, count, most: Duration::from_secs(seconds) })
     }
-    _ => {
-      eprintln!("usage: {program} SEED COUNT [SECONDS]");
-      Err(ExitCode::from(2))
-    }
+    _ => Err(usage(program, "SEED COUNT [SECONDS]")),
   }
+}
+
+/// `[SEED]`, which is 1 where it is left out. Other words as above.
+pub fn seed(program: &str) -> Result<u64, ExitCode> {
+  match numbers()[..] {
+    [] => Ok(1),
+    [Some(seed)] => Ok(seed),
+    _ => Err(usage(program, "[SEED]")),
+  }
+}
+
+/// The words as numbers, and none for a word that is no number.
+fn numbers() -> Vec<Option<u64>> {
+  std::env::args().skip(1).map(|word| word.parse().ok()).collect()
+}
+
+fn usage(program: &str, words: &str) -> ExitCode {
+  eprintln!("usage: {program} {words}");
+  ExitCode::from(2)
 }

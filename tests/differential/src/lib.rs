@@ -1,10 +1,11 @@
 //! Compares a core (the exported functions, or a stand-in) with the oracle: call
 //! by call on random scripts, and image by image on damaged memory; the orders of
-//! lists of edits with each other; and sheets and records of filed calls with plain
-//! readings of document 02.
+//! lists of edits with each other; sheets and records of filed calls with plain
+//! readings of document 02; and the reading of UTF-8 with Rust's own.
 
 pub mod any_order;
 pub mod arguments;
+pub mod characters;
 pub mod compare;
 pub mod cores;
 pub mod damage;

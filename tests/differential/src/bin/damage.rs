@@ -5,20 +5,14 @@
 use std::{process::ExitCode, time::Instant};
 
 use differential::{
-  Core, cores,
+  Core, arguments, cores,
   damage::{self, Judge},
 };
 
 fn main() -> ExitCode {
-  let arguments: Vec<Option<u64>> =
-    std::env::args().skip(1).map(|word| word.parse().ok()).collect();
-  let seed = match arguments[..] {
-    [] => 1,
-    [Some(seed)] => seed,
-    _ => {
-      eprintln!("usage: damage [SEED]");
-      return ExitCode::from(2);
-    }
+  let seed = match arguments::seed("damage") {
+    Ok(seed) => seed,
+    Err(code) => return code,
   };
   let mut core = cores::chosen(seed);
   println!("core: {}", core.name());
