@@ -44,9 +44,14 @@ fn line(core: &mut impl Core, name: &str, desk: &DeskData, unit: &str) {
 pub fn floor(bytes: usize, unit: &str) -> (f64, f64) {
   let text = unit.repeat(bytes / unit.len()).into_bytes();
   let mut copy = vec![0; text.len()];
-  let utf8 = least(|| (), |()| assert!(std::str::from_utf8(black_box(&text)).is_ok()));
+  let utf8 = from_utf8(&text);
   let copied = least(|| (), |()| black_box(&mut copy).copy_from_slice(black_box(&text)));
   (utf8, copied)
+}
+
+/// Nanoseconds of std's UTF-8 check of a text.
+pub fn from_utf8(text: &[u8]) -> f64 {
+  least(|| (), |()| assert!(std::str::from_utf8(black_box(text)).is_ok()))
 }
 
 /// What a check has to look at: 12 words for row 0 and each chunk, 2 for each

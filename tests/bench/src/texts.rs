@@ -1,15 +1,13 @@
 //! The check of a text: an opening checks its source and writes two rows. Beside
 //! it std's check of the same text.
 
-use std::hint::black_box;
-
 use differential::{
   Core,
   image::{self, Style},
 };
 use oracle::{Call, ChunkData, DeskData, random::Random};
 
-use crate::{calls, desks, timing::least};
+use crate::{calls, check, desks};
 
 const LEN: usize = 16_384;
 
@@ -26,7 +24,7 @@ pub fn print(core: &mut impl Core) {
 
 fn line(core: &mut impl Core, name: &str, text: String) {
   let end = text.len() as u32;
-  let theirs = least(|| (), |()| assert!(std::str::from_utf8(black_box(text.as_bytes())).is_ok()));
+  let theirs = check::from_utf8(text.as_bytes());
   let desk = DeskData {
     chunks: vec![ChunkData { end, ..Default::default() }],
     source: text,

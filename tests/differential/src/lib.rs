@@ -22,6 +22,7 @@ mod missing;
 pub mod out;
 pub mod paper;
 pub mod papers;
+pub mod program;
 pub mod run;
 pub mod sheets;
 pub mod shrink;

@@ -2,31 +2,18 @@
 //! judged well formed and how many not, by kind of damage; at the first image on
 //! which the core is wrong it prints that and fails.
 
-use std::{process::ExitCode, time::Instant};
+use std::process::ExitCode;
 
 use differential::{
-  Core, arguments, cores,
   damage::{self, Judge},
+  program,
 };
 
 fn main() -> ExitCode {
-  let seed = match arguments::seed("damage") {
-    Ok(seed) => seed,
-    Err(code) => return code,
-  };
-  let mut core = cores::chosen(seed);
-  println!("core: {}", core.name());
-  println!("seed: {seed}");
-
-  let began = Instant::now();
-  let mut judge = Judge::new(&mut core, seed);
-  let judged = damage::all(&mut judge, seed);
-  print!("{}", judge.verdicts);
-  if let Err(found) = judged {
-    println!("differences: 1\n\n{found}");
-    return ExitCode::FAILURE;
-  }
-  println!("seconds: {:.1}", began.elapsed().as_secs_f64());
-  println!("differences: 0");
-  ExitCode::SUCCESS
+  program::seeded("damage", |core, seed| {
+    let mut judge = Judge::new(core, seed);
+    let judged = damage::all(&mut judge, seed);
+    print!("{}", judge.verdicts);
+    judged
+  })
 }

@@ -12,7 +12,7 @@ use differential::{
   compare::{Compared, compare_on},
   cores,
   damage::{self, Judge},
-  papers,
+  papers, program,
 };
 
 fn main() -> ExitCode {
@@ -41,11 +41,5 @@ fn main() -> ExitCode {
   let mut judge = Judge::new(&mut core, seed);
   let judged = damage::of_any_size(&mut judge, seed);
   print!("{}", judge.verdicts);
-  println!("seconds: {:.1}", began.elapsed().as_secs_f64());
-  if let Err(found) = judged {
-    println!("differences: 1\n\n{found}");
-    return ExitCode::FAILURE;
-  }
-  println!("differences: 0");
-  ExitCode::SUCCESS
+  program::ended(began, judged)
 }

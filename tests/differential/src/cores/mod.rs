@@ -78,13 +78,18 @@ pub fn verdict(core: &impl Core, lent: &Lent) -> Answer {
 
 /// The core of this build: the archive where it is linked, else the stand-in.
 #[cfg(feature = "archive")]
-pub fn chosen(_seed: u64) -> Archive {
+pub type Chosen = Archive;
+/// The core of this build: the archive where it is linked, else the stand-in.
+#[cfg(not(feature = "archive"))]
+pub type Chosen = StandIn;
+
+#[cfg(feature = "archive")]
+pub fn chosen(_seed: u64) -> Chosen {
   Archive
 }
 
-/// The core of this build: the archive where it is linked, else the stand-in.
 #[cfg(not(feature = "archive"))]
-pub fn chosen(seed: u64) -> StandIn {
+pub fn chosen(seed: u64) -> Chosen {
   StandIn::new(seed)
 }
 
