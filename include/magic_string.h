@@ -10,7 +10,7 @@
  * nothing else writes any of them during the call.
  *
  * A call uses no heap. Its stack, measured: an edit, a sheet, and a call on a
- * record up to 128 kB, the check and a report up to 20 kB.
+ * record up to 128 kB, a join up to 210 kB, the check and a report up to 20 kB.
  *
  * The tables do not hold the source, and nothing in them tells which it was. A
  * caller lends the same source to every call on a desk: another one of the same
@@ -23,24 +23,26 @@
  * Every call gives a number and a value. The number is 0 if the call was
  * accepted, or a refusal, whose name is in the enum below:
  *
- *    1 text not UTF-8                  10 end past source
- *    2 desk or record not well formed  11 slice starts inside a replaced chunk
- *    3 position inside a character     12 slice ends there
- *    4 end before start                13 the desk would break a limit
- *    5 replace zero width              14 output buffer too short
- *    6 cut inside a replacement        15 pattern above 1, odd exclude list
- *    7 replace across a moved edge     16 sheet or call breaks its form's rules
- *    8 move into itself                17 no call with that number is filed
- *    9 moved range not together
+ *    1 text not UTF-8                  11 slice starts inside a replaced chunk
+ *    2 desk or record not well formed  12 slice ends there
+ *    3 position inside a character     13 the desk would break a limit
+ *    4 end before start                14 output buffer too short
+ *    5 replace zero width              15 pattern above 1, odd exclude list
+ *    6 cut inside a replacement        16 sheet, list or call breaks its rules
+ *    7 replace across a moved edge     17 no call with that number is filed
+ *    8 move into itself                18 calls to be joined are not apart
+ *    9 moved range not together        19 one of them is refused alone
+ *   10 end past source
  *
  * "Numbers" below are those that the call may give, in the order in which they
  * are tested. 13 is given if the desk that the call would leave breaks a limit,
  * and then in place of the answers that it is named for; file gives it for the
- * limits of a record too.
+ * limits of a record too, and join for the space that it reckons.
  *
  * What lent memory holds afterwards:
  *
- *  - The source, texts, sheets and calls to be filed are never written.
+ *  - The source, texts, sheets, lists to be joined and calls to be filed are
+ *    never written.
  *  - After 0 the tables hold the desk that the call leaves. Which rows and
  *    which bytes of the store it lies in is the library's choice. Where a call
  *    is said to do nothing, and after every report, each byte of the tables is
@@ -71,7 +73,8 @@ extern "C" {
 #define MAGIC_STRING_STORE_BYTES 32768
 
 /* A sheet: its version, how many bytes stand before its source, and its limits,
- * the records and the bytes in all. */
+ * the records and the bytes in all. The limits are those of a list to be joined
+ * too. */
 #define MAGIC_STRING_SHEET_VERSION 1
 #define MAGIC_STRING_SHEET_FRONT 3
 #define MAGIC_STRING_SHEET_RECORDS 200
@@ -149,7 +152,9 @@ enum {
   MAGIC_STRING_SHORT_BUFFER = 14,
   MAGIC_STRING_BAD_OPTION = 15,
   MAGIC_STRING_BAD_SHEET = 16,
-  MAGIC_STRING_NO_SUCH_CALL = 17
+  MAGIC_STRING_NO_SUCH_CALL = 17,
+  MAGIC_STRING_NOT_APART = 18,
+  MAGIC_STRING_REFUSED_ALONE = 19
 };
 
 /* The value is what the call reports, and 0 where it reports nothing. A refused
@@ -331,6 +336,47 @@ magic_string_answer magic_string_run_sheet(const uint8_t *sheet,
                                            size_t store_len, uint8_t *answers,
                                            size_t answers_len);
 
+/* ---- a join: two lists of calls made on one desk ---- */
+
+/* A list is records of a sheet, in the form above, one behind the other up to
+ * its end, with no version and no source before them. It may have no record. It
+ * has at most MAGIC_STRING_SHEET_RECORDS records, and at most
+ * MAGIC_STRING_SHEET_BYTES bytes. A length, a kind, a count of records or a
+ * size that breaks these rules is 16.
+ *
+ * Two lists join exactly if their calls, all together, pass the checks of the
+ * any-order rule (docs/ANY-ORDER.md) on the desk. What a call reaches: a
+ * removal, replacement or reset its bytes; an insertion with left the byte
+ * before its position, or the head at 0; an insertion without left the byte
+ * behind its position, or the tail at the source's end; a move nothing.
+ *
+ *    18   The source is empty, even if both lists are. A removal, replacement
+ *         or reset has zero width, or its end lies before its start. A position
+ *         lies past the source's end. Two calls reach the same byte, both the
+ *         head or both the tail. There are two moves. A position of the move
+ *         lies strictly inside a range that is replaced, by an empty text too.
+ *    19   A call is refused alone: made by itself on the desk as it is lent, it
+ *         gives a number. So a text that is not UTF-8, a position inside a
+ *         character and a call that alone would break a limit are 19.
+ *    13   There is no space: the desk's chunks and three for each call are more
+ *         than MAGIC_STRING_CHUNKS, or its pieces and one for each insertion
+ *         more than MAGIC_STRING_PIECES, or the bytes of its pieces and
+ *         replacements and of all texts of the lists more than
+ *         MAGIC_STRING_STORE_BYTES. */
+
+/* Makes the calls of the first list and then those of the second, if the two
+ * lists join. Each is accepted then, and the same calls in any other order, the
+ * second list before the first too, would leave the same desk. Two empty lists
+ * on a source that is not empty do nothing.
+ * Numbers: 2, 16 for a list that breaks a rule, 18, 19, 13. Value: the cuts of
+ * all calls together, which is how many chunks more the desk has.
+ * After 0: the tables hold the desk that the first list and then the second
+ * leave.
+ * After a refusal: each byte of the tables is as it was. */
+magic_string_answer magic_string_join(MAGIC_STRING_DESK, const uint8_t *first,
+                                      size_t first_len, const uint8_t *second,
+                                      size_t second_len);
+
 /* ---- a record: calls filed and withdrawn ---- */
 
 /* A record keeps calls that were made on a desk, with their answers, so that
@@ -353,13 +399,14 @@ magic_string_answer magic_string_run_sheet(const uint8_t *sheet,
  * looked at, nor what stands behind the filed calls, nor whether a text is
  * UTF-8.
  *
- * Only file files: an edit, open and run_sheet leave the record as it is. A
- * desk that was fresh beside an empty record, and that only file and withdraw
- * have changed since, is what the filed calls leave when they are made in order
- * on a fresh desk, and the answers are those of that run. Another edit, and
- * open or run_sheet while calls are filed, may leave a desk that is not; the
- * next call that is withdrawn makes it so again. Nothing in a record tells
- * which desk it belongs to: lend the same one to every call on a desk. */
+ * Only file files: an edit, a join, open and run_sheet leave the record as it
+ * is. A desk that was fresh beside an empty record, and that only file and
+ * withdraw have changed since, is what the filed calls leave when they are made
+ * in order on a fresh desk, and the answers are those of that run. Another edit
+ * or a join, and open or run_sheet while calls are filed, may leave a desk that
+ * is not; the next call that is withdrawn makes it so again. Nothing in a
+ * record tells which desk it belongs to: lend the same one to every call on a
+ * desk. */
 
 /* Makes the call, which is one record of a sheet, its length included, and
  * files it behind the others with its answer, whether it was accepted or

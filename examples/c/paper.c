@@ -50,8 +50,11 @@ static const char *const words[] = {
     [MAGIC_STRING_SHORT_BUFFER] = "output buffer too short",
     [MAGIC_STRING_BAD_OPTION] =
         "pattern above 1, or an exclude list of odd count",
-    [MAGIC_STRING_BAD_SHEET] = "sheet or call breaks the rules of its form",
-    [MAGIC_STRING_NO_SUCH_CALL] = "no call with that number is filed"};
+    [MAGIC_STRING_BAD_SHEET] =
+        "sheet, list or call breaks the rules of its form",
+    [MAGIC_STRING_NO_SUCH_CALL] = "no call with that number is filed",
+    [MAGIC_STRING_NOT_APART] = "calls to be joined are not apart",
+    [MAGIC_STRING_REFUSED_ALONE] = "a call to be joined is refused alone"};
 
 /* The place of a text in the script: its first byte, and the first behind. */
 static uint32_t start(const char *text) {

@@ -156,24 +156,33 @@ static const char example[] = "\x01\x00\x03"
                               "\x00\x00\x00\x03";
 #define EXAMPLE_LEN (sizeof example - 1)
 
+/* A copy of the tables, and whether each byte of them still is as it was. */
+static uint32_t chunks_before[MAGIC_STRING_CHUNKS_LEN];
+static uint32_t pieces_before[MAGIC_STRING_PIECES_LEN];
+static uint8_t store_before[MAGIC_STRING_STORE_LEN];
+
+static void keep_tables(void) {
+  memcpy(chunks_before, chunks, sizeof chunks_before);
+  memcpy(pieces_before, pieces, sizeof pieces_before);
+  memcpy(store_before, store, sizeof store_before);
+}
+
+static const char *tables_now(void) {
+  int same = !memcmp(chunks_before, chunks, sizeof chunks_before) &&
+             !memcmp(pieces_before, pieces, sizeof pieces_before) &&
+             !memcmp(store_before, store, sizeof store_before);
+  return same ? "as before" : "written";
+}
+
 /* Runs a sheet with room for one answer, which is 99 before. Prints the answer
  * of the run and of the record, whether each byte of the tables is as it was,
  * and the output. */
 static void run(const char *call, const uint8_t *sheet, uint8_t *answers) {
-  static uint32_t chunks_before[MAGIC_STRING_CHUNKS_LEN];
-  static uint32_t pieces_before[MAGIC_STRING_PIECES_LEN];
-  static uint8_t store_before[MAGIC_STRING_STORE_LEN];
-  memcpy(chunks_before, chunks, sizeof chunks_before);
-  memcpy(pieces_before, pieces, sizeof pieces_before);
-  memcpy(store_before, store, sizeof store_before);
   answers[0] = 99;
+  keep_tables();
   reported(call,
            magic_string_run_sheet(sheet, EXAMPLE_LEN, TABLES, answers, 1));
-  int same = !memcmp(chunks_before, chunks, sizeof chunks_before) &&
-             !memcmp(pieces_before, pieces, sizeof pieces_before) &&
-             !memcmp(store_before, store, sizeof store_before);
-  printf("  answer %u, tables %s, ", (unsigned)answers[0],
-         same ? "as before" : "written");
+  printf("  answer %u, tables %s, ", (unsigned)answers[0], tables_now());
   magic_string_answer shown = magic_string_to_string(
       sheet + MAGIC_STRING_SHEET_FRONT, 3, TABLES, out, 3);
   text(out, shown.value);
@@ -314,6 +323,75 @@ static void limits(void) {
   free(bytes);
 }
 
+/* Lists of calls, in the same form, that are joined with one another. */
+#define REMOVE_3_3 "\0\x09\x01\0\0\0\x03\0\0\0\x03"
+#define UPDATE_3_7 "\0\x0B\x02\0\0\0\x03\0\0\0\x07XY"
+#define APPEND_LEFT_3 "\0\x06\x04\0\0\0\x03("
+#define PREPEND_RIGHT_7 "\0\x06\x07\0\0\0\x07)"
+#define APPEND_LEFT_0 "\0\x06\x04\0\0\0\x00<"
+#define APPEND_RIGHT_14 "\0\x06\x05\0\0\0\x0E>"
+#define APPEND_LEFT_12 "\0\x06\x04\0\0\0\x0C?"
+#define APPEND_LEFT_15 "\0\x06\x04\0\0\0\x0F?"
+#define NOT_UTF8_8 "\0\x06\x04\0\0\0\x08\xFF"
+#define RELOCATE_2_5_8 "\0\x0D\x08\0\0\0\x02\0\0\0\x05\0\0\0\x08"
+
+/* Joins two lists, each in memory of exactly its length. Prints the answer,
+ * whether each byte of the tables is as it was, and the output. */
+static void join(const char *call, const char *first, size_t first_len,
+                 const char *second, size_t second_len) {
+  uint8_t *lists[2] = {malloc(first_len + !first_len),
+                       malloc(second_len + !second_len)};
+  if (!lists[0] || !lists[1])
+    exit(1);
+  memcpy(lists[0], first, first_len);
+  memcpy(lists[1], second, second_len);
+  keep_tables();
+  edit(call,
+       magic_string_join(DESK, lists[0], first_len, lists[1], second_len));
+  printf("  tables %s\n", tables_now());
+  free(lists[0]);
+  free(lists[1]);
+}
+
+#define LIST(l) l, sizeof(l) - 1
+#define FIRST UPDATE_3_7 APPEND_LEFT_0
+#define SECOND PREPEND_RIGHT_7 RELOCATE_2_3_8 APPEND_LEFT_3 APPEND_RIGHT_14
+
+/* Every number of a join; those that stand before another one come with it. */
+static void joins(void) {
+  static char long_first[MAGIC_STRING_STORE_BYTES / 2 + 7];
+  static char long_second[MAGIC_STRING_STORE_BYTES / 2 + 8];
+  magic_string_open(DESK);
+  join("join two lists", LIST(FIRST), LIST(SECOND));
+  magic_string_open(DESK);
+  join("join, the second one first", LIST(SECOND), LIST(FIRST));
+  join("join no calls", LIST(""), LIST(""));
+  magic_string_open(DESK);
+  join("join with a byte too many", LIST(REMOVE_3_7), LIST(REMOVE_3_3 "\0"));
+  join("join of zero width", LIST(REMOVE_3_3), LIST(NOT_UTF8_8));
+  join("join backwards", LIST(""), LIST(REMOVE_7_3));
+  join("join past the source", LIST(APPEND_LEFT_15), LIST(""));
+  join("join at the same byte", LIST(REMOVE_3_7), LIST(APPEND_LEFT_5));
+  join("join two moves", LIST(RELOCATE_2_3_8), LIST(RELOCATE_2_5_8));
+  join("join, a move from inside", LIST(UPDATE_3_7), LIST(RELOCATE_2_5_8));
+  join("join with byte FF", LIST(REMOVE_3_7), LIST(NOT_UTF8_8));
+  join("join inside a character", LIST(APPEND_LEFT_12), LIST(FIRST));
+
+  /* Two texts of half the store, and a byte. */
+  memset(long_first, 'x', sizeof long_first);
+  memset(long_second, 'x', sizeof long_second);
+  memcpy(long_first, "\x40\x05\x04\0\0\0\0", 7);
+  memcpy(long_second, "\x40\x06\x05\0\0\0\x0E", 7);
+  join("join, a byte too many", long_first, sizeof long_first, long_second,
+       sizeof long_second);
+  source_len = 0;
+  magic_string_open(DESK);
+  join("join no calls on \"\"", LIST(""), LIST(""));
+  memset(chunks, 0, MAGIC_STRING_CHUNKS_LEN * sizeof *chunks);
+  join("join on zeros", LIST("\0"), LIST(""));
+  source_len = strlen(script);
+}
+
 int main(void) {
   source_len = strlen(script);
   out_len = source_len + 16;
@@ -336,6 +414,7 @@ int main(void) {
   out_len = source_len + 16;
   records();
   limits();
+  joins();
   free(source);
   free(chunks);
   free(pieces);

@@ -17,7 +17,8 @@ use Rattle.model.specs.Call.{trim-lines, indent-with, texts, positions, listed}
 use Rattle.model.proofs.Lists.{clash, first-of, rest-of, all-of, all-map}
 use Rattle.model.specs.Insert.{left, right, front, back}
 use Rattle.model_closed_forms.specs.Plan.{Plan, nothing, clear, replace, insert-whole, move, plan, cuts}
-use Rattle.any_order.specs.Claim.{Spot, byte, head, tail, left-of, right-of, Bytes, Reach, IsMove, InReplaced, Wide, new-pieces, new-bytes, Disjoint, FreeOf}
+use Rattle.model_join.specs.Tests.{new-pieces, new-bytes}
+use Rattle.any_order.specs.Claim.{Spot, byte, head, tail, left-of, right-of, Bytes, Reach, IsMove, InReplaced, Wide, Disjoint, FreeOf}
 use Rattle.any_order.proofs.Acts.{OutsideReplaced, PlanByte}
 use Rattle.any_order.proofs.Pair.{PlanHead, PlanTail, PlanMove, PlansApart, WellPlanned}
 use Rattle.any_order.proofs.SpaceLaws.{plan-pieces, plan-bytes}

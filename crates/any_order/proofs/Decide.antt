@@ -17,10 +17,11 @@ use Rattle.model.specs.Call.{Edit, remove, update-with, reset, insert, append, 
 use Rattle.model.specs.Call.{trim-lines, indent-with, positions, run, listed}
 use Rattle.model.specs.WellFormed.{WellFormed}
 use Rattle.model.proofs.Lists.{both, and-left, and-right, clash, all-map, all-true, true-all}
-use Rattle.any_order.specs.Claim.{Pairs, Spot, byte, head, tail, left-of, right-of, beside, Bytes, Reach, IsMove, InReplaced, Wide, most-cuts, new-pieces, new-bytes, Space}
+use Rattle.model_join.specs.Tests.{most-cuts, new-pieces, new-bytes}
+use Rattle.any_order.specs.Claim.{Pairs, Spot, byte, head, tail, left-of, right-of, beside, Bytes, Reach, IsMove, InReplaced, Wide, Space}
 use Rattle.any_order.specs.Claim.{Disjoint, FreeOf, EditsApart, Premises}
-use Rattle.any_order.specs.Tests.{pairs, Zone, bytes, head-zone, tail-zone, no-zone, left-zone, right-zone, zone, meets, is-move, in-replaced, free-of, is-wide}
-use Rattle.any_order.specs.Tests.{edits-apart, each-alone, has-space, any-order-holds}
+use Rattle.model_join.specs.Tests.{pairs, Zone, bytes, head-zone, tail-zone, no-zone, left-zone, right-zone, zone, meets, is-move, in-replaced, free-of, is-wide}
+use Rattle.model_join.specs.Tests.{edits-apart, each-alone, has-space, any-order-holds}
 use Rattle.any_order.specs.Decide.{Decides}
 
 -- ── a test decides a statement ──

@@ -1,7 +1,7 @@
 -- Laws of what `Example` in specs/ defines.
 use mathlib.Core.Path.{_≡_, refl, _∙_, subst}
 use mathlib.Core.Bool.{true}
-use mathlib.Core.List.{List, [], _∷_, flatten}
+use mathlib.Core.List.{List, flatten}
 use Rattle.utf8.specs.Rfc3629.{scalar, sequence, decodeAt, wholeFrom, utf8, between}
 use Rattle.model.specs.Chunk.{contains}
 use Rattle.model.specs.MagicString.{MagicString, new, split-at, by-edge-mut, to-string}
@@ -10,12 +10,12 @@ use Rattle.model.specs.Update as update-rs
 use Rattle.model.specs.Movement.{change-range}
 use Rattle.model.specs.Movement as movement-rs
 use Rattle.model.specs.Reset as reset-rs
-use Rattle.model.specs.Limits.{Limits, full, within}
+use Rattle.model.specs.Limits.{full, within}
 use Rattle.model.specs.Call.{Edit, refused-before, run, judged, after}
 use Rattle.model.specs.WellFormed.{WellFormed}
-use Rattle.model_preservation.proofs.Calls.{new-formed, run-keeps}
+use Rattle.model_preservation.proofs.Calls.{new-formed, after-keeps}
 use Rattle.any_order.specs.Claim.{Order, Premises, Conclusion}
-use Rattle.any_order.specs.Tests.{edits-apart, each-alone, has-space, any-order-holds}
+use Rattle.model_join.specs.Tests.{edits-apart, each-alone, has-space, any-order-holds}
 use Rattle.any_order.proofs.Decide.{decide-premises}
 use Rattle.any_order.proofs.Theorem.{any-order}
 use Rattle.any_order.specs.Example.{source, prepared, desk, edits, text}
@@ -28,10 +28,6 @@ unfolding flatten scalar sequence decodeAt wholeFrom utf8 between contains split
 computed = (refl, refl, refl)
 
 -- ── the rule on it ──
-after-keeps : (k : Limits) (L : List Edit) (m : MagicString) → WellFormed k m → WellFormed k (after k L m)
-after-keeps k [] m w = w
-after-keeps k (e ∷ L) m w = after-keeps k L (run k e m .desk) (run-keeps k e m w)
-
 fresh : WellFormed full (new source)
 unfolding scalar sequence wholeFrom utf8 within
 fresh = record { formed = new-formed source refl; limits = refl }

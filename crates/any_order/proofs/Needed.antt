@@ -15,7 +15,7 @@ use Rattle.model.specs.Trim.{trim-chunk-start, trim-chunk-end}
 use Rattle.model.specs.Trim as trim-rs
 use Rattle.model.specs.Limits.{within}
 use Rattle.model.specs.Call.{refused-before, run, judged}
-use Rattle.any_order.specs.Tests.{each-alone, has-space}
+use Rattle.model_join.specs.Tests.{each-alone, has-space}
 use Rattle.any_order.specs.Needed.{computed, rows}
 
 -- ── the table ──

@@ -19,7 +19,8 @@ use Rattle.model_closed_forms.proofs.Cuts.{Splittable, cuttable-of, cuttable-tr
 use Rattle.model_closed_forms.specs.Accepted.{plan-of}
 use Rattle.model_closed_forms.specs.RunClosed.{RunAccepted}
 use Rattle.model_closed_forms.proofs.RunClosed.{accepted-run, run-accepted}
-use Rattle.any_order.specs.Claim.{IsMove, Wide, new-pieces, new-bytes, Space, FreeOf, EditsApart, Premises}
+use Rattle.model_join.specs.Tests.{new-pieces, new-bytes}
+use Rattle.any_order.specs.Claim.{IsMove, Wide, Space, FreeOf, EditsApart, Premises}
 use Rattle.any_order.proofs.Pair.{PlansApart, splittable-after, order-after}
 use Rattle.any_order.proofs.SpaceLaws.{more-chunks, more-pieces, more-bytes}
 use Rattle.any_order.proofs.Bridge.{EditPremises, PairPremises, Implements, implements, plans-apart}

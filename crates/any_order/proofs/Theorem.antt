@@ -13,7 +13,8 @@ use Rattle.model.specs.WellFormed.{WellFormed}
 use Rattle.model.proofs.Lists.{first-of, rest-of}
 use Rattle.model_closed_forms.specs.Plan.{apply}
 use Rattle.model_closed_forms.specs.Accepted.{plan-of}
-use Rattle.any_order.specs.Claim.{Pairs, Order, same, next, swap, then, new-pieces, new-bytes, EditsApart, Premises, AllAccepted, shown, AnyOrder}
+use Rattle.model_join.specs.Tests.{new-pieces, new-bytes}
+use Rattle.any_order.specs.Claim.{Pairs, Order, same, next, swap, then, Space, EditsApart, Premises, AllAccepted, shown, AnyOrder}
 use Rattle.any_order.proofs.Pair.{PlansApart, apply-apply}
 use Rattle.any_order.proofs.Bridge.{EditPremises, implements, plans-apart}
 use Rattle.any_order.proofs.Kept.{formed-proper}
@@ -21,7 +22,7 @@ use Rattle.any_order.proofs.Run.{edit-premises, pair-premises, run-head
 
 -- ── what every order of a list has in common ──
 module _ {A : Type 0} where
-  order-all : {P : A → Type 0} {l l′ : List A} → Order l l′ → All P l → All P l′
+  pub order-all : {P : A → Type 0} {l l′ : List A} → Order l l′ → All P l → All P l′
   order-all same h = h
   order-all (next x o) (cons p ps) = cons p (order-all o ps)
   order-all (swap x y) (cons p (cons q ps)) = cons q (cons p ps)
@@ -57,8 +58,13 @@ module _ {A : Type 0} where
   pub order-reverse : (l : List A) → Order l (reverse l)
   order-reverse l = subst (λ (x : List A). Order x (reverse l)) (append-nil l) (order-onto l [])
 
+  -- two lists, one behind the other, the other way round
+  pub order-swap : (l l′ : List A) → Order (l ++ l′) (l′ ++ l)
+  order-swap [] l′ = subst (λ (x : List A). Order l′ x) (sym (append-nil l′)) same
+  order-swap (x ∷ l) l′ = then (next x (order-swap l l′)) (order-middle x l′ l)
+
 -- so every order meets the premises
-apart-order : (n : ℕ) {L L′ : List Edit} → Order L L′ → EditsApart n L → EditsApart n L′
+pub apart-order : (n : ℕ) {L L′ : List Edit} → Order L L′ → EditsApart n L → EditsApart n L′
 apart-order n o d = record {
   source-not-empty = d .source-not-empty;
   edits = order-all o (d .edits);
@@ -69,16 +75,19 @@ apart-order n o d = record {
   moves-free = order-pairs (λ x y f. (f .1, f .0)) o (d .moves-free);
 }
 
+pub space-order : (k : Limits) (m : MagicString) {L L′ : List Edit} → Order L L′ → Space k m L → Space k m L′
+space-order k m o s = record {
+  chunks = omega (arith, s .chunks, order-length o);
+  pieces = omega (arith, s .pieces, order-sum new-pieces o);
+  bytes = omega (arith, s .bytes, order-sum new-bytes o);
+}
+
 premises-order : (k : Limits) (m : MagicString) {L L′ : List Edit} → Order L L′ → Premises k m L → Premises k m L′
 premises-order k m o p = record {
   well-formed = p .well-formed;
   apart = apart-order (length (m .source)) o (p .apart);
   alone = order-all o (p .alone);
-  space = record {
-    chunks = omega (arith, p .space .chunks, order-length o);
-    pieces = omega (arith, p .space .pieces, order-sum new-pieces o);
-    bytes = omega (arith, p .space .bytes, order-sum new-bytes o);
-  };
+  space = space-order k m o (p .space);
 }
 
 -- ── each edit is accepted ──

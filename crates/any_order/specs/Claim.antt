@@ -1,5 +1,5 @@
 -- Document 01, "Any order: the reckoning": what edits reach, the premises on a list L of edits, the orders of L, and the claim.
-use Prim.Native.Nat.{ℕ, zero, suc, _+_, _*_, _≤_, _<_}
+use Prim.Native.Nat.{ℕ, zero, suc, _+_, _≤_, _<_}
 use mathlib.Core.Path.{_≡_}
 use mathlib.Core.Bool.{Bool, true, cond}
 use mathlib.Core.List.{List, [], _∷_}
@@ -10,8 +10,10 @@ use Rattle.model.specs.Text.{sum}
 use Rattle.model.specs.MagicString.{MagicString, to-string}
 use Rattle.model.specs.Limits.{Limits, piece-count, byte-count}
 use Rattle.model.specs.Call.{Edit, remove, update-with, reset, insert, append, prepend, relocate, trim, trim-start, trim-end}
-use Rattle.model.specs.Call.{trim-lines, indent-with, texts, positions, run, after, Call, Shown, perform, listed}
+use Rattle.model.specs.Call.{trim-lines, indent-with, positions, run, after, Shown, listed}
 use Rattle.model.specs.WellFormed.{WellFormed}
+use Rattle.model_join.specs.Tests.{most-cuts, new-pieces, new-bytes}
+use Rattle.model_calls.specs.Call.{Call, perform}
 
 -- ── lists ──
 module _ {A : Type 0} where
@@ -112,29 +114,6 @@ Wide trim-lines = Unit {0}
 Wide (indent-with i l) = Unit {0}
 
 -- ── space ──
--- "3 × calls": an edit makes at most three cuts
-abbrev pub most-cuts : List Edit → ℕ
-most-cuts L = 3 * length L
-
--- "insertions, each `prepend` and `append` counted as one"
-abbrev pub new-pieces : Edit → ℕ
-new-pieces (remove a b) = 0
-new-pieces (update-with a b t o) = 0
-new-pieces (reset a b) = 0
-new-pieces (insert p t left front) = 1
-new-pieces (append t) = 1
-new-pieces (prepend t) = 1
-new-pieces (relocate a b to) = 0
-new-pieces (trim p) = 0
-new-pieces (trim-start p) = 0
-new-pieces (trim-end p) = 0
-new-pieces trim-lines = 0
-new-pieces (indent-with i l) = 0
-
--- "all texts in L"
-abbrev pub new-bytes : Edit → ℕ
-new-bytes e = sum length (texts e)
-
 -- "Space for L: D's chunks + 3 × calls ≤ 512; D's pieces + insertions .. ≤ 1,024; D's store bytes + all texts in L ≤ 32,768"
 pub record Space (k : Limits) (m : MagicString) (L : List Edit) : Type 0 where
   pub chunks : length (m .chunks) + most-cuts L ≤ k .most-chunks

@@ -1,5 +1,4 @@
 pub mod Claim
-pub mod Tests
 pub mod Decide
 pub mod Example
 pub mod Needed

@@ -9,7 +9,7 @@ use Rattle.model.specs.MagicString.{MagicString, new, to-string}
 use Rattle.model.specs.Limits.{full}
 use Rattle.model.specs.Insert.{left, right, back}
 use Rattle.model.specs.Call.{Edit, remove, update-with, insert, append, prepend, relocate, trim, listed, after, answers}
-use Rattle.any_order.specs.Tests.{is-wide, all-within, all-apart, one-move, moves-free, each-alone, has-space}
+use Rattle.model_join.specs.Tests.{is-wide, all-within, all-apart, one-move, moves-free, each-alone, has-space}
 
 -- the tests of the premises, in the checklist's order
 abbrev pub tests : MagicString → List Edit → List Bool

@@ -1,16 +1,19 @@
 -- Runs of the exported functions follow the model: what a run of edits leaves, and what later calls give.
 use Prim.Native.Nat.{ℕ, _≤_}
 use mathlib.Core.Path.{_≡_, refl, sym, ap, _∙_, subst}
-use mathlib.Core.List.{List, map}
+use mathlib.Core.List.{List, [], _++_, map}
 use native.Mathlib.Omega.{arith}
-use lib.ListN.{length}
+use lib.ListN.{length, drop}
 use borrow.Author.Tests.{le-leb}
 use Rattle.utf8.specs.Chars.{All, nil, cons}
 use Rattle.model.specs.Text.{Text}
 use Rattle.model.specs.MagicString.{MagicString, Result, to-string}
 use Rattle.model.specs.Limits.{Limits}
-use Rattle.model.specs.Call.{Edit, Report, DeskCall, on-desk, Shown, run, cuts-left, show, perform, after}
+use Rattle.model.specs.Call.{Edit, Report, Shown, Outcome, run, cuts-left, show, after}
 use Rattle.model.specs.Call as call
+use Rattle.model_calls.specs.Call.{DeskCall, on-desk, perform}
+use Rattle.model_join.specs.Join.{join}
+use Rattle.model_join.proofs.Joining.{join-writes-none}
 use Rattle.memory.proofs.Desks.{full-as, limits-as}
 use Rattle.memory.specs.Calls.{Ran, Told}
 use Rattle.any_order.specs.Claim.{AllAccepted, shown}
@@ -54,6 +57,9 @@ edit-gave a value r n v = record { number = n; value = v; buffer = refl }
 told-gave : (q : Report) (m : MagicString) (x : Seen) → Told q m (x .before) (x .after) (x .answer .number) (x .answer .value) → Gave x (show q m)
 told-gave q m x d = record { number = d .number-is; value = d .value-is; buffer = d .written }
 
+join-gave : (a : Answer) (o : Outcome) → a .number ≡ o .shown .number → a .value ≡ o .shown .value → o .shown .written ≡ [] → Gave (runs.seen-edit a) (o .shown)
+join-gave a o n v e = record { number = n; value = v; buffer = sym (ap (λ l. l ++ drop (length l) []) e) }
+
 -- what the model shows of them
 abbrev pub expected : Limits → List DeskCall → MagicString → List Shown
 expected k calls m = shown k (map on-desk calls) m
@@ -68,6 +74,12 @@ gives {source} (runs.LaterRun.changed {e = e} {calls = calls} {T = T} {T₁ = T�
     let rest = gives r (next-holds {T = T} {T₁ = T₁} w ran) in
     claim.AllGave.cons (edit-gave a (cuts-left (limits T) e (deskOf source T)) (run (limits T) e (deskOf source T)) (ran .number-is) (omega (arith, ran .value-is)))
     (subst (AllGave seen) (ap (λ (k : Limits). expected k calls (deskOf source T₁)) u ∙ ap (expected (limits T) calls) (ran .desk-is)) rest)
+gives {source} (runs.LaterRun.joined {first = first} {second = second} {calls = calls} {T = T} {T₁ = T₁} {a = a} {seen = seen} x r) w =
+    let done = x .well-formed w in
+    let u : limits T₁ ≡ limits T = limits-as (done .lengths) in
+    let rest = gives r (record { full = full-as (done .lengths) (w .full); well-formed = done .well-formed }) in
+    claim.AllGave.cons (join-gave a (join (limits T) first second (deskOf source T)) (done .number-is) (done .value-is) (join-writes-none (limits T) first second (deskOf source T)))
+    (subst (AllGave seen) (ap (λ (k : Limits). expected k calls (deskOf source T₁)) u ∙ ap (expected (limits T) calls) (done .desk-is)) rest)
 gives {source} (runs.LaterRun.reported {q = q} {T = T} {x = y} x r) w = claim.AllGave.cons (told-gave q (deskOf source T) y (x .well-formed w)) (gives r w)
 
 -- ── the final text ──

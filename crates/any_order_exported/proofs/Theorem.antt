@@ -4,7 +4,8 @@ use mathlib.Core.List.{List, _++_, map}
 use lib.ListN.{length, drop}
 use Rattle.model.specs.MagicString.{MagicString, to-string}
 use Rattle.model.specs.Limits.{Limits}
-use Rattle.model.specs.Call.{on-desk, Shown, after}
+use Rattle.model.specs.Call.{Shown, after}
+use Rattle.model_calls.specs.Call.{on-desk}
 use Rattle.memory.proofs.Desks.{limits-full}
 use Rattle.any_order.specs.Claim.{AllAccepted}
 use Rattle.any_order.proofs.Theorem.{any-order}

@@ -6,8 +6,9 @@ use lib.ListN.{length, drop}
 use Rattle.utf8.specs.Chars.{All}
 use Rattle.model.specs.Text.{Text}
 use Rattle.model.specs.MagicString.{to-string}
-use Rattle.model.specs.Call.{Edit, DeskCall, Shown}
+use Rattle.model.specs.Call.{Edit, Shown}
 use Rattle.model.specs.Call as call
+use Rattle.model_calls.specs.Call.{DeskCall}
 use Rattle.any_order.specs.Claim.{Order, Premises}
 use Rattle.any_order_exported.specs.Runs.{Tables, Holds, deskOf, limits, Answer, EditRun, Seen, ReportCall, LaterRun}
 

@@ -3,10 +3,12 @@ use Prim.Native.Nat.{ℕ}
 use mathlib.Core.List.{List, [], _∷_}
 use Rattle.model.specs.MagicString.{MagicString}
 use Rattle.model.specs.Limits.{Limits}
-use Rattle.model.specs.Call.{Edit, Report, DeskCall, change, report}
+use Rattle.model.specs.Call.{Edit, Report}
+use Rattle.model_calls.specs.Call.{DeskCall, change, report, join}
 use Rattle.memory.specs.Layout.{magicStringOf}
 use Rattle.memory.specs.WellFormed.{limitsOf, Taken}
 use Rattle.memory.specs.Calls.{Edited, Reported}
+use Rattle.join_lists.specs.Promises.{Joined}
 
 -- the lent tables of a desk
 pub record Tables : Type 0 where
@@ -49,7 +51,7 @@ pub record Seen : Type 0 where
   pub before : List ℕ
   pub after : List ℕ
 
--- an edit takes no buffer
+-- an edit and a join take no buffer
 abbrev pub seen-edit : Answer → Seen
 seen-edit a = record { answer = a; before = []; after = [] }
 
@@ -58,6 +60,11 @@ abbrev pub ReportCall : List ℕ → Report → Tables → Seen → Type 0
 ReportCall source q T x =
     Reported q source (T .chunks) (T .pieces) (T .store) (x .before) (x .after) (x .answer .number) (x .answer .value)
 
+-- one join of two lists, as the contract of its exported function has it (exported_join.rt)
+abbrev pub JoinCall : List ℕ → List ℕ → List ℕ → Tables → Answer → Tables → Type 0
+JoinCall source first second T a T₁ =
+    Joined first second source (T .chunks) (T .pieces) (T .store) (T₁ .chunks) (T₁ .pieces) (T₁ .store) (record { number = a .number; value = a .value })
+
 -- "Later calls are any list of this paper's calls on a desk .., refused ones included, run in the same way from what an order of L left": a list of them, and what is seen of each
 pub data LaterRun (source : List ℕ) : List DeskCall → Tables → List Seen → Type 0 where
   done : {T : Tables} → LaterRun source [] T []
@@ -65,3 +72,5 @@ pub data LaterRun (source : List ℕ) : List DeskCall → Tables → List Seen �
       → EditCall source e T a T₁ → LaterRun source calls T₁ seen → LaterRun source (change e ∷ calls) T (seen-edit a ∷ seen)
   reported : {q : Report} {calls : List DeskCall} {T : Tables} {x : Seen} {seen : List Seen}
       → ReportCall source q T x → LaterRun source calls T seen → LaterRun source (report q ∷ calls) T (x ∷ seen)
+  joined : {first second : List ℕ} {calls : List DeskCall} {T T₁ : Tables} {a : Answer} {seen : List Seen}
+      → JoinCall source first second T a T₁ → LaterRun source calls T₁ seen → LaterRun source (join first second ∷ calls) T (seen-edit a ∷ seen)

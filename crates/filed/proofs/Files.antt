@@ -5,7 +5,6 @@ use mathlib.Core.List.{List, [], _∷_, _++_}
 use mathlib.Core.Option.{Option, some}
 use native.Mathlib.Omega.{arith}
 use lib.ListN.{length, length-append}
-use Rattle.model.specs.Call.{perform}
 use Rattle.model.proofs.Lists.{sum-snoc}
 use Rattle.model_sheet.specs.Record.{Recorded, parsed}
 use Rattle.model_sheet.specs.Sheet.{call-of}
@@ -97,7 +96,6 @@ module _ {w b : List ℕ} {z : Size} (h : Holds w b z) where
 
     pub files-call : {source t p s t′ p′ s′ w′ b′ : List ℕ} {o : Outcome} → Leaves (call-of (recorded call kind a b₁ c text-at (length call))) source t p s t′ p′ s′ o
         → EntryPut call (o .number) z b w′ b′ → length w′ ≡ length w → Files call source t p s w b t′ p′ s′ w′ b′ (record { number = o .number; value = o .cuts })
-    unfolding perform
     files-call {source} {t} {p} {s} {t′} {p′} {s′} {w′} {b′} {o} x e same l q =
         subst (λ y. FiledOn call source t p s w b t′ p′ s′ w′ b′ y (record { number = o .number; value = o .cuts })) (sym (entries-are h l q)) done
       where

@@ -17,11 +17,14 @@ use Rattle.model_sheet.specs.Record.{parsed}
 use Rattle.model_sheet.specs.Sheet.{call-of, sheet-numbers}
 use Rattle.model_sheet.proofs.Runs.{sheet-listed}
 use Rattle.model_filed.specs.Filed.{Entry}
+use Rattle.model_join.specs.Join.{join-numbers}
+use Rattle.model_join.proofs.Joining.{join-listed}
 use Rattle.model_filed.proofs.Numbers.{file-listed, withdraw-listed}
 use Rattle.memory.specs.declared.Answer.{Answer}
 use Rattle.filed_record.specs.Record.{entriesOf}
 use Rattle.filed_record.specs.Promises.{sittingOf, OnSitting}
 use Rattle.magic_string_numbers.specs.Listed.{EditedListed, ReportedListed, OpenedNumberListed, SheetNumberListed, FiledNumberListed, WithdrawnNumberListed}
+use Rattle.magic_string_numbers.specs.Listed.{JoinedNumberListed}
 
 -- a number that is 2 where P does not hold, and one of these where it does, if 2 is one of them
 either : {P : Type 0} (n : ℕ) (ns : List ℕ) → among 2 ns ≡ true → ((P → ⊥) → n ≡ 2) → (P → among n ns ≡ true) → among n ns ≡ true
@@ -74,3 +77,9 @@ pub withdrawn-number-listed : WithdrawnNumberListed
 withdrawn-number-listed k source t p s w b t′ p′ s′ w′ b′ r x =
     on-sitting (17 ∷ []) x
     (λ d l y. ap (λ (n : ℕ). among n (17 ∷ [])) (y .becomes .number-is) ∙ withdraw-listed (limitsOf t p s) (new source) k (sittingOf source t p s l))
+
+pub joined-number-listed : JoinedNumberListed
+joined-number-listed first second source t p s t′ p′ s′ r x =
+    either (r .number) join-numbers refl (λ none. x .not-well-formed none .0)
+    (λ (w : Taken source t p s).
+    ap (λ (k : ℕ). among k join-numbers) (x .well-formed w .number-is) ∙ join-listed (limitsOf t p s) first second (magicStringOf source t p s))

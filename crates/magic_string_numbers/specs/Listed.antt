@@ -3,7 +3,8 @@ use Prim.Native.Nat.{ℕ}
 use mathlib.Core.Path.{_≡_}
 use mathlib.Core.Bool.{true}
 use mathlib.Core.List.{List}
-use Rattle.model.specs.Call.{Edit, Report, change, report, on-desk, «open», numbers-of}
+use Rattle.model.specs.Call.{Edit, Report}
+use Rattle.model_calls.specs.Call.{change, report, join, on-desk, «open», numbers-of}
 use Rattle.model_sheet.specs.Record.{parsed}
 use Rattle.model_sheet.specs.Sheet.{call-of, sheet-numbers}
 use Rattle.model_filed.specs.Filed.{file-numbers, withdraw-numbers}
@@ -12,6 +13,7 @@ use Rattle.memory.specs.Calls.{Edited, Reported, Opened}
 use Rattle.model_preservation.specs.Refusals.{among}
 use Rattle.sheet_run.specs.SheetRan.{SheetRan}
 use Rattle.filed_record.specs.Promises.{CallFiled, CallWithdrawn}
+use Rattle.join_lists.specs.Promises.{Joined}
 
 abbrev pub EditedListed : Type 0
 EditedListed = (e : Edit) (source t p s t′ p′ s′ : List ℕ) (number value : ℕ) → Edited e source t p s t′ p′ s′ number value → among number (numbers-of (on-desk (change e))) ≡ true
@@ -35,3 +37,8 @@ FiledNumberListed =
 abbrev pub WithdrawnNumberListed : Type 0
 WithdrawnNumberListed =
     (k : ℕ) (source t p s w b t′ p′ s′ w′ b′ : List ℕ) (r : Answer) → CallWithdrawn k source t p s w b t′ p′ s′ w′ b′ r → among (r .number) withdraw-numbers ≡ true
+
+-- joining, whose numbers are 2, 16, 18, 19 and 13
+abbrev pub JoinedNumberListed : Type 0
+JoinedNumberListed =
+    (first second source t p s t′ p′ s′ : List ℕ) (r : Answer) → Joined first second source t p s t′ p′ s′ r → among (r .number) (numbers-of (on-desk (join first second))) ≡ true

@@ -46,8 +46,14 @@ pub const SHORT_BUFFER: u32 = 14;
 // A pattern above 1, or an exclude list of odd count.
 pub const BAD_OPTION: u32 = 15;
 
-// A sheet, a record of one, or a call to be filed, that breaks the rules of its form.
+// A sheet, a list of records, a record of one, or a call to be filed, that breaks the rules of its form.
 pub const BAD_SHEET: u32 = 16;
 
 // No call with that number is filed.
 pub const NO_SUCH_CALL: u32 = 17;
+
+// Two lists together break a premise of the any-order rule on reach, positions, width or moves, or the source is empty.
+pub const NOT_APART: u32 = 18;
+
+// A call of two lists is refused alone on the starting desk.
+pub const REFUSED_ALONE: u32 = 19;

@@ -1,4 +1,4 @@
--- Every call of document 01, by name, and what it gives: `run` for the calls that change a desk, `show` for those that report on it.
+-- Document 01's calls on a desk, by name, and what each gives: `run` for those that change it, `show` for those that report on it. Crate `model_calls` has the list of all calls.
 use Prim.Native.Nat.{ℕ, zero, suc, _-_, _%_}
 use mathlib.Core.Bool.{Bool, true, false, _||_, not, cond}
 use mathlib.Core.List.{List, [], _∷_, _++_}
@@ -45,17 +45,6 @@ pub data Report : Type 0 where
   is-empty has-changed : Report
   is-range-within-edited-chunk : ℕ → ℕ → Report
   last-char : Report
-
--- the calls on a desk: "this paper's calls on a desk (edits, trims, indent, slices, reports, `to_string`)". The any-order rule's later calls are these, so that a call that is
--- added, as an edit or a report, is one of them
-pub data DeskCall : Type 0 where
-  change : Edit → DeskCall
-  report : Report → DeskCall
-
--- every call: an opening, or a call on a desk
-pub data Call : Type 0 where
-  «open» : Text → Call
-  on-desk : DeskCall → Call
 
 -- ── a call that changes a desk ──
 abbrev pub given : Option Text → List Text
@@ -282,13 +271,7 @@ opened k source before =
     (cond (not (utf8 source)) (err 1 before)
     (ok (new source)))
 
--- ── any call ──
--- "does the call or gives one of the table's numbers": those that a call may give beside 0, in document 01's order. 2 is judged on the memory
-abbrev pub numbers-of : Call → List ℕ
-numbers-of («open» source) = 2 ∷ 13 ∷ 1 ∷ []
-numbers-of (on-desk (change e)) = 2 ∷ edit-numbers e
-numbers-of (on-desk (report q)) = 2 ∷ report-numbers q
-
+-- ── what any call gives ──
 -- the number, the value, the bytes written outside the desk, and the desk after
 pub record Outcome : Type 0 where
   pub shown : Shown
@@ -297,10 +280,9 @@ pub record Outcome : Type 0 where
 abbrev pub changed : ℕ → Result → Outcome
 changed value r = record { shown = record { number = r .number; value = value; written = [] }; desk = r .desk }
 
-unfoldable pub perform : Limits → Call → MagicString → Outcome
-perform k («open» source) m = changed 0 (opened k source m)
-perform k (on-desk (change e)) m = changed (cuts-left k e m) (run k e m)
-perform k (on-desk (report q)) m = record { shown = show q m; desk = m }
+-- an edit: its number, its cuts and the desk after
+abbrev pub edited : Limits → Edit → MagicString → Outcome
+edited k e m = changed (cuts-left k e m) (run k e m)
 
 -- "The edits of L are `remove`, `update_with`, `reset`, the left and right insertions at front or back, `prepend`, `append` and `relocate`"
 abbrev pub listed : Edit → Bool

@@ -6,7 +6,8 @@ use Rattle.model.specs.Text.{Text}
 use Rattle.model.specs.Chunk.{Chunk, start-of, end-of}
 use Rattle.model.specs.MagicString.{MagicString, new}
 use Rattle.model.specs.Limits.{full}
-use Rattle.model.specs.Call.{Call, Shown, Outcome, perform}
+use Rattle.model.specs.Call.{Shown, Outcome}
+use Rattle.model_calls.specs.Call.{Call, perform}
 
 -- a call, the number it gives, the value it reports and the bytes it writes
 pub record Step : Type 0 where

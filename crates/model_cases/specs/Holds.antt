@@ -14,7 +14,8 @@ use Rattle.model.specs.Slice.{contains-end, chunk-slice, ends-inside, slice}
 use Rattle.model.specs.Trim.{trim-chunk-start, trim-chunk-end, trim-start, trim-end}
 use Rattle.model.specs.Indent.{get-indent-string, indent-chunk, indent-by, indent-with}
 use Rattle.model.specs.Limits.{within}
-use Rattle.model.specs.Call.{refused-before, judged, run, show, opened, perform}
+use Rattle.model.specs.Call.{refused-before, judged, run, show, opened}
+use Rattle.model_calls.specs.Call.{perform}
 use Rattle.model_cases.specs.Case.{Holds}
 use Rattle.model_cases.specs.Marked.{marked}
 use Rattle.model_cases.specs.Numbers.{numbers}

@@ -4,7 +4,8 @@ use mathlib.Core.List.{[]}
 use mathlib.Core.Option.{Option}
 use lib.ListN.{length}
 use Rattle.model.specs.Text.{Text}
-use Rattle.model.specs.Call.{DeskCall, change, report, «open», on-desk, Edit, to-string, slice, last-char}
+use Rattle.model.specs.Call.{Edit, to-string, slice, last-char}
+use Rattle.model_calls.specs.Call.{DeskCall, change, report, «open», on-desk}
 use Rattle.model_cases.specs.Case.{Step}
 
 abbrev pub a : ℕ

@@ -6,7 +6,8 @@ use mathlib.Core.Option.{none, some}
 use lib.ListN.{replicate}
 use Rattle.model.specs.Limits.{full}
 use Rattle.model.specs.Insert.{left, right, back}
-use Rattle.model.specs.Call.{remove, update-with, insert, relocate, trim, indent-with, report, len}
+use Rattle.model.specs.Call.{remove, update-with, insert, relocate, trim, indent-with, len}
+use Rattle.model_calls.specs.Call.{report}
 use Rattle.model_cases.specs.Case.{Case}
 use Rattle.model_cases.specs.Letters.{a, b, c, d, e, f, x, X, Z, lf, tab, space, gives, opened, edited, output, sliced, last-is}
 

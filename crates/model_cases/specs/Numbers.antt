@@ -6,7 +6,8 @@ use mathlib.Core.Option.{none, some}
 use lib.ListN.{replicate}
 use Rattle.model.specs.Limits.{full}
 use Rattle.model.specs.Insert.{left, back}
-use Rattle.model.specs.Call.{remove, update-with, reset, insert, relocate, trim, report, to-string}
+use Rattle.model.specs.Call.{remove, update-with, reset, insert, relocate, trim, to-string}
+use Rattle.model_calls.specs.Call.{report}
 use Rattle.model_cases.specs.Case.{Case}
 use Rattle.model_cases.specs.Letters.{a, b, c, d, e, f, X, Z, gives, opened, edited, output, slice-refused}
 use Rattle.model_cases.specs.Marked.{case-f}

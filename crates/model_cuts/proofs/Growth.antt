@@ -25,7 +25,8 @@ use Rattle.model_closed_forms.specs.Spans.{Cover}
 use Rattle.model_closed_forms.specs.SplitAt.{cuts-then}
 use Rattle.model_closed_forms.proofs.Spans.{formed-cover}
 use Rattle.model_preservation.proofs.Lists.{of-cond}
-use Rattle.model_cuts.specs.Cuts.{count-made, cuts-of, cuts-made, cuts-at-most, CutsCounted}
+use Rattle.model_preservation.proofs.Calls.{run-keeps}
+use Rattle.model_cuts.specs.Cuts.{count-made, cuts-of, cuts-made, cuts-at-most, CutsCounted, AllCutsCounted}
 use Rattle.model_cuts.proofs.Cuts.{Grows, cuts-grow, count-few}
 use Rattle.model_cuts.proofs.Steps.{change-keeps, insert-keeps, update-keeps, move-keeps, trim-start-length, trim-end-length, trim-length}
 use Rattle.model_cuts.proofs.Indent.{indent-grows}
@@ -182,3 +183,9 @@ made-few k e m =
 
 pub cuts-counted : CutsCounted
 cuts-counted k e m f = record { growth = run-grows k e m f; value = omega (arith, run-grows k e m f); few = omega (arith, run-grows k e m f, made-few k e m) }
+
+pub all-cuts-counted : AllCutsCounted
+all-cuts-counted k [] m w = omega arith
+all-cuts-counted k (e ∷ L) m w =
+    let c = cuts-counted k e m (w .formed) in
+    omega (arith, all-cuts-counted k L (run k e m .desk) (run-keeps k e m w), c .growth, c .value)

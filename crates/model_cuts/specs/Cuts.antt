@@ -12,9 +12,9 @@ use Rattle.model.specs.Chunk.{Chunk, start-of, span-text}
 use Rattle.model.specs.MagicString.{MagicString, split-at}
 use Rattle.model.specs.Indent.{get-indent-string, indent-pieces, line-starts, indent-chunk, is-empty-indentor}
 use Rattle.model.specs.Limits.{Limits, within}
-use Rattle.model.specs.WellFormed.{Formed}
+use Rattle.model.specs.WellFormed.{Formed, WellFormed}
 use Rattle.model.specs.Call.{Edit, remove, update-with, reset, insert, append, prepend, relocate, trim, trim-start, trim-end, trim-lines, indent-with}
-use Rattle.model.specs.Call.{steps, refused-before, run, cuts-left}
+use Rattle.model.specs.Call.{steps, refused-before, run, cuts-left, after}
 use Rattle.model.specs.Cut.{Cut, made, edge, outside, refused, cut-at}
 
 -- ── cuts one after another ──
@@ -94,3 +94,13 @@ pub record Counted (k : Limits) (e : Edit) (m : MagicString) : Type 0 where
 
 abbrev pub CutsCounted : Type 0
 CutsCounted = (k : Limits) (e : Edit) (m : MagicString) → Formed m → Counted k e m
+
+-- ── edits one after the other ──
+-- the cuts of all of them, by what each reports
+abbrev pub cuts-in-all : Limits → List Edit → MagicString → ℕ
+cuts-in-all k [] m = 0
+cuts-in-all k (e ∷ L) m = cuts-left k e m + cuts-in-all k L (run k e m .desk)
+
+-- they are by how many chunks the desk has grown behind the last one
+abbrev pub AllCutsCounted : Type 0
+AllCutsCounted = (k : Limits) (L : List Edit) (m : MagicString) → WellFormed k m → length (after k L m .chunks) ≡ length (m .chunks) + cuts-in-all k L m

@@ -9,7 +9,7 @@ use Rattle.model.specs.MagicString.{split-at, by-edge-mut, to-string}
 use Rattle.model.specs.Update.{update-chunks, update-with}
 use Rattle.model.specs.Movement.{change-range, relocate}
 use Rattle.model.specs.Limits.{within}
-use Rattle.model.specs.Call.{refused-before, judged, run, perform}
+use Rattle.model.specs.Call.{refused-before, judged, run}
 use Rattle.model_sheet.specs.BigEndian.{number, bytes}
 use Rattle.model_sheet.specs.Record.{positions, carries, fits, quads, encode, extent, numbers, parsed}
 use Rattle.model_sheet.specs.Sheet.{call-of}
@@ -18,7 +18,7 @@ use Rattle.model_filed.specs.Worked.{worked, computed, bounds, bound-com
 
 pub worked-sittings : map computed worked ≡ worked
 unfolding flatten bind scalar sequence decodeAt wholeFrom utf8 between toFirst chars code contains split-at by-edge-mut to-string update-chunks update-with
-    change-range relocate within judged refused-before run perform number bytes positions carries fits quads encode extent numbers parsed call-of within-bounds is-record
+    change-range relocate within judged refused-before run number bytes positions carries fits quads encode extent numbers parsed call-of within-bounds is-record
     refused-filing file refused-withdrawal withdraw
 worked-sittings = refl
 

@@ -5,7 +5,7 @@ use mathlib.Core.List.{List, [], _∷_, _++_}
 use native.Mathlib.Omega.{arith}
 use Rattle.model.specs.MagicString.{MagicString}
 use Rattle.model.specs.Limits.{Limits}
-use Rattle.model.specs.Call.{run, after, answers, perform}
+use Rattle.model.specs.Call.{run, after, answers}
 use Rattle.model_sheet.specs.Record.{Recorded, parsed}
 use Rattle.model_sheet.specs.Sheet.{call-of, calls-of}
 use Rattle.model_sheet.proofs.Runs.{answers-length}
@@ -25,7 +25,6 @@ answers-snoc k (q ∷ l) r m = ap (λ (ns : List ℕ). run k (call-of q) m .numb
 
 -- filing the next call is running the list with it
 filed-anew : (k : Limits) (start : MagicString) (l : List Recorded) (r : Recorded) → filed k r (run-anew k start l) .left ≡ run-anew k start (l ++ (r ∷ []))
-unfolding perform
 filed-anew k start l r =
     let n = run k (call-of r) (after k (calls-of l) start) .number in
     let entries : with-answers l (answers k (calls-of l) start) ++ (record { call = r; answer = n } ∷ []) ≡ with-answers (l ++ (r ∷ [])) (answers k (calls-of (l ++ (r ∷ []))) start) =

@@ -8,7 +8,7 @@ use lib.ListN.{length}
 use Rattle.model.specs.MagicString.{MagicString}
 use Rattle.model.specs.Limits.{Limits}
 use Rattle.model.specs.WellFormed.{Formed}
-use Rattle.model.specs.Call.{edit-numbers, run, perform}
+use Rattle.model.specs.Call.{edit-numbers, run}
 use Rattle.model_preservation.specs.Refusals.{among}
 use Rattle.model_preservation.proofs.Refusals.{answer-listed}
 use Rattle.model_preservation.proofs.Numbers.{listed-behind}
@@ -28,7 +28,6 @@ refused-listed s l ns = go (is-record s) (within-bounds (l ++ (parsed s ∷ []))
     go true true = refl
 
 pub file-listed : (k : Limits) (s : List ℕ) (x : Sitting) → Formed (x .desk) → among (file k s x .number) (16 ∷ 13 ∷ edit-numbers (call-of (parsed s))) ≡ true
-unfolding perform
 file-listed k s x f = go (refused-filing s (calls (x .entries))) refl
   where
     go : (n : ℕ) → refused-filing s (calls (x .entries)) ≡ n → among (file k s x .number) (16 ∷ 13 ∷ edit-numbers (call-of (parsed s))) ≡ true

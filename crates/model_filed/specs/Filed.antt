@@ -7,7 +7,7 @@ use lib.Dec.{ltb, leb, eqb}
 use lib.ListN.{length, getD, take, drop}
 use Rattle.model.specs.MagicString.{MagicString}
 use Rattle.model.specs.Limits.{Limits}
-use Rattle.model.specs.Call.{Edit, change, on-desk, after, answers, perform, edit-numbers, Outcome}
+use Rattle.model.specs.Call.{Edit, after, answers, edited, edit-numbers, Outcome}
 use Rattle.model_sheet.specs.Record.{Recorded, fits, extent, parsed, text-size}
 use Rattle.model_sheet.specs.Sheet.{call-of, calls-of}
 
@@ -63,7 +63,7 @@ refused-filing s l =
 
 -- the core call of a record, on a desk
 abbrev pub core-call : Limits → Recorded → MagicString → Outcome
-core-call k r m = perform k (on-desk (change (call-of r))) m
+core-call k r m = edited k (call-of r) m
 
 -- a call behind the others, "accepted or not": its core call's number is its answer, and that call's number and value are the filing's
 abbrev pub filed : Limits → Recorded → Sitting → Answered

@@ -1,4 +1,4 @@
--- Every call of document 01 keeps a desk well formed.
+-- Every edit of document 01 keeps a desk well formed, and an opening leaves a well-formed one.
 use Prim.Native.Nat.{ℕ, suc, _≤_}
 use native.Mathlib.Omega.{arith}
 use mathlib.Core.Path.{_≡_, refl}
@@ -16,8 +16,7 @@ use Rattle.model.specs.Chunk.{new-chunk}
 use Rattle.model.specs.MagicString.{MagicString, Result, ok, err, new}
 use Rattle.model.specs.Limits.{Limits, within}
 use Rattle.model.specs.Call.{Edit, remove, update-with, reset, insert, append, prepend, relocate, trim, trim-start, trim-end}
-use Rattle.model.specs.Call.{trim-lines, indent-with, change, report, «open», on-desk, options-valid, given, texts, positions, steps, refused-before, judged, run, opened}
-use Rattle.model.specs.Call.{perform}
+use Rattle.model.specs.Call.{trim-lines, indent-with, options-valid, given, texts, positions, steps, refused-before, judged, run, after, opened}
 use Rattle.model.specs.WellFormed.{Valid, ValidReplacement, Covered, Formed, WellFormed}
 use Rattle.model.proofs.Lists.{all-true}
 use Rattle.model.proofs.Spans.{covers-in}
@@ -30,7 +29,7 @@ use Rattle.model_preservation.proofs.Relocate.{relocate-keeps}
 use Rattle.model_preservation.proofs.Trim.{trim-start-keeps, trim-end-keeps, trim-keeps}
 use Rattle.model_preservation.proofs.Indent.{indent-with-keeps}
 use Rattle.model_preservation.proofs.IndentAccepted.{indent-with-accepted}
-use Rattle.model_preservation.specs.Results.{OpenedKeeps, PerformKeeps}
+use Rattle.model_preservation.specs.Results.{OpenedKeeps}
 
 -- ---- what 15, 1 and 3 leave
 
@@ -120,7 +119,7 @@ unfolding within
 new-within k source h l = rw (le-leb (length source) (k .most-source) h, le-leb 1 (k .most-chunks) l, le-leb 0 (k .most-pieces) (omega arith), le-leb 0 (k .most-bytes) (omega arith))
 
 -- an opening is refused, or leaves the new desk, well formed
-opened-cases : (k : Limits) (source : Text) (m : MagicString) → 1 ≤ k .most-chunks → (P : Result → Type 0)
+pub opened-cases : (k : Limits) (source : Text) (m : MagicString) → 1 ≤ k .most-chunks → (P : Result → Type 0)
     → P (err 13 m) → P (err 1 m) → (WellFormed k (new source) → P (ok (new source))) → P (opened k source m)
 unfolding opened
 opened-cases k source m l P h i g =
@@ -133,10 +132,8 @@ pub opened-keeps : OpenedKeeps
 opened-keeps k source m l =
     opened-cases k source m l (λ r. r .number ≡ 0 → WellFormed k (r .desk)) (λ z. absurd (omega arith)) (λ z. absurd (omega arith)) (λ w _. w)
 
--- ---- any call
+-- ---- edits one after the other
 
-pub perform-keeps : PerformKeeps
-unfolding perform
-perform-keeps k («open» source) m l w = opened-cases k source m l (λ r. WellFormed k (r .desk)) w w (λ n. n)
-perform-keeps k (on-desk (change e)) m l w = run-keeps k e m w
-perform-keeps k (on-desk (report q)) m l w = w
+pub after-keeps : (k : Limits) (L : List Edit) (m : MagicString) → WellFormed k m → WellFormed k (after k L m)
+after-keeps k [] m w = w
+after-keeps k (e ∷ L) m w = after-keeps k L (run k e m .desk) (run-keeps k e m w)

@@ -1,4 +1,4 @@
--- "Either does the call or gives one of the table's numbers": every answer of every call is 0 or one of the numbers of that call, `numbers-of`.
+-- "Either does the call or gives one of the table's numbers": every answer of a report and of an opening is 0 or one of its numbers. Those of an edit stand in Refusals.antt.
 use Prim.Native.Nat.{ℕ, _-_}
 use mathlib.Core.Path.{_≡_, refl, sym}
 use mathlib.Core.Bool.{Bool, true, false, _&&_, _||_, not, true≢false}
@@ -14,13 +14,10 @@ use Rattle.model.specs.Slice.{Sliced, text, refused, Start, from, nothing, befo
 use Rattle.model.specs.Slice as slice-rs
 use Rattle.model.specs.MagicString as mod-rs
 use Rattle.model.specs.Indent as indent-rs
-use Rattle.model.specs.Call.{change, report, «open», on-desk, Report, to-string, slice, last-line, get-indent-string, len, len-utf16, line-count, is-empty, has-changed}
-use Rattle.model.specs.Call.{is-range-within-edited-chunk, last-char, Shown, into, sliced-into, slice-positions, run, edit-numbers, show, opened, report-numbers}
-use Rattle.model.specs.Call.{perform}
+use Rattle.model.specs.Call.{Report, to-string, slice, last-line, get-indent-string, len, len-utf16, line-count, is-empty, has-changed}
+use Rattle.model.specs.Call.{is-range-within-edited-chunk, last-char, Shown, into, sliced-into, slice-positions, show, opened, report-numbers}
 use Rattle.model_preservation.proofs.Lists.{of-cond, of-either, of-guard}
 use Rattle.model_preservation.specs.Refusals.{among}
-use Rattle.model_preservation.proofs.Refusals.{answer-listed}
-use Rattle.model_preservation.specs.Results.{CallListed}
 
 -- ---- reports
 
@@ -83,7 +80,7 @@ report-listed has-changed m = refl
 report-listed (is-range-within-edited-chunk a b) m = refl
 report-listed last-char m = refl
 
--- ---- any call
+-- ---- an opening
 
 pub opened-listed : (k : Limits) (source : Text) (m : MagicString) → among (opened k source m .number) (13 ∷ 1 ∷ []) ≡ true
 unfolding opened
@@ -99,9 +96,3 @@ listed-behind n k ns h = go (eqb n 0) (eqb n k) (any (eqb n) ns) h
     go true b c h = refl
     go false true c h = refl
     go false false c h = h
-
-pub call-listed : CallListed
-unfolding perform
-call-listed k («open» source) m f = listed-behind (opened k source m .number) 2 (13 ∷ 1 ∷ []) (opened-listed k source m)
-call-listed k (on-desk (change e)) m f = listed-behind (run k e m .number) 2 (edit-numbers e) (answer-listed k e m f)
-call-listed k (on-desk (report q)) m f = listed-behind (show q m .number) 2 (report-numbers q) (report-listed q m)

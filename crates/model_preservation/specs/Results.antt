@@ -8,23 +8,15 @@ use Rattle.model.specs.Text.{Text, behind-last-line-feed}
 use Rattle.model.specs.MagicString.{MagicString, split-at, last-line, to-string}
 use Rattle.model.specs.Limits.{Limits}
 use Rattle.model.specs.WellFormed.{Formed, WellFormed}
-use Rattle.model.specs.Call.{Edit, Call, may-change, run, opened, numbers-of, perform}
-use Rattle.model_preservation.specs.Refusals.{among}
-
--- "Either does the call or gives one of the table's numbers", each call its own
-abbrev pub CallListed : Type 0
-CallListed = (k : Limits) (c : Call) (m : MagicString) → Formed m → among (perform k c m .shown .number) (numbers-of c) ≡ true
+use Rattle.model.specs.Call.{Edit, may-change, run, opened}
 
 -- "All others change nothing"
 abbrev pub RefusalChangesNothing : Type 0
 RefusalChangesNothing = (k : Limits) (e : Edit) (m : MagicString) → Formed m → may-change e (run k e m .number) ≡ false → run k e m .desk ≡ m
 
--- an accepted opening leaves a well-formed desk, and every call keeps it well formed
+-- an accepted opening leaves a well-formed desk
 abbrev pub OpenedKeeps : Type 0
 OpenedKeeps = (k : Limits) (source : Text) (m : MagicString) → 1 ≤ k .most-chunks → opened k source m .number ≡ 0 → WellFormed k (opened k source m .desk)
-
-abbrev pub PerformKeeps : Type 0
-PerformKeeps = (k : Limits) (c : Call) (m : MagicString) → 1 ≤ k .most-chunks → WellFormed k m → WellFormed k (perform k c m .desk)
 
 -- a cut between two characters keeps all but the limits
 abbrev pub SplitAtKeeps : Type 0

@@ -1,3 +1,4 @@
+pub mod Behind
 mod Fields
 pub mod Finding
 pub mod Walk

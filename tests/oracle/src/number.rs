@@ -18,10 +18,15 @@ pub const SLICE_END: u32 = 12;
 pub const LIMIT: u32 = 13;
 pub const SHORT_BUFFER: u32 = 14;
 pub const BAD_OPTION: u32 = 15;
-/// A sheet, or a call to be filed, that breaks its rules: no answer of the Rust's.
+/// A sheet, a list to be joined, or a call to be filed, that breaks its rules: no answer of
+/// the Rust's.
 pub const BAD_SHEET: u32 = 16;
 /// No call with that number is filed: no answer of the Rust's.
 pub const NO_SUCH_CALL: u32 = 17;
+/// Calls to be joined are not apart: no answer of the Rust's.
+pub const NOT_APART: u32 = 18;
+/// A call to be joined is refused alone: no answer of the Rust's.
+pub const REFUSED_ALONE: u32 = 19;
 
 /// Each message by a part that no other has.
 const MESSAGES: [(&str, u32); 10] = [

@@ -1,6 +1,7 @@
 //! The crate magic_string (bindings/rust) and string_wizard, unchanged, side by side
 //! on random calls: each answer, and the whole desk after it.
 
+pub mod join;
 pub mod sitting;
 
 use magic_string::{End, IndentOptions, MagicString, Refusal, Side, UpdateOptions};

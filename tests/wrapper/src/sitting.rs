@@ -71,7 +71,7 @@ pub fn entries(plain: &Plain) -> Vec<Entry<'_>> {
 }
 
 /// A call of a sheet's kind as the wrapper has it.
-fn to_wrapper(call: &Call) -> magic_string::Call<'_> {
+pub fn to_wrapper(call: &Call) -> magic_string::Call<'_> {
   use magic_string::Call as Filed;
   let text = call.text().map_or("", |text| str::from_utf8(text).expect("UTF-8"));
   match *call {

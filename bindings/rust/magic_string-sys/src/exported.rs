@@ -72,6 +72,11 @@ exported! {
       has_indentor: u32, indentor: *const u8, indentor_len: usize,
       exclude: *const u32, exclude_len: usize
     );
+    /// Makes the calls of both lists, which are records of a sheet, if these pass the
+    /// checks of the any-order rule together.
+    magic_string_join(
+      first: *const u8, first_len: usize, second: *const u8, second_len: usize
+    );
     /// Makes the call, in the form of a sheet's record, and files it with its answer.
     magic_string_file(
       words: *mut u32, words_len: usize, bytes: *mut u8, bytes_len: usize,

@@ -16,9 +16,9 @@ pub const STORE_BYTES: usize = 32_768;
 pub const SHEET_VERSION: u8 = 1;
 /// Bytes of a sheet before its source.
 pub const SHEET_FRONT: usize = 3;
-/// Most records of a sheet.
+/// Most records of a sheet, and of a list to be joined.
 pub const SHEET_RECORDS: usize = 200;
-/// Most bytes of a whole sheet.
+/// Most bytes of a whole sheet, and of a list to be joined.
 pub const SHEET_BYTES: usize = 57_344;
 
 /// Most calls in a record.

@@ -35,14 +35,21 @@ numbers! {
   SLICE_START = 11;
   /// A slice that ends inside a replaced chunk.
   SLICE_END = 12;
-  /// The desk, or the record, would break a limit.
+  /// The desk, or the record, would break a limit; or there is no space for calls to be
+  /// joined.
   LIMIT = 13;
   /// The output buffer is too short.
   SHORT_BUFFER = 14;
   /// A pattern above 1, or an exclude list of odd count.
   BAD_OPTION = 15;
-  /// A sheet, or a call to be filed, that breaks the rules of its form.
+  /// A sheet, a list to be joined, or a call to be filed, that breaks the rules of its
+  /// form.
   BAD_SHEET = 16;
   /// No call with that number is filed.
   NO_SUCH_CALL = 17;
+  /// Calls to be joined are not apart: a reach, a position, a width, a second move or an
+  /// empty source.
+  NOT_APART = 18;
+  /// A call to be joined is refused when it is made alone.
+  REFUSED_ALONE = 19;
 }

@@ -1,9 +1,9 @@
 //! A paper: a script is opened and edits are made on it, with the cuts that each made
 //! and the running text after it. Then the desk chunk by chunk, its reports, and the
-//! seventeen refusals in words.
+//! nineteen refusals in words.
 
 use magic_string::{
-  Chunk, End::*, IndentOptions, MagicString, Refusal, Side::*, Sitting, UpdateOptions, layout,
+  Call, Chunk, End::*, IndentOptions, MagicString, Refusal, Side::*, Sitting, UpdateOptions, layout,
 };
 
 const SCRIPT: &str = "\
@@ -138,6 +138,10 @@ fn refusals(desk: &mut MagicString) {
   refused("trim by another pattern", desk.trim(Some("[0-9]")));
   refused("run a sheet of no byte at all", MagicString::run_sheet(b""));
   refused("withdraw a call of an empty record", Sitting::default().withdraw(1));
+  let removal = |start, end| Call::list(&[Call::Remove { start, end }]).unwrap_or_default();
+  let (word, half) = (removal(night, end("night")), removal(inside, end("Å")));
+  refused("join two lists that remove night", desk.join(&word, &word));
+  refused("join one that removes half the Å", desk.join(&word, &half));
 
   println!("\nThe text has {} bytes, as before: {}", text.len(), desk.to_string() == text);
   let more = desk.chunks().count() - chunks;

@@ -30,7 +30,7 @@ impl Memory {
     unsafe { edit!(self, magic_string_remove, start, end) }
   }
 
-  pub fn update_with(&mut self, start: u32, end: u32, text: &str, overwrite: bool) -> Answer {
+  pub fn update_with(&mut self, start: u32, end: u32, text: &[u8], overwrite: bool) -> Answer {
     let (text, text_len, overwrite) = (text.as_ptr(), text.len(), overwrite.into());
     unsafe { edit!(self, magic_string_update_with, start, end, text, text_len, overwrite) }
   }
@@ -39,7 +39,7 @@ impl Memory {
     unsafe { edit!(self, magic_string_reset, start, end) }
   }
 
-  pub fn insert(&mut self, at: u32, text: &str, left: bool, front: bool) -> Answer {
+  pub fn insert(&mut self, at: u32, text: &[u8], left: bool, front: bool) -> Answer {
     let (text, text_len, left, front) = (text.as_ptr(), text.len(), left.into(), front.into());
     unsafe { edit!(self, magic_string_insert, at, text, text_len, left, front) }
   }
@@ -107,6 +107,16 @@ impl Memory {
         answers.len(),
       )
     })
+  }
+}
+
+/// Two lists of calls.
+impl Memory {
+  /// Makes the calls of both lists, which are records of a sheet, if they join.
+  pub fn join(&mut self, first: &[u8], second: &[u8]) -> Answer {
+    unsafe {
+      edit!(self, magic_string_join, first.as_ptr(), first.len(), second.as_ptr(), second.len())
+    }
   }
 }
 

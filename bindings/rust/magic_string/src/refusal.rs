@@ -34,21 +34,27 @@ pub enum Refusal {
   SliceStart = numbers::SLICE_START,
   /// Slice ends inside a replaced chunk.
   SliceEnd = numbers::SLICE_END,
-  /// The desk that the call would leave breaks a [limit](crate::layout).
+  /// The desk that the call would leave breaks a [limit](crate::layout), or there is no
+  /// space for calls to be joined.
   Limit = numbers::LIMIT,
   /// Output buffer too short.
   ShortBuffer = numbers::SHORT_BUFFER,
   /// Pattern above 1, or an exclude list of odd count.
   BadOption = numbers::BAD_OPTION,
-  /// A sheet, or a call to be filed, that breaks the rules of its form.
+  /// A sheet, a list to be joined, or a call to be filed, that breaks the rules of its
+  /// form.
   BadSheet = numbers::BAD_SHEET,
   /// No call with that number is filed.
   NoSuchCall = numbers::NO_SUCH_CALL,
+  /// Calls to be joined are not apart.
+  NotApart = numbers::NOT_APART,
+  /// A call to be joined is refused alone.
+  RefusedAlone = numbers::REFUSED_ALONE,
 }
 
 impl Refusal {
   /// All of them, in the order of their numbers.
-  pub const ALL: [Refusal; 17] = [
+  pub const ALL: [Refusal; 19] = [
     Refusal::NotUtf8,
     Refusal::NotWellFormed,
     Refusal::InsideCharacter,
@@ -66,9 +72,11 @@ impl Refusal {
     Refusal::BadOption,
     Refusal::BadSheet,
     Refusal::NoSuchCall,
+    Refusal::NotApart,
+    Refusal::RefusedAlone,
   ];
 
-  /// Its number, 1 to 17.
+  /// Its number, 1 to 19.
   pub fn number(self) -> u32 {
     self as u32
   }
@@ -106,8 +114,10 @@ impl fmt::Display for Refusal {
       Refusal::Limit => "the desk would break a limit",
       Refusal::ShortBuffer => "output buffer too short",
       Refusal::BadOption => "pattern above 1, or an exclude list of odd count",
-      Refusal::BadSheet => "sheet or call breaks the rules of its form",
+      Refusal::BadSheet => "sheet, list or call breaks the rules of its form",
       Refusal::NoSuchCall => "no call with that number is filed",
+      Refusal::NotApart => "calls to be joined are not apart",
+      Refusal::RefusedAlone => "a call to be joined is refused alone",
     })
   }
 }

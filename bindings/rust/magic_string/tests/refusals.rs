@@ -1,14 +1,16 @@
-//! Each of the seventeen refusals through the wrapper: document 01's own examples,
+//! Each of the nineteen refusals through the wrapper: document 01's own examples,
 //! what the desk is afterwards, and which calls have them.
 //!
-//! Types rule out some ways to a number, though none of the seventeen. 1: texts of
+//! Types rule out some ways to a number, though none of the nineteen. 1: texts of
 //! edits are `str`, so only `from_utf8` and `run_sheet` have it. 2: a `MagicString`
 //! is well formed, so only `from_tables` has it. 14: the wrapper's own buffers are
 //! long enough, so only `write_to` has it. 15: excluded ranges are pairs, so only
-//! trims have it. 16: only `run_sheet` has it (tests/sheet.rs). 17: only
-//! `Sitting::withdraw` has it (tests/sitting.rs).
+//! trims have it. 16: only `run_sheet` and `join` have it (tests/sheet.rs,
+//! tests/join.rs). 17: only `Sitting::withdraw` has it (tests/sitting.rs). 18 and 19:
+//! only `join` has them (tests/join.rs).
 
 use magic_string::{
+  Call,
   End::{self, *},
   IndentOptions, MagicString, Refusal,
   Side::{self, *},
@@ -58,7 +60,7 @@ fn numbers_and_words() {
   }
   assert_eq!(Refusal::ALL.len(), NUMBERS.len());
   assert_eq!(Refusal::from_number(0), None);
-  assert_eq!(Refusal::from_number(18), None);
+  assert_eq!(Refusal::from_number(20), None);
   let error: &dyn std::error::Error = &Refusal::PastSource;
   assert_eq!(error.to_string(), "end past source");
 }
@@ -273,6 +275,15 @@ fn number_17_no_such_call() {
   let sitting = &mut Sitting::open("abc").unwrap();
   assert_eq!(sitting.withdraw(0).err(), Some(Refusal::NoSuchCall));
   assert_eq!(sitting.withdraw(1).err(), Some(Refusal::NoSuchCall));
+}
+
+#[test]
+fn numbers_18_and_19_calls_to_be_joined() {
+  let desk = &mut open("aé");
+  let remove = |start, end| Call::list(&[Call::Remove { start, end }]).unwrap();
+  let (all, half) = (remove(0, 3), remove(0, 2));
+  assert_eq!(untouched(desk, |s| s.join(&all, &half)), Refusal::NotApart);
+  assert_eq!(untouched(desk, |s| s.join(&half, b"")), Refusal::RefusedAlone);
 }
 
 #[test]

@@ -1,6 +1,7 @@
 //! Whole papers in sheets: what a run leaves, and which are refused. A run is compared
 //! with its calls made one by one, and its 16 with what sheet_script takes for a sheet.
 
+mod one_by_one;
 #[path = "../../sheet_script/tests/plain/mod.rs"]
 mod plain;
 #[path = "../../sheet_script/tests/random/mod.rs"]
@@ -8,7 +9,8 @@ mod random;
 
 use std::collections::BTreeSet;
 
-use magic_string::{End::*, MagicString, Refusal, SheetRun, Side::*, UpdateOptions, layout::*};
+use magic_string::{End::*, MagicString, Refusal, SheetRun, Side::*, layout::*};
+use one_by_one::call;
 use plain::{Record, Sheet};
 use random::Random;
 use sheet_script::{to_script, to_sheet};
@@ -116,21 +118,8 @@ fn the_largest_sheets() {
   assert_eq!(MagicString::run_sheet(&filled(room + 1)), Err(Refusal::BadSheet));
 }
 
-/// Makes the call of a record.
-fn call(desk: &mut MagicString, record: &Record) -> Result<(), Refusal> {
-  let text = || str::from_utf8(&record.text).map_err(|_| Refusal::NotUtf8);
-  let done = match (record.kind, &record.positions[..]) {
-    (1, &[start, end]) => desk.remove(start, end),
-    (2, &[start, end]) => desk.update_with(start, end, text()?, UpdateOptions { overwrite: true }),
-    (3, &[start, end]) => desk.reset(start, end),
-    (4, &[at]) => desk.insert(at, text()?, Left, Back),
-    (5, &[at]) => desk.insert(at, text()?, Right, Back),
-    (6, &[at]) => desk.insert(at, text()?, Left, Front),
-    (7, &[at]) => desk.insert(at, text()?, Right, Front),
-    (8, &[start, end, to]) => desk.relocate(start, end, to),
-    _ => unreachable!("a record of kind {}", record.kind),
-  };
-  done.map(drop)
+fn one_by_one(desk: &mut MagicString, record: &Record) -> Result<(), Refusal> {
+  call(desk, record.kind, &record.positions, &record.text)
 }
 
 #[test]
@@ -141,7 +130,7 @@ fn random_sheets_as_one_by_one() {
     let sheet = Sheet::any(&mut random, 20);
     let run = MagicString::run_sheet(&sheet.bytes());
     let one_by_one = MagicString::from_utf8(&sheet.source[..]).map(|mut desk| {
-      let answers = sheet.records.iter().map(|record| call(&mut desk, record)).collect();
+      let answers = sheet.records.iter().map(|record| one_by_one(&mut desk, record)).collect();
       SheetRun { desk, answers }
     });
     assert_eq!(run, one_by_one);

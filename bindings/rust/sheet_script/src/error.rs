@@ -1,6 +1,6 @@
 use std::{error::Error, fmt};
 
-/// Why a script makes no sheet.
+/// Why a script makes no sheet, or no list.
 #[derive(Debug, Clone, PartialEq, Eq)]
 pub struct ScriptError {
   /// The line, counted from 1.
@@ -17,7 +17,7 @@ impl fmt::Display for ScriptError {
 
 impl Error for ScriptError {}
 
-/// Why bytes are no sheet.
+/// Why bytes are no sheet, or no list.
 #[derive(Debug, Clone, PartialEq, Eq)]
 pub struct SheetError {
   /// The record, counted from 1; none before the records.

@@ -1,4 +1,5 @@
-//! What a sheet may have, as include/magic_string.h has it.
+//! What a sheet may have, as include/magic_string.h has it. A list has as many records and
+//! as many bytes at most.
 
 /// The version, the first byte.
 pub const SHEET_VERSION: u8 = 1;

@@ -2,7 +2,6 @@
 
 use crate::{
   Kind, Record,
-  new_sheet::NewSheet,
   text::{quoted, unquoted},
 };
 
@@ -18,22 +17,45 @@ pub fn of_source(source: &[u8]) -> String {
   }
 }
 
-/// Adds what a line says to the sheet.
-pub fn add(sheet: &mut NewSheet, line: &[u8]) -> Result<(), String> {
+/// What a line says.
+pub enum Line {
+  /// Nothing: it is blank, or a comment.
+  Blank,
+  /// A part of the source.
+  Source(Vec<u8>),
+  /// A call.
+  Call(CallLine),
+}
+
+/// A call that owns its text.
+pub struct CallLine {
+  kind: Kind,
+  positions: Vec<u32>,
+  text: Vec<u8>,
+}
+
+impl CallLine {
+  pub fn record(&self) -> Record<'_> {
+    Record { kind: self.kind, positions: self.positions.clone(), text: &self.text }
+  }
+}
+
+/// Reads a line.
+pub fn read(line: &[u8]) -> Result<Line, String> {
   let line = str::from_utf8(line).map_err(|_| "the line is not UTF-8: use \\xHH")?.trim();
   if line.is_empty() || line.starts_with('#') {
-    return Ok(());
+    return Ok(Line::Blank);
   }
   let (name, rest) = word(line);
   if name == SOURCE {
-    return match &arguments(rest)?[..] {
-      [Argument::Text(text)] => sheet.source(text),
+    return match <[_; 1]>::try_from(arguments(rest)?) {
+      Ok([Argument::Text(text)]) => Ok(Line::Source(text)),
       _ => Err(format!("{SOURCE} takes a text")),
     };
   }
   let kind = Kind::of_name(name).ok_or_else(|| format!("{name} is no call of a sheet"))?;
   let (positions, text) = sorted(kind, arguments(rest)?).ok_or_else(|| takes(kind))?;
-  sheet.record(&Record { kind, positions, text: &text })
+  Ok(Line::Call(CallLine { kind, positions, text }))
 }
 
 /// The characters up to the first blank, and what follows them.

@@ -1,17 +1,28 @@
 //! `sheet_script to-sheet [FILE]` makes a sheet of a script, `sheet_script to-script
-//! [FILE]` a script of a sheet: from FILE, or from standard input without one, to
-//! standard output. What is wrong goes to standard error, and the status is then 1.
+//! [FILE]` a script of a sheet; `to-list` and `list-to-script` do so for a list, which is
+//! a sheet's calls without a source. They read FILE, or standard input without one, and
+//! write to standard output. What is wrong goes to standard error, and the status is
+//! then 1.
 
 use std::{
-  env, fs,
+  env,
+  error::Error,
+  fs,
   io::{self, Read, Write},
   path::{Path, PathBuf},
   process::ExitCode,
 };
 
-use sheet_script::{to_script, to_sheet};
+use sheet_script::{list_to_script, to_list, to_script, to_sheet};
 
-const USAGE: &str = "usage: sheet_script to-sheet [FILE]\n       sheet_script to-script [FILE]";
+const USAGE: &str = "\
+usage: sheet_script to-sheet [FILE]
+       sheet_script to-script [FILE]
+       sheet_script to-list [FILE]
+       sheet_script list-to-script [FILE]";
+
+/// What a command makes of the bytes that it read.
+type Turned = Result<Vec<u8>, Box<dyn Error>>;
 
 fn main() -> ExitCode {
   match run() {
@@ -30,11 +41,11 @@ fn run() -> Result<(), String> {
     [command, file] => (command, Some(file.as_path())),
     _ => return Err(USAGE.to_string()),
   };
-  let turn = match command.to_str() {
-    Some("to-sheet") => |bytes: &[u8]| to_sheet(bytes).map_err(|error| error.to_string()),
-    Some("to-script") => {
-      |bytes: &[u8]| to_script(bytes).map(String::into_bytes).map_err(|error| error.to_string())
-    }
+  let turn: fn(&[u8]) -> Turned = match command.to_str() {
+    Some("to-sheet") => |bytes| Ok(to_sheet(bytes)?),
+    Some("to-script") => |bytes| Ok(to_script(bytes)?.into_bytes()),
+    Some("to-list") => |bytes| Ok(to_list(bytes)?),
+    Some("list-to-script") => |bytes| Ok(list_to_script(bytes)?.into_bytes()),
     _ => return Err(USAGE.to_string()),
   };
   let named = |what: String| match file {
@@ -42,7 +53,7 @@ fn run() -> Result<(), String> {
     None => what,
   };
   let bytes = read(file).map_err(|error| named(error.to_string()))?;
-  let turned = turn(&bytes).map_err(named)?;
+  let turned = turn(&bytes).map_err(|error| named(error.to_string()))?;
   write(&turned).map_err(|error| error.to_string())
 }
 

@@ -2,21 +2,32 @@
 
 use crate::{
   Record,
-  limits::{SHEET_BYTES, SHEET_FRONT, SHEET_RECORDS, SHEET_VERSION},
+  limits::{SHEET_FRONT, SHEET_VERSION},
+  line::Line,
+  new_records::{NewRecords, check_size},
 };
 
-/// The source, once there is one, and the records' bytes and number.
+const SHEET: &str = "a sheet";
+
+/// The source, once there is one, and the records.
 #[derive(Default)]
 pub struct NewSheet {
   source: Option<Vec<u8>>,
-  records: Vec<u8>,
-  count: usize,
+  records: NewRecords,
 }
 
 impl NewSheet {
-  /// Adds to the source.
-  pub fn source(&mut self, text: &[u8]) -> Result<(), String> {
-    if self.count > 0 {
+  /// Adds what a line says.
+  pub fn add(&mut self, line: &Line) -> Result<(), String> {
+    match line {
+      Line::Blank => Ok(()),
+      Line::Source(text) => self.source(text),
+      Line::Call(call) => self.record(&call.record()),
+    }
+  }
+
+  fn source(&mut self, text: &[u8]) -> Result<(), String> {
+    if self.records.count > 0 {
       return Err("the source stands before the calls".to_string());
     }
     let source = self.source.get_or_insert_default();
@@ -27,30 +38,18 @@ impl NewSheet {
     self.check_size()
   }
 
-  /// Adds a record.
-  pub fn record(&mut self, record: &Record) -> Result<(), String> {
+  fn record(&mut self, record: &Record) -> Result<(), String> {
     if self.source.is_none() {
       return Err("the source is missing before the first call".to_string());
     }
-    if self.count == SHEET_RECORDS {
-      return Err(format!("a sheet has at most {SHEET_RECORDS} calls"));
-    }
-    let bytes = record.bytes().ok_or_else(|| {
-      let most = usize::from(u16::MAX) - record.kind.length();
-      format!("a text of {} has at most {most} bytes", record.kind.name())
-    })?;
-    self.count += 1;
-    self.records.extend(bytes);
+    self.records.add(record, SHEET)?;
     self.check_size()
   }
 
   /// Refuses a sheet that is too long.
   fn check_size(&self) -> Result<(), String> {
     let source = self.source.as_ref().map_or(0, Vec::len);
-    if SHEET_FRONT + source + self.records.len() > SHEET_BYTES {
-      return Err(format!("a sheet has at most {SHEET_BYTES} bytes"));
-    }
-    Ok(())
+    check_size(SHEET_FRONT + source + self.records.bytes.len(), SHEET)
   }
 
   /// The whole sheet.
@@ -60,7 +59,7 @@ impl NewSheet {
     let mut sheet = vec![SHEET_VERSION];
     sheet.extend(length.to_be_bytes());
     sheet.extend(source);
-    sheet.extend(self.records);
+    sheet.extend(self.records.bytes);
     Ok(sheet)
   }
 }

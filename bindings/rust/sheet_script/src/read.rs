@@ -31,13 +31,26 @@ pub fn records(bytes: &[u8]) -> Result<Vec<Record<'_>>, SheetError> {
     let number = records.len() + 1;
     let named = |(byte, what)| SheetError { record: Some(number), byte: at + byte, what };
     if number > SHEET_RECORDS {
-      return Err(named((0, format!("a sheet has at most {SHEET_RECORDS} records"))));
+      return Err(named((0, format!("there are at most {SHEET_RECORDS} records"))));
     }
     let record = record(&bytes[at..]).map_err(named)?;
     at += 2 + record.kind.length() + record.text.len();
     records.push(record);
   }
   Ok(records)
+}
+
+/// The records of a list, which stand one behind the other and before which there is
+/// nothing. It may be as long as a sheet.
+///
+/// # Errors
+/// The first place at which the list breaks its rules.
+pub fn list(bytes: &[u8]) -> Result<Vec<Record<'_>>, SheetError> {
+  if bytes.len() > SHEET_BYTES {
+    let what = format!("a list has at most {SHEET_BYTES} bytes");
+    return Err(SheetError { record: None, byte: SHEET_BYTES, what });
+  }
+  records(bytes)
 }
 
 /// A byte's place, and what is wrong there.
@@ -79,11 +92,11 @@ fn record(bytes: &[u8]) -> Result<Record<'_>, Wrong> {
 /// As many bytes behind the length of the record at the front as it says.
 fn behind_length(bytes: &[u8]) -> Result<&[u8], Wrong> {
   let &[high, low, ref rest @ ..] = bytes else {
-    return Err((0, "the sheet ends inside the record's length".to_string()));
+    return Err((0, "the bytes end inside the record's length".to_string()));
   };
   let length = u16::from_be_bytes([high, low]).into();
   rest.get(..length).ok_or_else(|| {
-    (0, format!("the record's length is {length}, but the sheet has only {} more", rest.len()))
+    (0, format!("the record's length is {length}, but there are only {} bytes more", rest.len()))
   })
 }
 

@@ -31,10 +31,10 @@ fn before_the_records() {
 #[test]
 fn a_record() {
   let cases: [(&[u8], &str); 16] = [
-    (b"\0", "17: the sheet ends inside the record's length"),
+    (b"\0", "17: the bytes end inside the record's length"),
     (b"\0\0", "17: the record's length is 0"),
-    (b"\0\x09\x01\0\0", "17: the record's length is 9, but the sheet has only 3 more"),
-    (b"\x09\0\x01\0\0", "17: the record's length is 2304, but the sheet has only 3 more"),
+    (b"\0\x09\x01\0\0", "17: the record's length is 9, but there are only 3 bytes more"),
+    (b"\x09\0\x01\0\0", "17: the record's length is 2304, but there are only 3 bytes more"),
     (b"\0\x01\0", "19: there is no kind 0"),
     (b"\0\x01\x09", "19: there is no kind 9"),
     (b"\0\x01\xFF", "19: there is no kind 255"),
@@ -67,7 +67,7 @@ fn limits() {
   assert!(to_script(&sheet(SHEET_RECORDS)).is_ok());
   assert_eq!(
     error(sheet(SHEET_RECORDS + 1)),
-    "record 201, byte 2203: a sheet has at most 200 records"
+    "record 201, byte 2203: there are at most 200 records"
   );
   let source = vec![b'a'; SHEET_BYTES - 2];
   let longer = Sheet { source, records: Vec::new() }.bytes();

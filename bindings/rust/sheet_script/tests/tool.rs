@@ -43,6 +43,16 @@ fn standard_input() {
   assert_eq!(refused(&["to-script"], b"\x02"), "byte 0: the version is 2, not 1\n");
 }
 
+#[test]
+fn lists() {
+  let (script, list) = (&SCRIPT[13..], &SHEET[6..]);
+  assert_eq!(printed(&["to-list"], script), list);
+  assert_eq!(printed(&["list-to-script"], list), script);
+  assert_eq!(refused(&["to-list"], SCRIPT), "line 1: a list has no source\n");
+  let what = "record 1, byte 0: the record's length is 256, but there are only 4 bytes more\n";
+  assert_eq!(refused(&["list-to-script"], &SHEET[..6]), what);
+}
+
 /// The path of a file with this content.
 fn file(name: &str, content: &[u8]) -> String {
   let path = Path::new(env!("CARGO_TARGET_TMPDIR")).join(name);
@@ -58,7 +68,7 @@ fn files() {
   assert_eq!(printed(&["to-script", &sheet], b"not read"), SCRIPT);
 
   let short = file("tool_short.sheet", &SHEET[..SHEET.len() - 1]);
-  let what = "record 1, byte 6: the record's length is 13, but the sheet has only 12 more";
+  let what = "record 1, byte 6: the record's length is 13, but there are only 12 bytes more";
   assert_eq!(refused(&["to-script", &short], b""), format!("{short}: {what}\n"));
   let missing = "no such folder/tool.script";
   assert!(refused(&["to-sheet", missing], b"").starts_with(&format!("{missing}: ")));

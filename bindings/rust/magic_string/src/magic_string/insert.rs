@@ -52,6 +52,8 @@ impl MagicString {
     side: Side,
     end: End,
   ) -> Result<&mut Self, Refusal> {
-    self.edit(|memory| memory.insert(at, text.as_ref(), side == Side::Left, end == End::Front))
+    self.edit(|memory| {
+      memory.insert(at, text.as_ref().as_bytes(), side == Side::Left, end == End::Front)
+    })
   }
 }

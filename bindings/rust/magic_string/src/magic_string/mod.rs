@@ -1,6 +1,7 @@
 pub mod append;
 pub mod indent;
 pub mod insert;
+pub mod join;
 pub mod movement;
 pub mod prepend;
 pub mod reset;
@@ -127,7 +128,8 @@ impl MagicString {
   ///
   /// It is at most 1 for an insertion, 2 for a removal, replacement or reset, 3 for a move,
   /// and for an indent one for each line that it indents; 0 for any other edit. It is 0
-  /// after a refusal that leaves the desk as it was, and so after [`Refusal::Limit`].
+  /// after a refusal that leaves the desk as it was, and so after [`Refusal::Limit`]. Of
+  /// [`Self::join`] it counts the cuts of all calls together.
   ///
   /// Reports do not change it. It is 0 until the first edit is made on this `MagicString`:
   /// on one that was opened, or made by [`Self::from_tables`] or [`Self::run_sheet`]. A
@@ -156,7 +158,8 @@ impl MagicString {
   }
 }
 
-/// Edits stand in files of their own; each is made here, and so are the calls on a record.
+/// Edits and the join stand in files of their own; each is made here, and so are the calls
+/// on a record.
 impl MagicString {
   pub(crate) fn edit(
     &mut self,

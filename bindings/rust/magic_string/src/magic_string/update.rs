@@ -49,6 +49,6 @@ impl MagicString {
     content: impl AsRef<str>,
     opts: UpdateOptions,
   ) -> Result<&mut Self, Refusal> {
-    self.edit(|memory| memory.update_with(start, end, content.as_ref(), opts.overwrite))
+    self.edit(|memory| memory.update_with(start, end, content.as_ref().as_bytes(), opts.overwrite))
   }
 }

@@ -7,9 +7,9 @@ use crate::{
   Side::{self, *},
 };
 
-/// A call that [`Sitting::file`](crate::Sitting::file) makes and files: an edit that a
-/// sheet may have. Its [`Display`](fmt::Display) is the line of a script (crate
-/// `sheet_script`).
+/// A call that [`Sitting::file`](crate::Sitting::file) makes and files, or that stands in a
+/// [list](Self::list): an edit that a sheet may have. Its [`Display`](fmt::Display) is the
+/// line of a script (crate `sheet_script`).
 #[derive(Debug, Clone, Copy, PartialEq, Eq)]
 pub enum Call<'a> {
   /// [`MagicString::remove`](crate::MagicString::remove).
@@ -58,6 +58,14 @@ pub enum Call<'a> {
 }
 
 impl<'a> Call<'a> {
+  /// The list of these calls for [`MagicString::join`](crate::MagicString::join); none if a
+  /// text is too long for a record's length. It may have more calls or bytes than a list
+  /// that is joined.
+  pub fn list(calls: &[Call]) -> Option<Vec<u8>> {
+    let records: Option<Vec<_>> = calls.iter().map(|call| call.record().bytes()).collect();
+    Some(records?.concat())
+  }
+
   /// The record of the call.
   pub(super) fn record(&self) -> Record<'a> {
     let (kind, positions, text) = match *self {

@@ -26,7 +26,8 @@ impl Sheet {
 }
 
 impl Record {
-  fn any(random: &mut Random, source_len: usize) -> Self {
+  /// A record over a source of this length, whose call can be made, most often.
+  pub fn any(random: &mut Random, source_len: usize) -> Self {
     let kind = 1 + random.below(8) as u8;
     let (positions, has_text) = match kind {
       1 | 3 => (2, false),

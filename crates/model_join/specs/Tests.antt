@@ -1,5 +1,5 @@
--- The premises on a list of edits as computed tests. proofs/Decide.antt has the law that they are exactly the premises of Claim.antt.
-use Prim.Native.Nat.{ℕ, zero, suc, _+_}
+-- The premises of the any-order rule on a list of edits, as computed tests. That they are exactly the premises is `decide-premises` in crate `any_order`.
+use Prim.Native.Nat.{ℕ, zero, suc, _+_, _*_}
 use mathlib.Core.Bool.{Bool, true, false, _&&_, _||_, not, cond}
 use mathlib.Core.List.{List, [], _∷_}
 use lib.Dec.{ltb, leb, eqb}
@@ -8,8 +8,7 @@ use Rattle.model.specs.Text.{all, sum}
 use Rattle.model.specs.MagicString.{MagicString}
 use Rattle.model.specs.Limits.{Limits, piece-count, byte-count}
 use Rattle.model.specs.Call.{Edit, remove, update-with, reset, insert, append, prepend, relocate, trim, trim-start, trim-end}
-use Rattle.model.specs.Call.{trim-lines, indent-with, positions, run, listed}
-use Rattle.any_order.specs.Claim.{most-cuts, new-pieces, new-bytes}
+use Rattle.model.specs.Call.{trim-lines, indent-with, texts, positions, run, listed}
 
 -- every two elements, the earlier one first
 abbrev pub pairs : {A : Type 0} → (A → A → Bool) → List A → Bool
@@ -125,6 +124,30 @@ edits-apart n L = ltb 0 n && (all listed L && (all is-wide L && (all-within n L 
 
 unfoldable pub each-alone : Limits → MagicString → List Edit → Bool
 each-alone k m L = all (λ e. eqb (run k e m .number) 0) L
+
+-- ── space ──
+-- "3 × calls": an edit makes at most three cuts
+abbrev pub most-cuts : List Edit → ℕ
+most-cuts L = 3 * length L
+
+-- "insertions, each `prepend` and `append` counted as one"
+abbrev pub new-pieces : Edit → ℕ
+new-pieces (remove a b) = 0
+new-pieces (update-with a b t o) = 0
+new-pieces (reset a b) = 0
+new-pieces (insert p t left front) = 1
+new-pieces (append t) = 1
+new-pieces (prepend t) = 1
+new-pieces (relocate a b to) = 0
+new-pieces (trim p) = 0
+new-pieces (trim-start p) = 0
+new-pieces (trim-end p) = 0
+new-pieces trim-lines = 0
+new-pieces (indent-with i l) = 0
+
+-- "all texts in L"
+abbrev pub new-bytes : Edit → ℕ
+new-bytes e = sum length (texts e)
 
 unfoldable pub has-space : Limits → MagicString → List Edit → Bool
 has-space k m L =

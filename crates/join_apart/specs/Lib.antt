@@ -1,0 +1,5 @@
+pub mod Kinds
+pub mod Places
+pub mod Marking
+pub mod Moves
+pub mod Apart

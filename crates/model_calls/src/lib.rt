@@ -1,0 +1,1 @@
+// Definitions and laws alone: every call by name, and what it gives.
