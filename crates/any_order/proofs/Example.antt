@@ -4,7 +4,7 @@ use mathlib.Core.Bool.{true}
 use mathlib.Core.List.{List, flatten}
 use Rattle.utf8.specs.Rfc3629.{scalar, sequence, decodeAt, wholeFrom, utf8, between}
 use Rattle.model.specs.Chunk.{contains}
-use Rattle.model.specs.MagicString.{MagicString, new, split-at, by-edge-mut, to-string}
+use Rattle.model.specs.MagicString.{new, split-at, by-edge-mut, to-string}
 use Rattle.model.specs.Update.{update-chunks}
 use Rattle.model.specs.Update as update-rs
 use Rattle.model.specs.Movement.{change-range}

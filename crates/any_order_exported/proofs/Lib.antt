@@ -1,3 +1,4 @@
 pub mod Follow
 pub mod Theorem
+pub mod Joins
 pub mod Worked

@@ -1,3 +1,4 @@
 pub mod Runs
 pub mod Claim
+pub mod Joins
 pub mod Worked

@@ -1,20 +1,13 @@
 -- Both lists as one list of calls, and what is read of them.
-use mathlib.Core.Path.{_≡_, refl, sym, ap, _∙_}
+use mathlib.Core.Path.{_≡_, refl}
 use mathlib.Core.List.{List, _++_}
-use mathlib.Core.Option.{Option, none, some, bind, Option·map}
-use native.Mathlib.Omega.{arith}
+use mathlib.Core.Option.{Option, none, some}
 use Prim.Native.Nat.{ℕ}
 use Rattle.model.specs.Call.{Edit}
 use Rattle.model_sheet.specs.Record.{Recorded}
 use Rattle.model_sheet.specs.Sheet.{calls-of}
 use Rattle.model_join.specs.Join.{list, both-lists}
-use Rattle.model_join.proofs.Lists.{first-none, second-none, both-read}
-
-pub none-some : {A X : Type 0} {o : Option A} {x : A} → o ≡ none → o ≡ some x → X
-none-some e h = let z : _≡_ {A = ℕ} 0 1 = cc in absurd (omega arith)
-
-pub same-some : {A : Type 0} {o : Option A} {x y : A} → o ≡ some x → o ≡ some y → x ≡ y
-same-some e h = cc
+use Rattle.model_join.proofs.Lists.{none-some, same-some, first-none, second-none, both-read}
 
 -- the records of each
 pub record Read (first second : List ℕ) (L : List Edit) : Type 0 where

@@ -1,11 +1,10 @@
 -- What the any-order rule says of a join.
-use Prim.Native.Nat.{ℕ, zero, suc, _+_, _-_, _≤_}
+use Prim.Native.Nat.{ℕ, zero, suc, _-_}
 use native.Mathlib.Omega.{arith}
 use mathlib.Core.Path.{_≡_, refl, sym, ap, _∙_, subst}
-use mathlib.Core.Bool.{Bool, true, false, true≢false}
+use mathlib.Core.Bool.{Bool, false, true≢false}
 use mathlib.Core.List.{List, [], _∷_, _++_}
 use mathlib.Core.Option.{Option, none, some}
-use mathlib.Core.Logic.{_↔_}
 use lib.ListN.{length}
 use Rattle.model.specs.MagicString.{MagicString, ok}
 use Rattle.model.specs.Limits.{Limits}
@@ -13,19 +12,18 @@ use Rattle.model.specs.Call.{Edit, run, after, Outcome, changed}
 use Rattle.model.specs.WellFormed.{WellFormed}
 use Rattle.model.proofs.Lists.{bool-elim}
 use Rattle.model_preservation.proofs.Calls.{after-keeps}
-use Rattle.model_cuts.specs.Cuts.{cuts-in-all}
 use Rattle.model_cuts.proofs.Growth.{all-cuts-counted}
 use Rattle.model_sheet.specs.Sheet.{calls-of, refused-by}
 use Rattle.model_join.specs.Tests.{edits-apart, each-alone, has-space}
 use Rattle.model_join.specs.Join.{both-lists, refused-join, joined, join-read, join}
 use Rattle.model_join.proofs.Lists.{both-read}
 use Rattle.model_join.proofs.Joining.{after-append, join-none, join-some, read-number, read-refused, read-joined, refused-18, refused-19, refused-13, not-refused}
-use Rattle.any_order.specs.Claim.{Order, same, next, then, EditsApart, Space, Premises, AllAccepted}
+use Rattle.any_order.specs.Claim.{Order, same, EditsApart, Space, Premises, AllAccepted}
 use Rattle.any_order.specs.Decide.{Decides}
 use Rattle.any_order.proofs.Decide.{decide-edits, decide-alone, decide-space}
 use Rattle.any_order.proofs.Theorem.{any-order, apart-order, order-all, space-order, order-swap}
-use Rattle.any_order_join.specs.Claim.{OfBoth, number, Alone, Numbers, JoinNumbers, Leaves, JoinLeaves, RefusalChangesNothing, JoinCommutes}
-use Rattle.any_order_join.proofs.Reading.{none-some, same-some, Read, read-both, none-swapped}
+use Rattle.any_order_join.specs.Claim.{OfBoth, number, Alone, JoinNumbers, Leaves, JoinLeaves, RefusalChangesNothing, JoinCommutes}
+use Rattle.any_order_join.proofs.Reading.{read-both, none-swapped}
 
 -- ── which number ──
 -- what a join of two lists that are read gives, and why
@@ -58,7 +56,7 @@ pub data Case (k : Limits) (m : MagicString) (first second : List ℕ) : Type 0 
   bad : both-lists first second ≡ none → number k first second m ≡ 16 → Case k m first second
   read : (L : List Edit) → both-lists first second ≡ some L → number k first second m ≡ refused-join k m L → Verdict k m L → Case k m first second
 
-number-is : (k : Limits) (m : MagicString) (first second : List ℕ) {L : List Edit} → both-lists first second ≡ some L → number k first second m ≡ refused-join k m L
+pub number-is : (k : Limits) (m : MagicString) (first second : List ℕ) {L : List Edit} → both-lists first second ≡ some L → number k first second m ≡ refused-join k m L
 number-is k m first second {L} e = ap (λ (o : Outcome). o .shown .number) (join-some k m first second e) ∙ read-number k m L
 
 case-of : (k : Limits) (m : MagicString) (first second : List ℕ) → Case k m first second

@@ -1,17 +1,16 @@
 -- A join's answer, number by number.
-use Prim.Native.Nat.{ℕ, zero, suc, _+_, _-_}
+use Prim.Native.Nat.{ℕ, zero, suc}
 use native.Mathlib.Omega.{arith}
-use mathlib.Core.Path.{_≡_, refl, sym, ap, _∙_, subst}
+use mathlib.Core.Path.{_≡_, refl, sym, ap, _∙_}
 use mathlib.Core.List.{List, [], _++_}
-use mathlib.Core.Option.{Option, none, some}
+use mathlib.Core.Option.{none, some}
 use lib.ListN.{length}
 use Rattle.model.specs.MagicString.{MagicString}
 use Rattle.model.specs.Call.{Edit, Outcome, after}
-use Rattle.model_sheet.specs.Sheet.{MOST-RECORDS, calls-of, refused-by}
+use Rattle.model_sheet.specs.Sheet.{calls-of, refused-by}
 use Rattle.model_join.specs.Join.{list, both-lists, refused-join, joined}
-use Rattle.model_join.proofs.Lists.{first-none, second-none, both-read}
+use Rattle.model_join.proofs.Lists.{same-some, first-none, second-none, both-read}
 use Rattle.model_join.proofs.Joining.{join-none, join-some, read-refused, read-joined}
-use Rattle.memory_table.specs.Order.{countOf}
 use Rattle.memory.specs.Layout.{magicStringOf}
 use Rattle.memory.specs.WellFormed.{limitsOf, Lengths, WellFormed}
 use Rattle.memory.specs.declared.Answer.{Answer}
@@ -19,7 +18,7 @@ use Rattle.memory.proofs.Desks.{chunk-count, same-lengths, all-same}
 use Rattle.join_lists.specs.Judged.{ListIs}
 use Rattle.join_lists.specs.Promises.{outcome, Joins}
 use Rattle.join_refused.specs.Refused.{RefusedWith}
-use Rattle.join.specs.Ran.{MadeBoth, RanBoth}
+use Rattle.join.specs.Ran.{RanBoth}
 
 module _ {first second source t p s : List ℕ} (w : WellFormed source t p s) where
   -- a refusal leaves every byte
@@ -83,8 +82,5 @@ module _ {first second source t p s : List ℕ} (w : WellFormed source t p s) wh
             well-formed = x .made .well-formed;
             lengths = same;
             refused = λ h. absurd (h refl);
-            no-calls = λ e. x .made .no-calls (some-is are e);
+            no-calls = λ e. x .made .no-calls (same-some are e);
           }
-        where
-          some-is : {o : Option (List Edit)} {x y : List Edit} → o ≡ some x → o ≡ some y → x ≡ y
-          some-is a b = cc

@@ -1,17 +1,17 @@
 -- The calls of a list, made; and those of two lists, one behind the other.
 use Prim.Native.Nat.{ℕ, _+_, _-_, _≤_, _<_}
 use native.Mathlib.Omega.{arith}
-use mathlib.Core.Path.{_≡_, refl, sym, ap, _∙_, subst}
+use mathlib.Core.Path.{_≡_, refl, sym, ap, _∙_}
 use mathlib.Core.List.{List, [], _∷_, _++_}
-use mathlib.Core.Option.{Option, some}
+use mathlib.Core.Option.{some}
 use lib.ListN.{length, length-append, length-map}
 use Rattle.model.specs.MagicString.{MagicString}
 use Rattle.model.specs.Limits.{Limits}
 use Rattle.model.specs.Call.{Edit, after}
-use Rattle.model_cuts.specs.Cuts.{cuts-in-all}
 use Rattle.model_cuts.proofs.Growth.{all-cuts-counted}
 use Rattle.model_sheet.specs.Record.{Recorded, records}
 use Rattle.model_sheet.specs.Sheet.{call-of, calls-of}
+use Rattle.model_join.proofs.Lists.{same-some}
 use Rattle.model_join.proofs.Joining.{after-append}
 use Rattle.memory_table.specs.Order.{countOf}
 use Rattle.memory.specs.Layout.{magicStringOf}
@@ -20,14 +20,11 @@ use Rattle.memory.specs.Calls.{Same}
 use Rattle.memory.proofs.Desks.{limits-as, chunk-count, all-same}
 use Rattle.sheet_records.specs.Found.{Counted}
 use Rattle.sheet_run.specs.RanAll.{RanRecords}
-use Rattle.join.specs.Ran.{Made, RanList, MadeBoth, RanBoth}
-
-same-list : {o : Option (List Recorded)} {l m : List Recorded} → o ≡ some l → o ≡ some m → l ≡ m
-same-list e h = cc
+use Rattle.join.specs.Ran.{Made, RanList, RanBoth}
 
 -- how many calls a list has
 calls-count : {r : List ℕ} {most n : ℕ} → Counted r most n → (l : List Recorded) → records r ≡ some l → length (calls-of l) ≡ n
-calls-count c l e = length-map l call-of ∙ ap length (same-list e (c .are)) ∙ c .count
+calls-count c l e = length-map l call-of ∙ ap length (same-some e (c .are)) ∙ c .count
 
 -- no elements
 none-of : {A : Type 0} (l : List A) → length l ≡ 0 → l ≡ []

@@ -8,7 +8,7 @@ use Rattle.model_sheet.specs.Record.{Recorded, records}
 use Rattle.model_sheet.specs.Sheet.{calls-of}
 use Rattle.memory_table.specs.Order.{countOf}
 use Rattle.memory.specs.Layout.{magicStringOf}
-use Rattle.memory.specs.WellFormed.{limitsOf, Lengths, WellFormed}
+use Rattle.memory.specs.WellFormed.{limitsOf, WellFormed}
 use Rattle.memory.specs.Calls.{Same}
 
 -- these calls, each on what the one before it left

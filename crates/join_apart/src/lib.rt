@@ -26,6 +26,7 @@ fn places_apart(n: usize, first: &[u8], second: &[u8]) -> bool
     false
 }
 
+// Judges the calls of two lists over a source of n bytes.
 pub fn apart(n: usize, first: &[u8], second: &[u8]) -> bool
     requires { ⌜ n ≤ SOURCE-BYTES ⌝ }
     ensures { λ r. ⌜ Apart n (now (first .entry)) (now (second .entry)) r ⌝ }

@@ -5,8 +5,8 @@ ghost use Prim.Native.Nat.{_≤_};
 ghost use lib.Dec.{leb};
 ghost use Rattle.memory_layout.specs.Layout.{SOURCE-BYTES};
 ghost use Rattle.join_apart.specs.Kinds.{is-range};
-ghost use Rattle.model_sheet.specs.Sheet.{inserts-left};
 ghost use Rattle.join_apart.specs.Marking.{Fits, Takes};
+use sheet_records::inserts_left;
 
 // A stretch of places.
 pub struct Stretch {
@@ -24,13 +24,6 @@ fn has_range(kind: u8) -> bool
         3 => true,
         _ => false,
     }
-}
-
-// Kinds 4 and 6 insert left of their position.
-fn inserts_left(kind: u8) -> bool
-    ensures { λ r. ⌜ r ≡ inserts-left kind ⌝ }
-{
-    kind == 4 || kind == 6
 }
 
 // Whether a position lies in a source of n bytes, its end among them.

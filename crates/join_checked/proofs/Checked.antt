@@ -1,5 +1,5 @@
 -- From what the check of the desk sees and the inner call promises to what the call promises of any memory.
-use mathlib.Core.Path.{_≡_, refl}
+use mathlib.Core.Path.{_≡_}
 use mathlib.Core.List.{List}
 use Prim.Native.Nat.{ℕ}
 use Rattle.memory.specs.WellFormed.{Taken}

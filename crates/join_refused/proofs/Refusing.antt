@@ -1,6 +1,6 @@
 -- From what each test says to the number.
 use Prim.Native.Nat.{ℕ}
-use mathlib.Core.Path.{_≡_, refl, sym, ap, _∙_}
+use mathlib.Core.Path.{_≡_, sym, ap, _∙_}
 use mathlib.Core.Bool.{Bool, true, false, _&&_}
 use mathlib.Core.List.{List, _++_}
 use mathlib.Core.Option.{some}
@@ -12,7 +12,7 @@ use Rattle.model.specs.Call.{Edit, run}
 use Rattle.model.proofs.Lists.{tests-append}
 use Rattle.model_sheet.specs.Record.{Recorded, records}
 use Rattle.model_sheet.specs.Sheet.{calls-of}
-use Rattle.model_join.specs.Tests.{edits-apart, each-alone, has-space}
+use Rattle.model_join.specs.Tests.{edits-apart, each-alone}
 use Rattle.model_join.proofs.Joining.{refused-18, refused-19, refused-13, not-refused}
 use Rattle.memory.specs.Layout.{magicStringOf}
 use Rattle.memory.specs.WellFormed.{limitsOf}

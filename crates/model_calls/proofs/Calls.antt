@@ -1,6 +1,5 @@
 -- Every call keeps a desk well formed, and gives 0 or one of its numbers.
 use mathlib.Core.List.{[], _∷_}
-use Rattle.model.specs.MagicString.{Result}
 use Rattle.model.specs.Call.{run, edit-numbers, show, report-numbers, opened}
 use Rattle.model.specs.WellFormed.{WellFormed}
 use Rattle.model_preservation.proofs.Calls.{run-keeps, opened-cases}

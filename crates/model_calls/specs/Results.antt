@@ -1,5 +1,5 @@
 -- What is proved of every call: the statements. proofs/Calls.antt has each under the same name in small letters.
-use Prim.Native.Nat.{ℕ, _≤_}
+use Prim.Native.Nat.{_≤_}
 use mathlib.Core.Path.{_≡_}
 use mathlib.Core.Bool.{true}
 use Rattle.model.specs.MagicString.{MagicString}

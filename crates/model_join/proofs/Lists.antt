@@ -1,7 +1,7 @@
 -- A list that is handed in, by its bytes.
 use Prim.Native.Nat.{ℕ, _≤_, _<_}
 use native.Mathlib.Omega.{arith}
-use mathlib.Core.Path.{_≡_, refl, ap, _∙_}
+use mathlib.Core.Path.{_≡_, refl}
 use mathlib.Core.Bool.{Bool, true, false, cond}
 use mathlib.Core.List.{List, _++_}
 use mathlib.Core.Option.{Option, none, some, bind, Option·map}
@@ -12,6 +12,13 @@ use Rattle.model.specs.Call.{Edit}
 use Rattle.model_sheet.specs.Record.{Recorded, records}
 use Rattle.model_sheet.specs.Sheet.{MOST-RECORDS, MOST-BYTES, few, calls-of}
 use Rattle.model_join.specs.Join.{list, both-lists}
+
+-- an option is none or has one value
+pub none-some : {A X : Type 0} {o : Option A} {x : A} → o ≡ none → o ≡ some x → X
+none-some e h = let z : _≡_ {A = ℕ} 0 1 = cc in absurd (omega arith)
+
+pub same-some : {A : Type 0} {o : Option A} {x y : A} → o ≡ some x → o ≡ some y → x ≡ y
+same-some e h = cc
 
 module _ (s : List ℕ) where
   pub list-long : MOST-BYTES < length s → list s ≡ none

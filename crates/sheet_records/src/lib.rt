@@ -4,6 +4,7 @@ ghost use Prim.Native.Nat.{_+_, _*_, _≤_, _<_};
 ghost use lib.ListN.{length, getD, take, drop};
 ghost use Rattle.model_sheet.specs.BigEndian.{number};
 ghost use Rattle.model_sheet.specs.Record.{positions, carries, fits, numbers};
+ghost use Rattle.model_sheet.specs.Sheet.{inserts-left};
 ghost use Rattle.sheet_records.specs.Found.{Stands, Found, Counts};
 
 pub mod sheet;
@@ -87,6 +88,13 @@ fn carries_text(kind: u8) -> bool
     } else {
         false
     }
+}
+
+// Kinds 4 and 6 insert left of their position, 5 and 7 right of it.
+pub fn inserts_left(kind: u8) -> bool
+    ensures { λ r. ⌜ r ≡ inserts-left kind ⌝ }
+{
+    kind == 4 || kind == 6
 }
 
 // Whether a record of this kind may have n bytes.

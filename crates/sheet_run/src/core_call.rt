@@ -1,18 +1,12 @@
 // The core call of a record, by its kind: one dispatcher for every list of records.
 ghost use mathlib.Core.Path.{_≡_};
-ghost use Rattle.model_sheet.specs.Sheet.{inserts-left, inserts-front, call-of};
+ghost use Rattle.model_sheet.specs.Sheet.{inserts-front, call-of};
 ghost use Rattle.memory_used.specs.Above.{Desk, Leaves};
 use memory_used::Outcome;
 use memory_used::Used;
+use sheet_records::inserts_left;
 
-// Kinds 4 to 7 are one insertion: left of its position or right,
-fn inserts_left(kind: u8) -> bool
-    ensures { λ r. ⌜ r ≡ inserts-left kind ⌝ }
-{
-    kind == 4 || kind == 6
-}
-
-// and at the front of the piece list or the back.
+// Kinds 4 to 7 are one insertion: left of its position or right (`inserts_left`), and at the front of the piece list or the back.
 fn inserts_front(kind: u8) -> bool
     ensures { λ r. ⌜ r ≡ inserts-front kind ⌝ }
 {

@@ -60,7 +60,7 @@ fn paper(core: &mut impl Core, source: &str, calls: &[Call]) -> [f64; 2] {
 }
 
 /// Makes the edits of a list, all of which are accepted.
-fn make(lent: &mut Lent, list: &List, answers: &mut [u32]) {
+pub fn make(lent: &mut Lent, list: &List, answers: &mut [u32]) {
   let made = Answer { number: 0, value: list.len() as u32 };
   assert_eq!(lent.inner_paper(list, answers), made);
   let accepted = |&word: &u32| inner_answer(word).number == 0;

@@ -1,6 +1,6 @@
 //! `bench`: the time of each call as a ratio to the Rust's, measured in the same
 //! run; whole papers, by exported and by inner calls and as sheets; calls filed and
-//! withdrawn; the check of a desk alone, and that of a text.
+//! withdrawn; two lists joined; the check of a desk alone, and that of a text.
 
 mod calls;
 mod check;
@@ -8,6 +8,7 @@ mod desks;
 mod filed;
 #[cfg(feature = "inner")]
 mod inner;
+mod joined;
 #[cfg(feature = "inner")]
 mod moved;
 mod papers;
@@ -43,6 +44,7 @@ fn main() {
   papers::print(&mut core);
   sheets::print(&mut core);
   filed::print(&mut core);
+  joined::print(&mut core);
   #[cfg(feature = "inner")]
   {
     inner::papers(&mut core);

@@ -92,6 +92,15 @@ impl Lent<'_> {
   }
 }
 
+/// Two lists of calls.
+impl Lent<'_> {
+  pub fn join(&mut self, first: &[u8], second: &[u8]) -> Answer {
+    let (first, first_len) = (first.as_ptr(), first.len());
+    let (second, second_len) = (second.as_ptr(), second.len());
+    unsafe { edit!(self, magic_string_join, first, first_len, second, second_len) }
+  }
+}
+
 /// Reports. Those that fill `out` answer how many bytes they wrote.
 impl Lent<'_> {
   pub fn slice(&self, start: u32, has_end: u32, end: u32, out: &mut [u8]) -> Answer {

@@ -1,7 +1,7 @@
 //! Compares a core (the exported functions, or a stand-in) with the oracle: call
 //! by call on random scripts, and image by image on damaged memory; the orders of
-//! lists of edits with each other; sheets and records of filed calls with plain
-//! readings of document 02; and the reading of UTF-8 with Rust's own.
+//! lists of edits with each other; sheets, records of filed calls and joins of two lists
+//! with plain readings of document 02; and the reading of UTF-8 with Rust's own.
 
 pub mod any_order;
 pub mod arguments;
@@ -14,6 +14,7 @@ mod every_call;
 #[cfg(feature = "archive")]
 mod ffi;
 pub mod image;
+pub mod joins;
 pub mod layout;
 mod lent;
 pub mod made;

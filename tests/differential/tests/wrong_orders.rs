@@ -39,7 +39,59 @@ impl Core for Wrong {
   fn well_formed(&mut self, lent: &Lent) -> Answer {
     self.right.well_formed(lent)
   }
+
+  fn join(&mut self, lent: &mut Lent, first: &[u8], second: &[u8]) -> Option<Answer> {
+    self.right.join(lent, first, second)
+  }
 }
+
+/// What a join does behind the right one.
+type JoinFault = fn(&mut Lent, &mut Answer);
+
+/// Right but for its joins.
+#[derive(Clone)]
+struct WrongJoin {
+  right: StandIn,
+  fault: JoinFault,
+}
+
+impl Core for WrongJoin {
+  fn name(&self) -> &'static str {
+    "wrong joins"
+  }
+
+  fn call(&mut self, lent: &mut Lent, call: &Call, unseen: &Unseen, out: &mut [u8]) -> Answer {
+    self.right.call(lent, call, unseen, out)
+  }
+
+  fn well_formed(&mut self, lent: &Lent) -> Answer {
+    self.right.well_formed(lent)
+  }
+
+  fn join(&mut self, lent: &mut Lent, first: &[u8], second: &[u8]) -> Option<Answer> {
+    let mut answer = self.right.join(lent, first, second)?;
+    (self.fault)(lent, &mut answer);
+    Some(answer)
+  }
+}
+
+const JOIN_FAULTS: [(&str, &str, JoinFault); 3] = [
+  ("a join tells a row", "later, join", |lent, answer| {
+    if answer.number == 0 {
+      answer.value = lent.chunks[NEXT];
+    }
+  }),
+  ("a refused join tells a place in the store", "later, join", |lent, answer| {
+    if answer.number == 18 {
+      answer.value = lent.store[0].into();
+    }
+  }),
+  ("a join drops the head", "behind the later calls, the desk is", |lent, answer| {
+    if answer.number == 0 {
+      change(lent, |desk| desk.head.clear());
+    }
+  }),
+];
 
 /// A wrong core, and where it is told.
 const FAULTS: [(&str, &str, Fault); 9] = [
@@ -167,6 +219,18 @@ fn wrong_cores_are_told() {
     assert!(found.what.contains(where_told), "{name}: {}", found.what);
     let edits = sitting.list.len();
     assert!(edits <= 2 || !found.what.starts_with("the desk"), "{name}: {edits} edits");
+  }
+}
+
+/// Joins are among the later calls.
+#[test]
+fn wrong_joins_are_told() {
+  for (name, where_told, fault) in JOIN_FAULTS {
+    let mut core = WrongJoin { right: StandIn::new(1), fault };
+    let Compared { tally, different } = compare(&mut core, None, 3, 2_000, Duration::MAX);
+    let (_, found) = different.unwrap_or_else(|| panic!("not told: {name}"));
+    println!("{name}: {} lists", tally.lists);
+    assert!(found.what.contains(where_told), "{name}: {}", found.what);
   }
 }
 

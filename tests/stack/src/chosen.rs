@@ -1,10 +1,16 @@
 //! Every call on desks that lead it each way: with room, and at each limit, so that
 //! it works on tables of its own; texts at the front of the store, and at its top. Calls
-//! of a sheet's kinds are filed there too, and withdrawn.
+//! of a sheet's kinds are filed there too, and withdrawn; and they are joined.
+
+use std::slice;
 
 use differential::{
   Core, Image, Made,
   image::{Style, encode_in},
+  joins::{
+    Lists,
+    run::{Order, join},
+  },
   layout::*,
   made::{Aim, make},
   sheets::fields::kind,
@@ -30,6 +36,7 @@ pub fn all(core: &mut impl Core, seed: u64) -> Result<(), String> {
         let met = start.clone().step(core, &made);
         met.map_err(|what| format!("{aim:?}, {}: {what}", made.call))?;
       }
+      joined(core, &desk, &start, &mut random).map_err(|what| format!("{aim:?}, {what}"))?;
       filed(core, &desk, image, &mut random).map_err(|what| format!("{aim:?}, {what}"))?;
     }
   }
@@ -54,6 +61,22 @@ fn filed(
     done.map_err(|what| format!("file or withdraw {call}: {what}"))?;
   }
   all.withdraw(core, 1).map(|_| ()).map_err(|what| format!("withdraw the first: {what}"))
+}
+
+/// The same calls are joined on this desk, each with no other: where it is refused alone, or
+/// has no space, too.
+fn joined(
+  core: &mut impl Core,
+  desk: &DeskData,
+  start: &Both,
+  random: &mut Random,
+) -> Result<(), String> {
+  for call in calls(desk).into_iter().filter(|call| kind(call).is_some()) {
+    let lists = Lists::of(&[], slice::from_ref(&call));
+    let joined = join(core, &mut start.clone(), &lists, Order::FirstSecond, random);
+    joined.map_err(|what| format!("join {call}: {what}"))?;
+  }
+  Ok(())
 }
 
 /// Little, and up to each limit.

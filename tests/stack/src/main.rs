@@ -1,5 +1,5 @@
 //! `stack [SEED [COUNT]]`: the most stack that the calls of each group used, on
-//! chosen desks, on random papers of COUNT calls, on sheets and in sittings. It fails
+//! chosen desks, on random papers of COUNT calls, on sheets, in sittings and in joins. It fails
 //! where a call used more than include/magic_string.h says of its kind, or did not answer
 //! as the oracle.
 
@@ -9,7 +9,7 @@ mod painted;
 
 use std::process::ExitCode;
 
-use differential::{Core, Paper, Tally, cores, papers, run::run, sheets, sittings};
+use differential::{Core, Paper, Tally, cores, joins, papers, run::run, sheets, sittings};
 use measured::{GROUPS, Measured};
 use oracle::random::Random;
 
@@ -33,7 +33,8 @@ fn main() -> ExitCode {
     .and_then(|()| random(&mut core, papers::paper, seed, count))
     .and_then(|()| random(&mut core, papers::blanks::paper, seed, count / 4))
     .and_then(|()| random_sheets(&mut core, seed, count / 10))
-    .and_then(|()| random_sittings(&mut core, seed, count / 20));
+    .and_then(|()| random_sittings(&mut core, seed, count / 20))
+    .and_then(|()| all_joins(&mut core, seed, count / 20));
   if let Err(what) = made {
     println!("{what}");
     return ExitCode::FAILURE;
@@ -59,9 +60,9 @@ fn main() -> ExitCode {
   ExitCode::SUCCESS
 }
 
-/// What the header says of an edit, and of the check and a report, in kB of 1,000
+/// What the header says of an edit, of a join, and of the check and a report, in kB of 1,000
 /// bytes.
-fn limits() -> [usize; 2] {
+fn limits() -> [usize; 3] {
   let header = include_str!("../../../include/magic_string.h");
   let (_, said) = header.split_once("Its stack, measured:").expect("the header's sentence");
   let (said, _) = said.split_once('.').expect("its end");
@@ -70,7 +71,7 @@ fn limits() -> [usize; 2] {
     .filter(|pair| pair[1].starts_with("kB"))
     .map(|pair| pair[0].parse().expect("a number before kB"))
     .collect();
-  figures.try_into().expect("two figures")
+  figures.try_into().expect("three figures")
 }
 
 /// Random papers of one kind.
@@ -108,5 +109,15 @@ fn random_sittings(core: &mut impl Core, seed: u64, count: u64) -> Result<(), St
     let sitting = sittings::random(seeds.number());
     let ran = sittings::run::run(core, &sitting, &mut tally);
     ran.map_err(|found| format!("{sitting}\n{}", found.what))
+  })
+}
+
+/// The chosen joins, which try calls at each limit of a desk, and random ones.
+fn all_joins(core: &mut impl Core, seed: u64, count: u64) -> Result<(), String> {
+  let mut seeds = Random::new(seed);
+  let mut tally = joins::Tally::default();
+  let at_random = (0..count).map(|_| joins::random(seeds.number()));
+  joins::chosen(seed).chain(at_random).try_for_each(|pair| {
+    joins::run::run(core, &pair, &mut tally).map_err(|what| format!("{pair}\n{what}"))
   })
 }

@@ -9,7 +9,7 @@ use oracle::Call;
 use crate::painted::Painted;
 
 /// The groups, in the order in which they are printed, each with its kind.
-pub const GROUPS: [(&str, usize); 12] = [
+pub const GROUPS: [(&str, usize); 13] = [
   ("open", REPORT),
   ("well_formed", REPORT),
   ("remove, reset", EDIT),
@@ -20,6 +20,7 @@ pub const GROUPS: [(&str, usize); 12] = [
   ("indent_with", EDIT),
   ("run_sheet", EDIT),
   ("file, withdraw", EDIT),
+  ("join", JOIN),
   ("slice, to_string, last_line, get_indent_string", REPORT),
   (
     "len, len_utf16, line_count, is_empty, has_changed, last_char, is_range_within_edited_chunk",
@@ -27,10 +28,11 @@ pub const GROUPS: [(&str, usize); 12] = [
   ),
 ];
 
-/// The kinds of which the header gives a figure, in its order: an edit, the check
+/// The kinds of which the header gives a figure, in its order: an edit, a join, the check
 /// and a report.
 const EDIT: usize = 0;
-const REPORT: usize = 1;
+const JOIN: usize = 1;
+const REPORT: usize = 2;
 
 /// The most that a call of a group used, which call that was, and how many calls
 /// were measured.
@@ -111,5 +113,9 @@ impl<C: Core> Core for Measured<C> {
 
   fn withdraw(&mut self, lent: &mut Lent, record: &mut LentRecord, k: u32) -> Option<Answer> {
     self.measured("withdraw", |core| core.withdraw(lent, record, k))
+  }
+
+  fn join(&mut self, lent: &mut Lent, first: &[u8], second: &[u8]) -> Option<Answer> {
+    self.measured("join", |core| core.join(lent, first, second))
   }
 }

@@ -10,7 +10,7 @@ use super::{
   sitting::Start,
 };
 use crate::{
-  Made,
+  joins,
   layout::*,
   made::{self, Aim, make},
   papers::Caller,
@@ -20,10 +20,22 @@ use crate::{
 /// out, which it fails. None where the seed gives no such list.
 pub fn sitting(left_out: Option<Check>, seed: u64) -> Option<Sitting> {
   let random = &mut Random::new(seed);
+  let (start, list) = desk_and_list(left_out, Some, random)?;
+  let later = later(&start.desk(), &list, random);
+  let orders = orders(list.len(), random);
+  Some(Sitting { start, list, orders, later, seed: random.number() })
+}
+
+/// A desk and a list of edits as above, each of them as `allow` gives it, if it does.
+pub fn desk_and_list(
+  left_out: Option<Check>,
+  allow: fn(Call) -> Option<Call>,
+  random: &mut Random,
+) -> Option<(Start, Vec<Call>)> {
   let plan = Plan::any(left_out, random);
   let desk = plan.start.desk();
   let premises = Premises::on(&desk);
-  let mut list = list(&plan, &desk, &premises, left_out, random);
+  let mut list = list(&plan, &desk, &premises, left_out, allow, random);
   if plan.uses_up_bytes {
     let left = premises.left(&list).bytes + plan.one_more as i64;
     add_bytes(&mut list, left.try_into().ok()?, random)?;
@@ -32,9 +44,7 @@ pub fn sitting(left_out: Option<Check>, seed: u64) -> Option<Sitting> {
   if !whole || list.is_empty() || !premises.failed(&list).iter().eq(&left_out) {
     return None;
   }
-  let later = later(&desk, &list, random);
-  let orders = orders(list.len(), random);
-  Some(Sitting { start: plan.start, list, orders, later, seed: random.number() })
+  Some((plan.start, list))
 }
 
 /// What a list is to have.
@@ -86,7 +96,9 @@ impl Plan {
     let which = random.between(1, 7);
     let aim = Aim { source: random.between(10, 300).max(8 * edits), ..Aim::small(random) };
     let chunks = if which & 1 != 0 { MOST_CHUNKS - 3 * edits + one_more } else { aim.chunks };
-    let pieces = if which & 2 != 0 { MOST_PIECES - insertions + one_more } else { aim.pieces };
+    // No more than a desk may have, where no edit is an insertion.
+    let most_pieces = (MOST_PIECES - insertions + one_more).min(MOST_PIECES);
+    let pieces = if which & 2 != 0 { most_pieces } else { aim.pieces };
     let bytes = if random.one_in(2) { random.below(MOST_BYTES) } else { aim.bytes };
     let source = aim.source.max(5 * chunks).min(MOST_SOURCE);
     let start = match which {
@@ -100,7 +112,7 @@ impl Plan {
 }
 
 /// A desk over a source of so many bytes: fresh, in use, or made by hand.
-fn start(source: usize, random: &mut Random) -> Start {
+pub fn start(source: usize, random: &mut Random) -> Start {
   let kind = random.below(4);
   if kind == 0 {
     return Start::Made(make(Aim { source, ..Aim::small(random) }, random));
@@ -122,6 +134,7 @@ fn list(
   desk: &DeskData,
   premises: &Premises,
   left_out: Option<Check>,
+  allow: fn(Call) -> Option<Call>,
   random: &mut Random,
 ) -> Vec<Call> {
   let longest = if plan.edits > ALL_UP_TO { 2 } else { desk.source.len().max(1) };
@@ -131,7 +144,7 @@ fn list(
     if list.len() == plan.edits {
       break;
     }
-    let call = edits.any();
+    let Some(call) = allow(edits.any()) else { continue };
     let insertions = list.iter().filter(|call| inserts(call)).count();
     let wanted = plan.insertions.is_none_or(|count| inserts(&call) == (insertions < count));
     if wanted && premises.failed_by(&call, &list).iter().all(|&failed| Some(failed) == left_out) {
@@ -153,6 +166,9 @@ fn add_bytes(list: &mut [Call], bytes: usize, random: &mut Random) -> Option<()>
   Some(())
 }
 
+/// One later call in so many is a join.
+const JOINS: usize = 12;
+
 /// Calls on what the list leaves, by the oracle.
 fn later(desk: &DeskData, list: &[Call], random: &mut Random) -> Vec<Later> {
   let mut desk = Desk::build(Limits::FULL, desk);
@@ -160,11 +176,16 @@ fn later(desk: &DeskData, list: &[Call], random: &mut Random) -> Vec<Later> {
     apply(&mut desk, call);
   });
   let mut caller = Caller::new(desk.data(), random.number());
+  let count = random.between(1, 8);
   let mut later = |_| {
-    let made: Made = caller.call_on_desk();
-    let later = Later::new(made.clone(), &desk);
-    apply(&mut desk, &made.call);
+    let later = if random.one_in(JOINS) {
+      Later::join(joins::lists_on(&desk.data(), random), random.number())
+    } else {
+      Later::new(caller.call_on_desk(), &desk)
+    };
+    later.expected(&mut desk);
+    caller.change(|callers| callers.clone_from(&desk));
     later
   };
-  (0..random.between(1, 8)).map(&mut later).collect()
+  (0..count).map(&mut later).collect()
 }

@@ -3,11 +3,11 @@
 //! edit by edit, leave the same desk and the same text, and show the same to every
 //! later call. Lists that fail one check show that the comparison can tell.
 
-mod edits;
+pub mod edits;
 mod later;
-mod lists;
+pub mod lists;
 mod orders;
-mod premises;
+pub mod premises;
 pub mod run;
 mod shrink;
 mod sitting;
@@ -15,7 +15,7 @@ mod tally;
 
 use std::time::{Duration, Instant};
 
-pub use later::Later;
+pub use later::{Asked, Later};
 pub use lists::sitting;
 use oracle::random::Random;
 pub use orders::orders;

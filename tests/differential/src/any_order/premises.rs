@@ -9,17 +9,17 @@ use oracle::{Call, Counts, Desk, DeskData, Limits, apply, number};
 pub type Check = u32;
 
 /// The checks that ask for something of one edit, whatever stands beside it.
-const EDIT: Check = 2;
-const WIDTH: Check = 3;
-const WITHIN_SOURCE: Check = 4;
-const ALONE: Check = 8;
+pub const EDIT: Check = 2;
+pub const WIDTH: Check = 3;
+pub const WITHIN_SOURCE: Check = 4;
+pub const ALONE: Check = 8;
 /// Those of every two edits.
-const REACHES: Check = 5;
-const ONE_MOVE: Check = 6;
-const MOVES_FREE: Check = 7;
+pub const REACHES: Check = 5;
+pub const ONE_MOVE: Check = 6;
+pub const MOVES_FREE: Check = 7;
 /// Those of the desk, and of the desk with the whole list.
-const SOURCE: Check = 1;
-const SPACE: Check = 9;
+pub const SOURCE: Check = 1;
+pub const SPACE: Check = 9;
 
 pub const CHECKS: std::ops::RangeInclusive<Check> = SOURCE..=SPACE;
 
@@ -41,29 +41,56 @@ pub struct Left {
   pub bytes: i64,
 }
 
+impl Left {
+  pub fn is_enough(&self) -> bool {
+    self.chunks >= 0 && self.pieces >= 0 && self.bytes >= 0
+  }
+}
+
 impl Premises {
   pub fn on(desk: &DeskData) -> Self {
-    Self { desk: Desk::build(Limits::FULL, desk), source: desk.source.len() as u32 }
+    Self::of(Desk::build(Limits::FULL, desk))
+  }
+
+  pub fn of(desk: Desk) -> Self {
+    let source = desk.magic_string().source().len() as u32;
+    Self { desk, source }
   }
 
   /// The checks that the list fails.
   pub fn failed(&self, list: &[Call]) -> BTreeSet<Check> {
+    let mut failed = self.not_apart(list);
+    if !list.iter().all(|call| self.accepts(call)) {
+      failed.insert(ALONE);
+    }
+    if !self.left(list).is_enough() {
+      failed.insert(SPACE);
+    }
+    failed
+  }
+
+  /// Those of them that look at the source and at the edits, not at the desk.
+  pub fn not_apart(&self, list: &[Call]) -> BTreeSet<Check> {
     let mut failed = BTreeSet::new();
     if self.source == 0 {
       failed.insert(SOURCE);
     }
     for (place, call) in list.iter().enumerate() {
-      failed.extend(self.failed_by(call, &list[..place]));
-    }
-    let left = self.left(list);
-    if left.chunks < 0 || left.pieces < 0 || left.bytes < 0 {
-      failed.insert(SPACE);
+      failed.extend(self.not_apart_by(call, &list[..place]));
     }
     failed
   }
 
   /// The checks that an edit fails by itself, or beside one of the others.
   pub fn failed_by(&self, call: &Call, others: &[Call]) -> BTreeSet<Check> {
+    let mut failed = self.not_apart_by(call, others);
+    if !self.accepts(call) {
+      failed.insert(ALONE);
+    }
+    failed
+  }
+
+  fn not_apart_by(&self, call: &Call, others: &[Call]) -> BTreeSet<Check> {
     let mut failed = BTreeSet::new();
     let mut check = |check: Check, holds: bool| {
       if !holds {
@@ -73,13 +100,22 @@ impl Premises {
     check(EDIT, listed(call));
     check(WIDTH, range(call).is_none_or(|(start, end)| start < end));
     check(WITHIN_SOURCE, call.positions().iter().all(|&at| at <= self.source));
-    check(ALONE, apply(&mut self.desk.clone(), call).number == number::ACCEPTED);
     for other in others {
       check(REACHES, self.reach(call).is_apart_from(self.reach(other)));
       check(ONE_MOVE, !(is_move(call) && is_move(other)));
       check(MOVES_FREE, is_free_of(call, other) && is_free_of(other, call));
     }
     failed
+  }
+
+  /// Whether an edit is accepted alone.
+  pub fn accepts(&self, call: &Call) -> bool {
+    self.alone(call) == number::ACCEPTED
+  }
+
+  /// The number that an edit gets alone.
+  pub fn alone(&self, call: &Call) -> u32 {
+    apply(&mut self.desk.clone(), call).number
   }
 
   /// The reckoning: 3 chunks for each edit, a piece for each insertion, and all

@@ -1,13 +1,12 @@
 //! One sitting: its list run in each order, and all that must be the same.
 
-use oracle::{Call, Desk, DeskData, Limits, apply, random::Random};
+use oracle::{Call, Desk, DeskData, Limits, apply};
 
 use super::{
   Sitting, Tally,
   later::{Later, Seen},
-  sitting::Start,
 };
-use crate::{Answer, Core, Image, Unseen, image};
+use crate::{Answer, Core, Image, Unseen};
 
 /// The order in which something is seen that the others do not have, and what.
 #[derive(Debug, Clone)]
@@ -28,8 +27,7 @@ struct Outcome {
 /// Runs each order and compares what it leaves with what the oracle's desk is and
 /// shows behind the list's own order: so all orders leave the same.
 pub fn run(core: &mut impl Core, sitting: &Sitting, tally: &mut Tally) -> Result<(), Difference> {
-  let later = sitting.later.iter().map(|later| &later.call);
-  let mut calls = sitting.start.calls().iter().chain(&sitting.list).chain(later);
+  let mut calls = sitting.start.calls().iter().chain(&sitting.list);
   if !calls.all(|call| core.has(call)) {
     tally.passed_over += 1;
     return Ok(());
@@ -38,7 +36,11 @@ pub fn run(core: &mut impl Core, sitting: &Sitting, tally: &mut Tally) -> Result
   let mut cuts = Vec::new();
   for (number, order) in sitting.orders.iter().enumerate() {
     let run = run_order(core, sitting, order, number, &expected);
-    cuts.push(run.map_err(|what| Difference { order: order.clone(), what })?);
+    let Some(made) = run.map_err(|what| Difference { order: order.clone(), what })? else {
+      tally.passed_over += 1;
+      return Ok(());
+    };
+    cuts.push(made);
   }
   tally.add(sitting, &cuts, expected.later.iter().map(|seen| seen.answer.number));
   Ok(())
@@ -59,14 +61,15 @@ fn expected(sitting: &Sitting) -> Outcome {
 /// How many cuts each edit of a list made in an order: as many chunks as it brought in.
 pub type Cuts = Vec<u32>;
 
+/// The cuts, none where the core has not all of the later calls; or what differs.
 fn run_order(
   core: &mut impl Core,
   sitting: &Sitting,
   order: &[usize],
   number: usize,
   expected: &Outcome,
-) -> Result<Cuts, String> {
-  let mut image = memory(core, sitting, number)?;
+) -> Result<Option<Cuts>, String> {
+  let mut image = sitting.start.memory(core, sitting.seed.wrapping_add(number as u64))?;
   let mut cuts = vec![0; sitting.list.len()];
   for &place in order {
     let call = &sitting.list[place];
@@ -79,32 +82,14 @@ fn run_order(
     }
   }
   image.check_desk(&expected.desk)?;
-  let text = Later::text(sitting.seed).make(core, &mut image);
+  let Some(text) = Later::text(sitting.seed).make(core, &mut image) else { return Ok(None) };
   text.same_as(&expected.text).map_err(|what| format!("the text: {what}"))?;
   for (later, expected) in sitting.later.iter().zip(&expected.later) {
-    let seen = later.make(core, &mut image);
-    seen.same_as(expected).map_err(|what| format!("later, {}: {what}", later.call))?;
+    let Some(seen) = later.make(core, &mut image) else { return Ok(None) };
+    seen.same_as(expected).map_err(|what| format!("later, {}: {what}", later.asked))?;
   }
   image.check_desk(&expected.end).map_err(|what| format!("behind the later calls, {what}"))?;
-  Ok(cuts)
-}
-
-/// Memory of the desk that the list is run from, other memory for each order.
-fn memory(core: &mut impl Core, sitting: &Sitting, number: usize) -> Result<Image, String> {
-  let random = &mut Random::new(sitting.seed.wrapping_add(number as u64));
-  let image = match &sitting.start {
-    Start::Made(desk) => image::encode(desk, random),
-    Start::Opened { source, calls } => {
-      let mut image = Image::junk(source.clone(), random);
-      make(core, &mut image, &Call::Open { source: source.clone() });
-      calls.iter().for_each(|call| {
-        make(core, &mut image, call);
-      });
-      image
-    }
-  };
-  image.check_desk(&sitting.start.desk()).map_err(|what| format!("at the start, {what}"))?;
-  Ok(image)
+  Ok(Some(cuts))
 }
 
 /// Makes an edit, which fills no buffer.

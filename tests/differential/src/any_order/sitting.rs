@@ -2,9 +2,10 @@
 
 use std::fmt;
 
-use oracle::{Call, Desk, DeskData, Limits, apply, dump};
+use oracle::{Call, Desk, DeskData, Limits, apply, dump, random::Random};
 
 use super::Later;
+use crate::{Core, Image, Unseen, image};
 
 #[derive(Debug, Clone)]
 pub struct Sitting {
@@ -45,21 +46,46 @@ impl Start {
       }
     }
   }
+
+  /// Memory of the desk, by the core where it is opened. The seed chooses what is left
+  /// open.
+  pub fn memory(&self, core: &mut impl Core, seed: u64) -> Result<Image, String> {
+    let random = &mut Random::new(seed);
+    let image = match self {
+      Start::Made(desk) => image::encode(desk, random),
+      Start::Opened { source, calls } => {
+        let mut image = Image::junk(source.clone(), random);
+        let open = Call::Open { source: source.clone() };
+        for call in [&open].into_iter().chain(calls) {
+          core.call(&mut image.lend(), call, &Unseen::PLAIN, &mut []);
+        }
+        image
+      }
+    };
+    image.check_desk(&self.desk()).map_err(|what| format!("at the start, {what}"))?;
+    Ok(image)
+  }
+}
+
+impl fmt::Display for Start {
+  fn fmt(&self, out: &mut fmt::Formatter) -> fmt::Result {
+    match self {
+      Start::Made(desk) => writeln!(out, "# {}", dump::print(desk)),
+      Start::Opened { source, calls } => {
+        writeln!(out, "{}", Call::Open { source: source.clone() })?;
+        calls.iter().try_for_each(|call| writeln!(out, "{call}"))
+      }
+    }
+  }
 }
 
 impl fmt::Display for Sitting {
   fn fmt(&self, out: &mut fmt::Formatter) -> fmt::Result {
     writeln!(out, "# the desk, seed {}", self.seed)?;
-    match &self.start {
-      Start::Made(desk) => writeln!(out, "# {}", dump::print(desk))?,
-      Start::Opened { source, calls } => {
-        writeln!(out, "{}", Call::Open { source: source.clone() })?;
-        calls.iter().try_for_each(|call| writeln!(out, "{call}"))?;
-      }
-    }
+    write!(out, "{}", self.start)?;
     writeln!(out, "# the list")?;
     self.list.iter().try_for_each(|call| writeln!(out, "{call}"))?;
     writeln!(out, "# later calls")?;
-    self.later.iter().try_for_each(|later| writeln!(out, "{}", later.call))
+    self.later.iter().try_for_each(|later| writeln!(out, "{}", later.asked))
   }
 }

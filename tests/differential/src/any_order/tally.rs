@@ -23,7 +23,7 @@ pub struct Tally {
   /// How many had an edit that made more cuts in one order than in another.
   pub cut_otherwise: u64,
   /// The numbers of later calls, once for each list.
-  pub numbers: [u64; 16],
+  pub numbers: [u64; 20],
 }
 
 /// What a list may have, on its desk.
@@ -74,11 +74,13 @@ impl Tally {
     later.for_each(|number| self.numbers[number as usize] += 1);
   }
 
-  /// What no list had, and the numbers that no later call gave; 1 to 15 but 2.
+  /// What no list had, and the numbers that no later call gave: all but 2, and 17, which
+  /// only a withdrawal gives.
   pub fn missing(&self) -> Vec<String> {
     let kinds = self.kinds().into_iter().filter(|(_, with)| *with == 0);
     let kinds = kinds.map(|(name, _)| format!("no list had {name}"));
-    let numbers = self.numbers.iter().enumerate().filter(|&(number, met)| number != 2 && *met == 0);
+    let numbers = self.numbers.iter().enumerate();
+    let numbers = numbers.filter(|&(number, met)| ![2, 17].contains(&number) && *met == 0);
     let numbers = numbers.map(|(number, _)| format!("no later call gave {number}"));
     kinds.chain(numbers).collect()
   }

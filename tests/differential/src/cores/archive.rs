@@ -73,4 +73,8 @@ impl Core for Archive {
   fn withdraw(&mut self, lent: &mut Lent, record: &mut LentRecord, k: u32) -> Option<Answer> {
     missing::has_function("withdraw").then(|| lent.withdraw(record, k))
   }
+
+  fn join(&mut self, lent: &mut Lent, first: &[u8], second: &[u8]) -> Option<Answer> {
+    missing::has_function("join").then(|| lent.join(first, second))
+  }
 }

@@ -58,6 +58,12 @@ pub trait Core {
   fn withdraw(&mut self, _lent: &mut Lent, _record: &mut LentRecord, _k: u32) -> Option<Answer> {
     None
   }
+
+  /// Makes the calls of both lists, if they may be joined. None where the core joins no
+  /// lists.
+  fn join(&mut self, _lent: &mut Lent, _first: &[u8], _second: &[u8]) -> Option<Answer> {
+    None
+  }
 }
 
 /// The exported function that makes the call, without its prefix: the first word of the

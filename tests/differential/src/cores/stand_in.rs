@@ -9,6 +9,7 @@ use super::{Core, Unseen, verdict};
 use crate::{
   Answer, Lent, LentRecord, Sizes,
   image::{self, Style},
+  joins::reading as joins,
   keeps,
   layout::{RECORD_ANSWERS, RECORD_USED},
   sheets::reading,
@@ -144,6 +145,21 @@ impl Core for StandIn {
       record.bytes[..used].fill(self.random.number() as u8);
       record.bytes[RECORD_ANSWERS + entries.len()] = self.random.number() as u8;
       record.write(&entries);
+      self.lay_out(Sizes::FULL, &desk, lent);
+    }
+    Some(Answer { number: answer.number, value: answer.value })
+  }
+
+  /// By the plain reading, too.
+  fn join(&mut self, lent: &mut Lent, first: &[u8], second: &[u8]) -> Option<Answer> {
+    if self.any_size {
+      return None;
+    }
+    let mut desk = self.desk(lent);
+    let answer = joins::join(desk.as_mut(), [first, second]);
+    if let Some(desk) = desk
+      && !joins::keeps_every_byte(&answer, [first, second])
+    {
       self.lay_out(Sizes::FULL, &desk, lent);
     }
     Some(Answer { number: answer.number, value: answer.value })

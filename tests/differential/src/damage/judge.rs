@@ -8,6 +8,10 @@ use crate::{
   Answer, Core, Image, Made, Unseen,
   cores::verdict,
   every_call, holds_desk, image,
+  joins::{
+    Lists, due,
+    run::{Order, join},
+  },
   layout::*,
   out::Out,
   sheets::{
@@ -50,6 +54,8 @@ pub struct Judge<'a, C> {
   records: Vec<Call>,
   /// A record of them.
   filed: Memory,
+  /// Lists that are joined: those that are refused for everything at once, and less.
+  joined: Vec<Lists>,
   before: Image,
   pub verdicts: Verdicts,
 }
@@ -63,7 +69,8 @@ impl<'a, C: Core> Judge<'a, C> {
     records.retain(|call| kind(call).is_some());
     every.iter_mut().for_each(|calls| calls.retain(|call| core.has(call)));
     let filed = Memory::of(&Written::calls(&records), &mut random);
-    Self { core, random, every, records, filed, before, verdicts: Verdicts::default() }
+    let joined = due::choices(due::Place::Across).into_iter().map(|pair| pair.lists).collect();
+    Self { core, random, every, records, filed, joined, before, verdicts: Verdicts::default() }
   }
 
   /// Judges the image, which is left as it is.
@@ -76,6 +83,7 @@ impl<'a, C: Core> Judge<'a, C> {
       .and_then(|()| self.open(image))
       .and_then(|()| self.run_sheet(image))
       .and_then(|()| self.file_and_withdraw(image))
+      .and_then(|()| self.join(image))
       .and_then(|()| if holds { self.calls_on_desk(image) } else { self.calls_on_no_desk(image) });
     judged.map_err(|what| Found { kind, what, image: Box::new(self.before.clone()) })
   }
@@ -158,6 +166,23 @@ impl<'a, C: Core> Judge<'a, C> {
     let filed = filed.map_err(|what| format!("file: {what}"))?;
     let withdrawn = sides.withdraw(self.core, k).map_err(|what| format!("withdraw {k}: {what}"))?;
     self.verdicts.calls += filed.is_some() as u64 + withdrawn.is_some() as u64;
+    Ok(())
+  }
+
+  /// So does a join, of lists that are in order and of others: some of them break a rule,
+  /// a check, or none.
+  fn join(&mut self, image: &Image) -> Result<(), String> {
+    let at = self.random.below(self.records.len() + 1);
+    let (first, second) = self.records.split_at(at);
+    let lists = match self.random.below(16) {
+      0 => self.joined[self.random.below(self.joined.len())].clone(),
+      1..=3 => Lists::default(),
+      4..=8 => Lists::of(&first[..at.min(1)], &[]),
+      _ => Lists::of(first, second),
+    };
+    let mut both = Both::of_any(image.clone());
+    let joined = join(self.core, &mut both, &lists, Order::FirstSecond, &mut self.random);
+    self.verdicts.calls += joined.map_err(|what| format!("join: {what}"))?.is_some() as u64;
     Ok(())
   }
 

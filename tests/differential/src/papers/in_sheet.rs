@@ -154,7 +154,7 @@ fn size(call: &Call) -> usize {
 }
 
 /// The call with the options that a sheet's records have, if one of them makes it.
-fn as_in_sheet(mut call: Call) -> Option<Call> {
+pub fn as_in_sheet(mut call: Call) -> Option<Call> {
   if let Call::UpdateWith { overwrite, .. } = &mut call {
     *overwrite = 1;
   }

@@ -16,7 +16,7 @@ mod tally;
 
 use std::time::{Duration, Instant};
 
-pub use memory::{Memory, call_bytes};
+pub use memory::{Cells, Memory, call_bytes};
 use oracle::random::Random;
 pub use random_sittings::sitting as random;
 pub use sides::{Filing, Sides, Withdrawal};

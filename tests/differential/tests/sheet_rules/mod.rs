@@ -6,7 +6,7 @@
 
 use std::array;
 
-use differential::{Answer, Core, Lent, Unseen, cores::StandIn, image, layout::*};
+use differential::{Answer, Core, Lent, Unseen, cores::StandIn, image, layout::*, well_formed};
 use oracle::{Call, Desk, Limits, SETTINGS, apply, random::Random};
 
 /// The rules of a sheet and of its run.
@@ -72,6 +72,13 @@ pub fn put(desk: &Desk, lent: &mut Lent) {
   lent.chunks.copy_from_slice(&image.chunks);
   lent.pieces.copy_from_slice(&image.pieces);
   lent.store.copy_from_slice(&image.store);
+}
+
+/// The desk in the lent memory; none where it is not well formed.
+pub fn desk(lent: &Lent) -> Option<Desk> {
+  let Lent { source, chunks, pieces, store } = lent;
+  let holds = well_formed(source, chunks, pieces, store);
+  holds.then(|| Desk::build(Limits::FULL, &image::decode(source, chunks, pieces, store)))
 }
 
 impl Rules {
@@ -148,6 +155,19 @@ impl Rules {
       2 => Call::UpdateWith { start: a, end: b, overwrite: self.overwrite, text },
       _ => Call::Insert { at: a, text, setting: SETTINGS[kind - 4] },
     })
+  }
+
+  /// Whole records up to the end, as their bytes and as they read.
+  pub fn list(&self, bytes: &[u8]) -> Option<Vec<(Vec<u8>, Call)>> {
+    let mut calls = Vec::new();
+    let mut at = 0;
+    while at + self.passed_over < bytes.len() {
+      let len = self.length_at(bytes, at).saturating_sub(self.counted);
+      let call = bytes.get(at..at + 2 + len)?;
+      calls.push((call.to_vec(), self.call(call, len)?));
+      at += call.len();
+    }
+    Some(calls)
   }
 
   fn run(&self, lent: &mut Lent, answers: &mut [u8]) -> Answer {

@@ -1,12 +1,10 @@
 //! A second reading of records of filed calls, each field at its place, by rules that can
 //! be changed one by one; and a core that files and withdraws by it.
 
-use differential::{
-  Answer, Core, Lent, LentRecord, Unseen, cores::StandIn, image, keeps, layout::*, well_formed,
-};
+use differential::{Answer, Core, Lent, LentRecord, Unseen, cores::StandIn, keeps, layout::*};
 use oracle::{Answer as Given, Call, Desk, Limits, apply};
 
-use crate::sheet_rules::{self, put};
+use crate::sheet_rules::{self, desk, put};
 
 /// What a filing or a withdrawal is refused for. `Call` is what the call itself is refused
 /// for, where there is no room for it.
@@ -147,7 +145,7 @@ impl Rules {
       return None;
     }
     let used = (self.used)(record.words[RECORD_USED]);
-    let calls = list(&self.filed, record.bytes.get(..used)?)?;
+    let calls = self.filed.list(record.bytes.get(..used)?)?;
     let answers = record.bytes.iter().skip(RECORD_ANSWERS).take(calls.len()).copied().collect();
     let held = Held { calls, answers };
     (self.keeps(self.held, &held.calls) && (self.also)(record, &held)).then_some(held)
@@ -155,7 +153,7 @@ impl Rules {
 
   fn file(&self, lent: &mut Lent, record: &mut LentRecord, call: &[u8]) -> Answer {
     let (desk, held) = (desk(lent), self.held(record));
-    let call = list(&self.call, call).and_then(self.one);
+    let call = self.call.list(call).and_then(self.one);
     let own = |(desk, call): (&Desk, &Filed)| {
       let number = (self.make)(&mut desk.clone(), &call.1).number;
       (number != 0).then_some(number)
@@ -216,25 +214,6 @@ impl Rules {
     put(&made, lent);
     Answer { number: 0, value: (self.withdrawn)(&desk, &made) }
   }
-}
-
-/// Whole calls up to the end.
-fn list(form: &sheet_rules::Rules, bytes: &[u8]) -> Option<Vec<Filed>> {
-  let mut calls = Vec::new();
-  let mut at = 0;
-  while at + form.passed_over < bytes.len() {
-    let len = form.length_at(bytes, at).saturating_sub(form.counted);
-    let call = bytes.get(at..at + 2 + len)?;
-    calls.push((call.to_vec(), form.call(call, len)?));
-    at += call.len();
-  }
-  Some(calls)
-}
-
-fn desk(lent: &Lent) -> Option<Desk> {
-  let Lent { source, chunks, pieces, store } = lent;
-  let holds = well_formed(source, chunks, pieces, store);
-  holds.then(|| Desk::build(Limits::FULL, &image::decode(source, chunks, pieces, store)))
 }
 
 /// A core with these rules, and a right one beside.

@@ -1,6 +1,6 @@
 use borrow.Author.Tests.{eq-eqb, ne-eqb}
-use Rattle.sheet_run.proofs.core_call.inserts_left.Statement.{statement}
-use Rattle.sheet_run.proofs.core_call.inserts_left.Tie as tie
+use Rattle.sheet_records.proofs.inserts_left.Statement.{statement}
+use Rattle.sheet_records.proofs.inserts_left.Tie as tie
 
 returns : tie.Need-returns
 returns c = rw (eq-eqb (c .before .args .kind) 4 (c .if1 .taken))
