@@ -1,5 +1,6 @@
-//! Two lists joined on a fresh desk, beside the Rust, which makes their calls: as many as
-//! there is space for, and lists that are refused once all tests are made, or some.
+//! Two lists joined on a fresh desk and on one in use, beside the Rust, which makes their
+//! calls: as many as there is space for, and lists that are refused once all tests are made,
+//! or some.
 
 #[cfg(feature = "inner")]
 use differential::cores::List;
@@ -14,7 +15,11 @@ use oracle::{
 
 #[cfg(feature = "inner")]
 use crate::inner;
-use crate::{desks, rust::made, timing::least};
+use crate::{
+  desks,
+  rust::{made, made_behind},
+  timing::least,
+};
 
 /// As many calls as a fresh desk has space for by the reckoning, and as many as two lists
 /// can have.
@@ -22,37 +27,61 @@ const JOINED: usize = 170;
 const MOST: usize = 400;
 
 /// A width of names.
-const NAMES: usize = 46;
+const NAMES: usize = 48;
 
 pub fn print(core: &mut impl Core) {
-  println!("\ntwo lists joined on a fresh desk, beside the Rust's calls");
+  println!("\ntwo lists joined, beside the Rust's calls");
   println!("{:<NAMES$} {:>10} {:>10} {:>8}", "", "Rust us", "us", "ratio");
   for source in [2_048, 16_384] {
     let source = desks::edited(source, 1).source;
+    println!("source of {} bytes, a fresh desk", source.len());
     let image = opened(core, &source);
-    let calls = apart(source.len(), JOINED);
-    let Some(ours) = joining(core, &image, &calls, ACCEPTED) else {
+    let in_turn = apart(source.len(), JOINED);
+    let calls = shuffled(&in_turn);
+    if joining(core, &image, &calls, ACCEPTED).is_none() {
       println!("the core joins no lists");
       return;
-    };
-    let theirs = made(&source, &calls);
-    line(&format!("source of {} bytes, 85 and 85 calls", source.len()), theirs, ours);
-    line("  by exported edits", theirs, by_edits(core, &image, &calls));
-    #[cfg(feature = "inner")]
-    {
-      let run = by_inner(&image, &calls);
-      line("  by an inner run", theirs, run);
-      line("  the join less the inner run", theirs, ours - run);
     }
+    joined(core, &image, &source, &[], &calls, "85 and 85 calls");
+    joined(core, &image, &source, &[], &in_turn, "the same, each list from the front to the back");
     let (many, part) = (apart(source.len(), MOST), source.len() / MOST);
     for (name, calls, number) in [
-      ("  200 and 200 calls, refused with 13", many.clone(), LIMIT),
-      ("  with 18, where the last two clash", clashing(&many, part, MOST - 2), NOT_APART),
-      ("  with 18, where the first two clash", clashing(&many, part, 0), NOT_APART),
+      ("200 and 200 calls, refused with 13", many.clone(), LIMIT),
+      ("with 18, where the last two clash", clashing(&many, part, MOST - 2), NOT_APART),
+      ("with 18, where the first two clash", clashing(&many, part, 0), NOT_APART),
     ] {
       let ours = joining(core, &image, &calls, number).unwrap_or_default();
       line(name, made(&source, &calls), ours);
     }
+
+    let (before, calls) = calls.split_at(JOINED / 2);
+    let image = edited(core, image, before);
+    println!("the desk that the first half of these calls leaves");
+    joined(core, &image, &source, before, calls, "43 and 42 calls");
+  }
+}
+
+/// The join of these calls, which is accepted, on what others left; then the same calls, the
+/// first list and then the second, by exported edits and by an inner run, so that what the
+/// tests cost shows.
+fn joined(
+  core: &mut impl Core,
+  image: &Image,
+  source: &str,
+  others: &[Call],
+  calls: &[Call],
+  name: &str,
+) {
+  let made = in_turns(calls).concat();
+  let theirs = made_behind(source, others, &made);
+  let ours = joining(core, image, calls, ACCEPTED).unwrap_or_default();
+  line(name, theirs, ours);
+  line("  by exported edits", theirs, by_edits(core, image, &made));
+  #[cfg(feature = "inner")]
+  {
+    let run = by_inner(image, &made);
+    line("  by an inner run", theirs, run);
+    line("  the join less the inner run", theirs, ours - run);
   }
 }
 
@@ -67,6 +96,25 @@ fn opened(core: &mut impl Core, source: &str) -> Image {
   let open = Call::Open { source: Vec::new() };
   core.call(&mut image.lend(), &open, &Unseen::PLAIN, &mut []);
   image
+}
+
+/// The desk after these calls, made by the core.
+fn edited(core: &mut impl Core, mut image: Image, calls: &[Call]) -> Image {
+  for call in calls {
+    let answer = core.call(&mut image.lend(), call, &Unseen::PLAIN, &mut []);
+    assert_eq!(answer.number, ACCEPTED, "{call}");
+  }
+  image
+}
+
+/// The calls in another order.
+fn shuffled(calls: &[Call]) -> Vec<Call> {
+  let mut random = Random::new(11);
+  let mut calls = calls.to_vec();
+  for place in (1..calls.len()).rev() {
+    calls.swap(place, random.below(place + 1));
+  }
+  calls
 }
 
 /// So many calls, each in a part of the source of its own, and one of them a move between
@@ -103,10 +151,14 @@ fn clashing(calls: &[Call], part: usize, place: usize) -> Vec<Call> {
   calls
 }
 
-/// The calls in two lists, one behind the other in turns.
+/// The calls in two lists, in turns.
+fn in_turns(calls: &[Call]) -> [Vec<Call>; 2] {
+  [0, 1].map(|list| calls.iter().skip(list).step_by(2).cloned().collect())
+}
+
+/// The same, as the bytes of the lists.
 fn lists(calls: &[Call]) -> Lists {
-  let [first, second] =
-    [0, 1].map(|list| calls.iter().skip(list).step_by(2).cloned().collect::<Vec<_>>());
+  let [first, second] = in_turns(calls);
   Lists::of(&first, &second)
 }
 

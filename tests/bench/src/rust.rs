@@ -91,11 +91,22 @@ pub fn anew(source: &str, calls: &[Call], last: impl Fn(MagicString<'static>)) -
   )
 }
 
+/// Nanoseconds of these calls, on the desk that others leave of a fresh one.
+pub fn made_behind(source: &str, others: &[Call], calls: &[Call]) -> f64 {
+  let source: &'static str = source.to_string().leak();
+  let [others, calls] =
+    [others, calls].map(|calls| calls.iter().map(RustCall::new).collect::<Vec<_>>());
+  let prepared = || {
+    let mut desk = MagicString::new(source);
+    others.iter().for_each(|call| call.make(&mut desk));
+    desk
+  };
+  least(prepared, |desk| calls.iter().for_each(|call| call.make(desk)))
+}
+
 /// Nanoseconds of these calls on a fresh desk.
 pub fn made(source: &str, calls: &[Call]) -> f64 {
-  let source: &'static str = source.to_string().leak();
-  let calls: Vec<RustCall> = calls.iter().map(RustCall::new).collect();
-  least(|| MagicString::new(source), |desk| calls.iter().for_each(|call| call.make(desk)))
+  made_behind(source, &[], calls)
 }
 
 /// Nanoseconds of these calls on a fresh desk, each kept in a list.
