@@ -1,10 +1,8 @@
 -- What the any-order rule says of the exported join.
 use mathlib.Core.Path.{_≡_, sym, ap, _∙_, subst}
-use mathlib.Core.List.{List}
-use mathlib.Core.Option.{some}
 use Rattle.model.specs.MagicString.{MagicString}
-use Rattle.model.specs.Call.{Edit, Outcome, after}
-use Rattle.model_join.specs.Join.{both-lists, join}
+use Rattle.model.specs.Call.{Outcome, after}
+use Rattle.model_join.specs.Join.{join}
 use Rattle.model_join.proofs.Lists.{same-some}
 use Rattle.model_join.proofs.Joining.{join-some, read-joined}
 use Rattle.any_order.specs.Claim.{Premises}
