@@ -37,7 +37,7 @@ pub const SLICE_START: u32 = 11;
 // A slice that ends inside a replaced chunk.
 pub const SLICE_END: u32 = 12;
 
-// The desk, or the record, would break a limit.
+// The desk, or the record, would break a limit, or there is no reckoned space for a join.
 pub const LIMIT: u32 = 13;
 
 // The output buffer is too short.

@@ -5,7 +5,7 @@ use Rattle.model.specs.Text.{Text}
 use Rattle.model.specs.MagicString.{MagicString}
 use Rattle.model.specs.Limits.{Limits}
 use Rattle.model.specs.Call.{Edit, Report, edit-numbers, report-numbers, show, opened, Outcome, changed, edited}
-use Rattle.model_join.specs.Join as join-rs
+use Rattle.model_join.specs.Join as joining
 
 -- the calls on a desk: "this paper's calls on a desk (edits, trims, indent, slices, reports, `to_string`)", and the join of two lists. The any-order rule's later calls are these, so
 -- that a call that is added is one of them
@@ -24,10 +24,10 @@ abbrev pub numbers-of : Call → List ℕ
 numbers-of («open» source) = 2 ∷ 13 ∷ 1 ∷ []
 numbers-of (on-desk (change e)) = 2 ∷ edit-numbers e
 numbers-of (on-desk (report q)) = 2 ∷ report-numbers q
-numbers-of (on-desk (join first second)) = join-rs.join-numbers
+numbers-of (on-desk (join first second)) = joining.join-numbers
 
 unfoldable pub perform : Limits → Call → MagicString → Outcome
 perform k («open» source) m = changed 0 (opened k source m)
 perform k (on-desk (change e)) m = edited k e m
 perform k (on-desk (report q)) m = record { shown = show q m; desk = m }
-perform k (on-desk (join first second)) m = join-rs.join k first second m
+perform k (on-desk (join first second)) m = joining.join k first second m

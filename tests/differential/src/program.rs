@@ -3,7 +3,8 @@
 use std::{fmt::Display, process::ExitCode, time::Instant};
 
 use crate::{
-  Core, arguments,
+  Core,
+  arguments::{self, Arguments},
   cores::{self, Chosen},
 };
 
@@ -17,12 +18,35 @@ pub fn seeded<Found: Display>(
     Ok(seed) => seed,
     Err(code) => return code,
   };
-  let mut core = cores::chosen(seed);
-  println!("core: {}", core.name());
-  println!("seed: {seed}");
+  let mut core = begun(seed);
   let began = Instant::now();
   let compared = compare(&mut core, seed);
   ended(began, compared)
+}
+
+/// `PROGRAM SEED COUNT [SECONDS]`: the same, with what was compared and the difference, if
+/// there is one.
+pub fn counted(
+  program: &str,
+  compare: impl FnOnce(&mut Chosen, Arguments) -> (Box<dyn Display>, Option<String>),
+) -> ExitCode {
+  let arguments = match arguments::seed_count_seconds(program) {
+    Ok(arguments) => arguments,
+    Err(code) => return code,
+  };
+  let mut core = begun(arguments.seed);
+  let began = Instant::now();
+  let (tally, different) = compare(&mut core, arguments);
+  print!("{tally}");
+  ended(began, different.map_or(Ok(()), Err))
+}
+
+/// The core of this build; it is printed, and so is the seed.
+fn begun(seed: u64) -> Chosen {
+  let core = cores::chosen(seed);
+  println!("core: {}", core.name());
+  println!("seed: {seed}");
+  core
 }
 
 /// Prints how long it took and the difference, if there is one, with which the program fails.

@@ -12,7 +12,8 @@ use differential::{
   joins::{Compared, Lists, chosen, compare, compare_on, reading::read},
 };
 use join_faults::{Fault, alone, apart, lists, made, space};
-use join_rules::{Rules, Wrong, make};
+use join_rules::{Rules, make};
+use sheet_rules::Wrong;
 
 fn compared(rules: Rules) -> Compared {
   let mut core = Wrong { right: StandIn::new(1), rules };

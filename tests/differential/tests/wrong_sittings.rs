@@ -11,8 +11,9 @@ use differential::{
   damage::{self, Judge},
   sittings::{Compared, compare},
 };
+use sheet_rules::Wrong;
 use sitting_faults::{Fault, filings, records, withdrawals};
-use sitting_rules::{Rules, Wrong};
+use sitting_rules::Rules;
 
 fn compared(rules: Rules) -> Compared {
   let mut core = Wrong { right: StandIn::new(1), rules };

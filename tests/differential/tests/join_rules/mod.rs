@@ -1,10 +1,10 @@
 //! A second reading of joins: what calls reach is marked place by place, by rules that can
-//! be changed one by one; and a core that joins by it.
+//! be changed one by one: what a core answers that joins by it.
 
-use differential::{Answer, Core, Lent, Unseen, cores::StandIn};
+use differential::{Answer, Lent};
 use oracle::{Call, Counts, Desk, apply};
 
-use crate::sheet_rules::{self, desk, fresh, put};
+use crate::sheet_rules::{self, Reading, desk, fresh, put};
 
 /// What a join is refused for.
 #[derive(Debug, Clone, Copy, PartialEq, Eq)]
@@ -267,27 +267,8 @@ impl Rules {
   }
 }
 
-/// A core with these rules, and a right one beside.
-#[derive(Clone)]
-pub struct Wrong {
-  pub right: StandIn,
-  pub rules: Rules,
-}
-
-impl Core for Wrong {
-  fn name(&self) -> &'static str {
-    "wrong"
-  }
-
-  fn call(&mut self, lent: &mut Lent, call: &Call, unseen: &Unseen, out: &mut [u8]) -> Answer {
-    self.right.call(lent, call, unseen, out)
-  }
-
-  fn well_formed(&mut self, lent: &Lent) -> Answer {
-    self.right.well_formed(lent)
-  }
-
-  fn join(&mut self, lent: &mut Lent, first: &[u8], second: &[u8]) -> Option<Answer> {
-    Some(self.rules.join(lent, [first, second]))
+impl Reading for Rules {
+  fn join(&mut self, lent: &mut Lent, lists: [&[u8]; 2]) -> Option<Answer> {
+    Some(Rules::join(self, lent, lists))
   }
 }

@@ -6,7 +6,9 @@
 
 use std::array;
 
-use differential::{Answer, Core, Lent, Unseen, cores::StandIn, image, layout::*, well_formed};
+use differential::{
+  Answer, Core, Lent, LentRecord, Unseen, cores::StandIn, image, layout::*, well_formed,
+};
 use oracle::{Call, Desk, Limits, SETTINGS, apply, random::Random};
 
 /// The rules of a sheet and of its run.
@@ -194,14 +196,40 @@ impl Rules {
   }
 }
 
-/// A core with these rules, and a right one beside.
-#[derive(Clone)]
-pub struct Wrong {
-  pub right: StandIn,
-  pub rules: Rules,
+/// What rules that can be changed make of the calls that the Rust does not have; of the
+/// others nothing.
+pub trait Reading {
+  fn run_sheet(&mut self, _lent: &mut Lent, _answers: &mut [u8]) -> Option<Answer> {
+    None
+  }
+
+  fn file(&mut self, _lent: &mut Lent, _record: &mut LentRecord, _call: &[u8]) -> Option<Answer> {
+    None
+  }
+
+  fn withdraw(&mut self, _lent: &mut Lent, _record: &mut LentRecord, _k: u32) -> Option<Answer> {
+    None
+  }
+
+  fn join(&mut self, _lent: &mut Lent, _lists: [&[u8]; 2]) -> Option<Answer> {
+    None
+  }
 }
 
-impl Core for Wrong {
+impl Reading for Rules {
+  fn run_sheet(&mut self, lent: &mut Lent, answers: &mut [u8]) -> Option<Answer> {
+    Some(self.run(lent, answers))
+  }
+}
+
+/// A core with these rules, and a right one beside.
+#[derive(Clone)]
+pub struct Wrong<R> {
+  pub right: StandIn,
+  pub rules: R,
+}
+
+impl<R: Reading> Core for Wrong<R> {
   fn name(&self) -> &'static str {
     "wrong"
   }
@@ -215,6 +243,18 @@ impl Core for Wrong {
   }
 
   fn run_sheet(&mut self, lent: &mut Lent, answers: &mut [u8]) -> Option<Answer> {
-    Some(self.rules.run(lent, answers))
+    self.rules.run_sheet(lent, answers)
+  }
+
+  fn file(&mut self, lent: &mut Lent, record: &mut LentRecord, call: &[u8]) -> Option<Answer> {
+    self.rules.file(lent, record, call)
+  }
+
+  fn withdraw(&mut self, lent: &mut Lent, record: &mut LentRecord, k: u32) -> Option<Answer> {
+    self.rules.withdraw(lent, record, k)
+  }
+
+  fn join(&mut self, lent: &mut Lent, first: &[u8], second: &[u8]) -> Option<Answer> {
+    self.rules.join(lent, [first, second])
   }
 }

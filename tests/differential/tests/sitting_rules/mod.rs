@@ -1,10 +1,10 @@
 //! A second reading of records of filed calls, each field at its place, by rules that can
-//! be changed one by one; and a core that files and withdraws by it.
+//! be changed one by one: what a core answers that files and withdraws by it.
 
-use differential::{Answer, Core, Lent, LentRecord, Unseen, cores::StandIn, keeps, layout::*};
+use differential::{Answer, Lent, LentRecord, keeps, layout::*};
 use oracle::{Answer as Given, Call, Desk, Limits, apply};
 
-use crate::sheet_rules::{self, desk, put};
+use crate::sheet_rules::{self, Reading, desk, put};
 
 /// What a filing or a withdrawal is refused for. `Call` is what the call itself is refused
 /// for, where there is no room for it.
@@ -216,31 +216,12 @@ impl Rules {
   }
 }
 
-/// A core with these rules, and a right one beside.
-#[derive(Clone)]
-pub struct Wrong {
-  pub right: StandIn,
-  pub rules: Rules,
-}
-
-impl Core for Wrong {
-  fn name(&self) -> &'static str {
-    "wrong"
-  }
-
-  fn call(&mut self, lent: &mut Lent, call: &Call, unseen: &Unseen, out: &mut [u8]) -> Answer {
-    self.right.call(lent, call, unseen, out)
-  }
-
-  fn well_formed(&mut self, lent: &Lent) -> Answer {
-    self.right.well_formed(lent)
-  }
-
+impl Reading for Rules {
   fn file(&mut self, lent: &mut Lent, record: &mut LentRecord, call: &[u8]) -> Option<Answer> {
-    Some(self.rules.file(lent, record, call))
+    Some(Rules::file(self, lent, record, call))
   }
 
   fn withdraw(&mut self, lent: &mut Lent, record: &mut LentRecord, k: u32) -> Option<Answer> {
-    Some(self.rules.withdraw(lent, record, k))
+    Some(Rules::withdraw(self, lent, record, k))
   }
 }
