@@ -32,7 +32,7 @@
  *    7 replace across a moved edge     17 no call with that number is filed
  *    8 move into itself                18 calls to be joined are not apart
  *    9 moved range not together        19 one of them is refused alone
- *   10 end past source
+ *   10 end past source                20 a frozen chunk, or calls are filed
  *
  * "Numbers" below are those that the call may give, in the order in which they
  * are tested. 13 is given if the desk that the call would leave breaks a limit,
@@ -48,13 +48,14 @@
  *    is said to do nothing, and after every report, each byte of the tables is
  *    as it was.
  *  - After a refusal each byte of the tables is as it was, but where "After"
- *    says that something stays (after 6, 7, 9 and update_with's 10, by file
- *    too): the tables then hold that desk, well formed, in rows and bytes of
- *    the library's choice.
+ *    says that something stays (after 6, 7, 9, update_with's 10, and the 20 of
+ *    remove, update_with and reset, by file too): the tables then hold that
+ *    desk, well formed, in rows and bytes of the library's choice.
  *  - A report that fills a buffer writes its text to the front of it and leaves
  *    the bytes behind; so does run_sheet with its answers. No refusal writes a
  *    buffer.
- *  - A record is written by file and withdraw alone, as they say.
+ *  - A record is written by file and withdraw alone, as they say; freeze only
+ *    reads it.
  */
 #ifndef MAGIC_STRING_H
 #define MAGIC_STRING_H
@@ -81,8 +82,9 @@ extern "C" {
 #define MAGIC_STRING_SHEET_BYTES 57344
 
 /* A record of filed calls: its limits, the calls and the bytes of their texts
- * together; the most bytes of a filed call before its text; the place of its
- * word; and where the answers begin in its bytes, behind room for the calls. */
+ * together; the most bytes of a filed call before its text; the place of the
+ * word that counts the calls' bytes; and where the answers begin in its bytes,
+ * behind room for the calls. */
 #define MAGIC_STRING_RECORD_CALLS 200
 #define MAGIC_STRING_RECORD_TEXT 32768
 #define MAGIC_STRING_RECORD_FRONT 15
@@ -101,12 +103,23 @@ extern "C" {
 #define MAGIC_STRING_PIECES_LEN (2 * MAGIC_STRING_PIECES * MAGIC_STRING_PIECE)
 #define MAGIC_STRING_STORE_LEN MAGIC_STRING_STORE_BYTES
 
-/* Lengths of a lent record's words and bytes. */
-#define MAGIC_STRING_RECORD_WORDS_LEN 1
-#define MAGIC_STRING_RECORD_BYTES_LEN                                          \
+/* Where the desk that a record keeps begins: its chunks and its pieces in the
+ * record's words, behind the first of them, and its store in the bytes, behind
+ * the answers. Each is as long as the table of its name. */
+#define MAGIC_STRING_KEPT_CHUNKS (MAGIC_STRING_RECORD_USED + 1)
+#define MAGIC_STRING_KEPT_PIECES                                               \
+  (MAGIC_STRING_KEPT_CHUNKS + MAGIC_STRING_CHUNKS_LEN)
+#define MAGIC_STRING_KEPT_STORE                                                \
   (MAGIC_STRING_RECORD_ANSWERS + MAGIC_STRING_RECORD_CALLS)
 
-/* The words of a row of chunks (docs/LAYOUT.md). Row 0 is the desk's own. */
+/* Lengths of a lent record's words and bytes. */
+#define MAGIC_STRING_RECORD_WORDS_LEN                                          \
+  (MAGIC_STRING_KEPT_PIECES + MAGIC_STRING_PIECES_LEN)
+#define MAGIC_STRING_RECORD_BYTES_LEN                                          \
+  (MAGIC_STRING_KEPT_STORE + MAGIC_STRING_STORE_LEN)
+
+/* The words of a row of chunks (docs/LAYOUT.md). Row 0 is the desk's own. A
+ * chunk's mark is 0 where it is not frozen, and any other word where it is. */
 enum {
   MAGIC_STRING_START,
   MAGIC_STRING_END,
@@ -117,7 +130,8 @@ enum {
   MAGIC_STRING_OUTRO_AT,
   MAGIC_STRING_OUTRO_N,
   MAGIC_STRING_TEXT_AT,
-  MAGIC_STRING_TEXT_N
+  MAGIC_STRING_TEXT_N,
+  MAGIC_STRING_MARK
 };
 
 /* The words of a row of pieces: where its text begins in the store, and how
@@ -154,7 +168,8 @@ enum {
   MAGIC_STRING_BAD_SHEET = 16,
   MAGIC_STRING_NO_SUCH_CALL = 17,
   MAGIC_STRING_NOT_APART = 18,
-  MAGIC_STRING_REFUSED_ALONE = 19
+  MAGIC_STRING_REFUSED_ALONE = 19,
+  MAGIC_STRING_FROZEN = 20
 };
 
 /* The value is what the call reports, and 0 where it reports nothing. A refused
@@ -177,8 +192,9 @@ typedef struct magic_string_answer {
 
 /* ---- opening ---- */
 
-/* Makes a fresh desk over the source, whatever the tables held: one chunk, no
- * pieces.
+/* Makes a fresh desk over the source, whatever the tables held: one chunk, not
+ * frozen, and no pieces. A record beside the desk stays as it is (see "a
+ * record").
  * Numbers: 2 for tables of other lengths, 13 for a source that is too long, 1
  * for one that is not UTF-8. Value: 0. */
 magic_string_answer magic_string_open(MAGIC_STRING_DESK);
@@ -196,23 +212,33 @@ magic_string_answer magic_string_well_formed(MAGIC_STRING_READ);
  *
  * The value counts the cuts that made two chunks and remain, whether the edit
  * was accepted or refused: it is how many chunks more the desk has. So it is 0
- * with every number that leaves each byte of the tables as it was. */
+ * with every number that leaves each byte of the tables as it was.
+ *
+ * A chunk may be frozen: freeze sets its mark, and no edit clears it. A cut
+ * makes two frozen chunks of one. remove, update_with and reset refuse a range
+ * with a frozen chunk, one that starts in it once both cuts are made. The trims
+ * and indent_with refuse any desk with one. So whatever edits are made, the
+ * bytes of a frozen chunk are shown as they were, or by the replacement that
+ * they had. insert and relocate are free: pieces may be added around frozen
+ * bytes and between them, and these may be moved. */
 
 /* Removes the bytes from start up to end, and the pieces of their chunks. An
  * end past the source is accepted. Zero width does nothing.
- * Numbers: 2, 3, 4, 6; 13 in place of 0 and 6. Value: at most 2.
- * After 6: the cut at start stays, if that was made. */
+ * Numbers: 2, 3, 4, 6, 20; 13 in place of 0, 6 and 20. Value: at most 2.
+ * After 6: the cut at start stays, if that was made. After 20: both cuts stay,
+ * where they were made. */
 magic_string_answer magic_string_remove(MAGIC_STRING_DESK, uint32_t start,
                                         uint32_t end);
 
 /* Replaces the bytes from start up to end by the text, which goes to the first
  * chunk of the range. The later ones become empty and lose their pieces; the
  * first one loses its own if overwrite says so.
- * Numbers: 2, 1, 3, 5, 4, 6, 10, 7; 13 in place of 0, 6, 10 and 7. Value: at
- * most 2.
+ * Numbers: 2, 1, 3, 5, 4, 6, 10, 20, 7; 13 in place of 0, 6, 10, 20 and 7.
+ * Value: at most 2.
  * After 6: the cut at start stays, if that was made. After 10: the same. After
- * 7: both cuts stay, and so do the later chunks that were emptied before the
- * moved edge was met; the first chunk is as it was. */
+ * 20: both cuts stay, where they were made. After 7: both cuts stay, and so do
+ * the later chunks that were emptied before the moved edge was met; the first
+ * chunk is as it was. */
 magic_string_answer magic_string_update_with(MAGIC_STRING_DESK, uint32_t start,
                                              uint32_t end, const uint8_t *text,
                                              size_t text_len,
@@ -220,8 +246,9 @@ magic_string_answer magic_string_update_with(MAGIC_STRING_DESK, uint32_t start,
 
 /* Undoes the edits of the bytes from start up to end: their chunks lose pieces
  * and replacements. Moves stay. Zero width does nothing.
- * Numbers: 2, 3, 4, 10, 6; 13 in place of 0 and 6. Value: at most 2.
- * After 6: the cut at start stays, if that was made. */
+ * Numbers: 2, 3, 4, 10, 6, 20; 13 in place of 0, 6 and 20. Value: at most 2.
+ * After 6: the cut at start stays, if that was made. After 20: both cuts stay,
+ * where they were made. */
 magic_string_answer magic_string_reset(MAGIC_STRING_DESK, uint32_t start,
                                        uint32_t end);
 
@@ -257,20 +284,21 @@ magic_string_answer magic_string_relocate(MAGIC_STRING_DESK, uint32_t start,
 /* Takes white space (pattern 0) or line ends (pattern 1) off both ends of the
  * output, piece by piece: a piece of which nothing is left goes, and what is
  * left of a chunk's trimmed content is its replacement.
- * Numbers: 2, 15; 13 in place of 0. Value: 0. */
+ * Numbers: 2, 15, 20 for a frozen chunk on the desk; 13 in place of 0.
+ * Value: 0. */
 magic_string_answer magic_string_trim(MAGIC_STRING_DESK, uint32_t pattern);
 
 /* The same off the start alone. The tail is never touched.
- * Numbers: 2, 15; 13 in place of 0. Value: 0. */
+ * Numbers: 2, 15, 20; 13 in place of 0. Value: 0. */
 magic_string_answer magic_string_trim_start(MAGIC_STRING_DESK,
                                             uint32_t pattern);
 
 /* The same off the end alone. The head is never touched.
- * Numbers: 2, 15; 13 in place of 0. Value: 0. */
+ * Numbers: 2, 15, 20; 13 in place of 0. Value: 0. */
 magic_string_answer magic_string_trim_end(MAGIC_STRING_DESK, uint32_t pattern);
 
 /* trim with pattern 1.
- * Numbers: 2; 13 in place of 0. Value: 0. */
+ * Numbers: 2, 20; 13 in place of 0. Value: 0. */
 magic_string_answer magic_string_trim_lines(MAGIC_STRING_DESK);
 
 /* Puts the indentor in front of each line of the head's pieces, the chunks'
@@ -280,9 +308,10 @@ magic_string_answer magic_string_trim_lines(MAGIC_STRING_DESK);
  * looked at, and what get_indent_string writes is taken. exclude holds pairs of
  * positions, start and end: source characters from start up to end are passed
  * over, and so is a replacement whose chunk starts there. An empty indentor does
- * nothing.
- * Numbers: 2, 15, 1, 3; 13 in place of 0. Value: one for each line that it
- * indents and that begins strictly inside a chunk without replacement. */
+ * nothing; 15, 1, 3 and 20 come before that.
+ * Numbers: 2, 15, 1, 3, 20 for a frozen chunk on the desk; 13 in place of 0.
+ * Value: one for each line that it indents and that begins strictly inside a
+ * chunk without replacement. */
 magic_string_answer
 magic_string_indent_with(MAGIC_STRING_DESK, uint32_t has_indentor,
                          const uint8_t *indentor, size_t indentor_len,
@@ -357,7 +386,8 @@ magic_string_answer magic_string_run_sheet(const uint8_t *sheet,
  *         lies strictly inside a range that is replaced, by an empty text too.
  *    19   A call is refused alone: made by itself on the desk as it is lent, it
  *         gives a number. So a text that is not UTF-8, a position inside a
- *         character and a call that alone would break a limit are 19.
+ *         character, a range with a frozen chunk and a call that alone would
+ *         break a limit are 19.
  *    13   There is no space: the desk's chunks and three for each call are more
  *         than MAGIC_STRING_CHUNKS, or its pieces and one for each insertion
  *         more than MAGIC_STRING_PIECES, or the bytes of its pieces and
@@ -380,37 +410,54 @@ magic_string_answer magic_string_join(MAGIC_STRING_DESK, const uint8_t *first,
 /* ---- a record: calls filed and withdrawn ---- */
 
 /* A record keeps calls that were made on a desk, with their answers, so that
- * any of them can be taken back. It is two slices, which the caller lends
- * behind those of the desk: MAGIC_STRING_RECORD_WORDS_LEN words, and
- * MAGIC_STRING_RECORD_BYTES_LEN bytes.
+ * any of them can be taken back. Beside them it keeps the desk as it stood
+ * before the first of them, frozen chunks and all: the kept desk. It is two
+ * slices, which the caller lends behind those of the desk:
+ * MAGIC_STRING_RECORD_WORDS_LEN words, and MAGIC_STRING_RECORD_BYTES_LEN bytes.
  *
- *    words   at MAGIC_STRING_RECORD_USED: how many bytes the filed calls have
+ *    words   at MAGIC_STRING_RECORD_USED: how many bytes the filed calls have;
+ *            from MAGIC_STRING_KEPT_CHUNKS on the chunks of the kept desk, from
+ *            MAGIC_STRING_KEPT_PIECES on its pieces
  *    bytes   from 0 on the filed calls, one behind the other, each in the form
  *            of a sheet's record; from MAGIC_STRING_RECORD_ANSWERS on their
- *            answers in the same order, 0 or a refusal, one byte each
+ *            answers in the same order, 0 or a refusal, one byte each; from
+ *            MAGIC_STRING_KEPT_STORE on the store of the kept desk
  *
- * An empty record has 0 in that word, whatever the bytes are: zeroed memory is
- * one.
+ * An empty record has 0 in the first word, whatever else it holds: zeroed
+ * memory is one. To begin a record anew, write that 0.
  *
  * A record is well formed exactly if it has these lengths, the bytes that the
- * word counts end at MAGIC_STRING_RECORD_ANSWERS at the latest and are whole
- * records of a sheet, at most MAGIC_STRING_RECORD_CALLS, and the texts of these
- * have at most MAGIC_STRING_RECORD_TEXT bytes together. The answers are not
- * looked at, nor what stands behind the filed calls, nor whether a text is
- * UTF-8.
+ * first word counts end at MAGIC_STRING_RECORD_ANSWERS at the latest and are
+ * whole records of a sheet, at most MAGIC_STRING_RECORD_CALLS, the texts of
+ * these have at most MAGIC_STRING_RECORD_TEXT bytes together, and, if there are
+ * any calls, the kept desk is well formed over the source that is lent beside
+ * it. The answers are not looked at, nor what stands behind the filed calls,
+ * nor whether a text of theirs is UTF-8, nor the kept desk of an empty record.
+ * Memory of the lengths that a record had before it kept a desk, 1 word and
+ * 35,968 bytes, is too short now: 2.
  *
  * Only file files: an edit, a join, open and run_sheet leave the record as it
- * is. A desk that was fresh beside an empty record, and that only file and
- * withdraw have changed since, is what the filed calls leave when they are made
- * in order on a fresh desk, and the answers are those of that run. Another edit
- * or a join, and open or run_sheet while calls are filed, may leave a desk that
- * is not; the next call that is withdrawn makes it so again. Nothing in a
- * record tells which desk it belongs to: lend the same one to every call on a
- * desk. */
+ * is. What was edited or frozen before the first call is filed is part of the
+ * kept desk, and no withdrawal takes it back. What is edited while calls are
+ * filed, without being filed, is lost by the next withdrawal.
+ *
+ * A desk that stood beside an empty record, and that only file and withdraw
+ * have changed since, is what the filed calls leave when they are made in order
+ * on the desk that it was then, and the answers are those of that run. Another
+ * edit or a join, and open or run_sheet, while calls are filed, may leave a
+ * desk that is not; the next call that is withdrawn makes it so again.
+ *
+ * Opening anew leaves the calls filed. With another source file, withdraw and
+ * freeze then give 2, where the kept desk is not well formed over it. With the
+ * same one freeze gives 20 until all calls are withdrawn, and a withdrawal
+ * starts from the kept desk and not from the one that was opened.
+ *
+ * Nothing else in a record tells which desk it belongs to: lend the same one to
+ * every call on a desk. */
 
 /* Makes the call, which is one record of a sheet, its length included, and
  * files it behind the others with its answer, whether it was accepted or
- * refused.
+ * refused. If no other is filed, the record keeps the desk that it is made on.
  * Numbers: 2 for a desk or record that is not well formed, 16 for a call that
  * is not exactly one record of a sheet, 13 for a record without room for it;
  * then those of the function of the call's kind, without 2. A record is without
@@ -421,28 +468,50 @@ magic_string_answer magic_string_join(MAGIC_STRING_DESK, const uint8_t *first,
  * tables and of the record is as it was.
  * After 0 and the function's own numbers, its 13 among them: the tables are as
  * the function leaves them, and the call is filed. Its bytes stand behind those
- * of the others, its number behind their answers, the word has grown by
- * call_len, and all else in the record is as it was. So the word tells the 13
- * of the record, after which it is as it was, from that of the desk. */
+ * of the others, its number behind their answers, and the first word has grown
+ * by call_len. With the first call the kept desk is written, in rows and bytes
+ * of the library's choice. All else in the record is as it was. So the first
+ * word tells the 13 of the record, after which it is as it was, from that of
+ * the desk. */
 magic_string_answer magic_string_file(MAGIC_STRING_DESK, uint32_t *words,
                                       size_t words_len, uint8_t *bytes,
                                       size_t bytes_len, const uint8_t *call,
                                       size_t call_len);
 
 /* Takes the k-th filed call out of the record, counted from 1 among those that
- * are filed, and makes the others in order on a fresh desk over the source. So
- * one that was accepted may be refused now, or the other way round. Edits that
- * were not filed are lost.
+ * are filed, and makes the others in order on the kept desk, frozen chunks and
+ * all. So one that was accepted may be refused now, or the other way round.
+ * Edits that were made since the first call was filed, and were not filed, are
+ * lost. If no call is left, the desk is the kept one, and freeze is free again.
  * Numbers: 2 for a desk or record that is not well formed, 17 for a k that is 0
  * or above the count of filed calls. Value: 0.
  * After 0: the tables hold the desk that the others leave. The record has the
- * others, one behind the other, with the answers that they got now, and the
- * word counts their bytes. The bytes that no call and no answer has any more
- * hold anything; those that none had before are as they were.
+ * others, one behind the other, with the answers that they got now, the first
+ * word counts their bytes, and the kept desk is as it was. The bytes that no
+ * call and no answer has any more hold anything; those that none had before are
+ * as they were.
  * After 2 and 17: each byte of the tables and of the record is as it was. */
 magic_string_answer magic_string_withdraw(MAGIC_STRING_DESK, uint32_t *words,
                                           size_t words_len, uint8_t *bytes,
                                           size_t bytes_len, uint32_t k);
+
+/* ---- freezing: an edit, beside a record without calls ---- */
+
+/* Freezes the bytes from start up to end: sets the mark of every chunk of the
+ * range, after a cut at both ends. Pieces and replacements stay. Zero width does
+ * nothing, and what is frozen already may be frozen again.
+ *
+ * It is lent the record of the desk, which it only reads: while calls are filed
+ * it gives 20, because a withdrawal starts from the desk before them. For a
+ * desk without a record lend an empty one. Lent that beside a desk whose calls
+ * are filed in another, it does set the mark, and the next withdrawal loses it.
+ * Numbers: 2 for a desk or record that is not well formed, 20 for a record with
+ * calls, 3, 4, 10, 6; 13 in place of 0 and 6. Value: at most 2.
+ * After 6: the cut at start stays, if that was made; nothing is frozen. */
+magic_string_answer magic_string_freeze(MAGIC_STRING_DESK,
+                                        const uint32_t *words, size_t words_len,
+                                        const uint8_t *bytes, size_t bytes_len,
+                                        uint32_t start, uint32_t end);
 
 /* ---- reports: the value is the number of bytes written ---- */
 

@@ -241,12 +241,14 @@ static void kept(const char *call, magic_string_answer answer) {
   text(out, answer.value);
 }
 
-/* The answers of both calls on a record that is lent with these lengths. */
+/* The answers of all calls on a record that is lent with these lengths. */
 static void lengths(const char *what, size_t words_len, size_t bytes_len) {
   reported(what, magic_string_file(DESK, words, words_len, bytes, bytes_len,
                                    CALL(REMOVE_3_7)));
   reported("  withdraw 1",
            magic_string_withdraw(DESK, words, words_len, bytes, bytes_len, 1));
+  reported("  freeze 0,1",
+           magic_string_freeze(DESK, words, words_len, bytes, bytes_len, 0, 1));
 }
 
 /* Tells whether all bytes behind these of the calls, and behind as many
@@ -265,7 +267,7 @@ static void records(void) {
   bytes = malloc(MAGIC_STRING_RECORD_BYTES_LEN);
   if (!words || !bytes)
     exit(1);
-  /* An empty record: its word is 0, whatever the bytes are. */
+  /* An empty record: its first word is 0, whatever else it holds. */
   memset(bytes, 99, MAGIC_STRING_RECORD_BYTES_LEN);
   magic_string_open(DESK);
   kept("withdraw 1 of none", magic_string_withdraw(DESK, RECORD, 1));
@@ -288,6 +290,8 @@ static void records(void) {
   lengths("file, no word", 0, MAGIC_STRING_RECORD_BYTES_LEN);
   lengths("file, a byte too few", MAGIC_STRING_RECORD_WORDS_LEN,
           MAGIC_STRING_RECORD_BYTES_LEN - 1);
+  /* A record before it kept a desk. */
+  lengths("file, without a kept desk", 1, MAGIC_STRING_KEPT_STORE);
   /* An edit that is not filed, and is lost. */
   edit("append", magic_string_append(DESK, TEXT("lost")));
   kept("withdraw 1", magic_string_withdraw(DESK, RECORD, 1));
@@ -298,6 +302,55 @@ static void records(void) {
   words[MAGIC_STRING_RECORD_USED]--;
   lengths("file, a call cut short", MAGIC_STRING_RECORD_WORDS_LEN,
           MAGIC_STRING_RECORD_BYTES_LEN);
+}
+
+/* Every place of 20: a range, a desk to be trimmed or indented, and freezing
+ * while calls are filed. */
+static void freezes(void) {
+  static const uint32_t exclude[1] = {0};
+  words[MAGIC_STRING_RECORD_USED] = 0;
+  magic_string_open(DESK);
+  edit("freeze 12,12", magic_string_freeze(DESK, RECORD, 12, 12));
+  edit("freeze 5,4", magic_string_freeze(DESK, RECORD, 5, 4));
+  edit("freeze 4,15", magic_string_freeze(DESK, RECORD, 4, 15));
+  edit("freeze 4,4", magic_string_freeze(DESK, RECORD, 4, 4));
+  edit("freeze 4,6, two cuts", magic_string_freeze(DESK, RECORD, 4, 6));
+  edit("freeze 5,7, two cuts", magic_string_freeze(DESK, RECORD, 5, 7));
+  edit("remove 3,5, cut at 3", magic_string_remove(DESK, 3, 5));
+  edit("update_with 6,8, cut at 8",
+       magic_string_update_with(DESK, 6, 8, TEXT("XX"), 1));
+  edit("update_with 4,99",
+       magic_string_update_with(DESK, 4, 99, TEXT("XX"), 1));
+  edit("reset 0,14", magic_string_reset(DESK, 0, 14));
+  keep_tables();
+  edit("trim 0", magic_string_trim(DESK, 0));
+  edit("trim 2", magic_string_trim(DESK, 2));
+  edit("trim_start 1", magic_string_trim_start(DESK, 1));
+  edit("trim_end 0", magic_string_trim_end(DESK, 0));
+  edit("trim_lines", magic_string_trim_lines(DESK));
+  edit("indent_with nothing",
+       magic_string_indent_with(DESK, 1, TEXT(""), exclude, 0));
+  printf("  tables %s\n", tables_now());
+  kept("file remove 3,7", magic_string_file(DESK, RECORD, CALL(REMOVE_3_7)));
+  kept("file append_left 5",
+       magic_string_file(DESK, RECORD, CALL(APPEND_LEFT_5)));
+  edit("freeze 0,1, calls are filed", magic_string_freeze(DESK, RECORD, 0, 1));
+  uint32_t count = words[MAGIC_STRING_KEPT_CHUNKS];
+  words[MAGIC_STRING_KEPT_CHUNKS] = 0;
+  lengths("file, no kept chunks", MAGIC_STRING_RECORD_WORDS_LEN,
+          MAGIC_STRING_RECORD_BYTES_LEN);
+  words[MAGIC_STRING_KEPT_CHUNKS] = count;
+  /* Another source. */
+  source_len = 8;
+  edit("open 8 bytes", magic_string_open(DESK));
+  lengths("file", MAGIC_STRING_RECORD_WORDS_LEN, MAGIC_STRING_RECORD_BYTES_LEN);
+  source_len = strlen(script);
+  edit("open", magic_string_open(DESK));
+  edit("freeze 0,1, calls are filed", magic_string_freeze(DESK, RECORD, 0, 1));
+  kept("withdraw 2", magic_string_withdraw(DESK, RECORD, 2));
+  kept("withdraw 1", magic_string_withdraw(DESK, RECORD, 1));
+  edit("trim 0", magic_string_trim(DESK, 0));
+  edit("freeze 0,1, cut at 1", magic_string_freeze(DESK, RECORD, 0, 1));
 }
 
 /* 13 for the record, which does not grow, and 13 for the desk. */
@@ -318,6 +371,7 @@ static void limits(void) {
   magic_string_append(DESK, TEXT(longest));
   kept("file, the desk is full",
        magic_string_file(DESK, RECORD, CALL(APPEND_LEFT_5)));
+  /* The desk stays full: its text was appended before the call was filed. */
   kept("withdraw 1", magic_string_withdraw(DESK, RECORD, 1));
   free(words);
   free(bytes);
@@ -413,6 +467,7 @@ int main(void) {
   sheets();
   out_len = source_len + 16;
   records();
+  freezes();
   limits();
   joins();
   free(source);

@@ -236,4 +236,4 @@ pub acted-acted : (P Q : Plan) → ((x : ℕ) → PlanByte P x → PlanByte Q x 
 unfolding Commute
 acted-acted P Q dis nil = refl
 acted-acted P Q dis (cons {x = c} {xs = cs} r rs) =
-    ap₂ (λ x l. record { span = c .span; texts = x } ∷ l) (acts-commute P Q c (r .proper) (r .first) (r .second) dis) (acted-acted P Q dis rs)
+    ap₂ (λ x l. record { span = c .span; frozen = c .frozen; texts = x } ∷ l) (acts-commute P Q c (r .proper) (r .first) (r .second) dis) (acted-acted P Q dis rs)

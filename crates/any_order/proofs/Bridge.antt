@@ -13,7 +13,7 @@ use Rattle.utf8.specs.Chars.{All, nil, cons}
 use Rattle.model.specs.Text.{Text, sum}
 use Rattle.model.specs.Chunk.{is-filled}
 use Rattle.model.specs.Call.{Edit, remove, update-with, reset, insert, append, prepend, relocate, trim, trim-start, trim-end}
-use Rattle.model.specs.Call.{trim-lines, indent-with, texts, positions, listed}
+use Rattle.model.specs.Call.{trim-lines, indent-with, freeze, texts, positions, listed}
 use Rattle.model.proofs.Lists.{clash, first-of, rest-of, all-of, all-map}
 use Rattle.model.specs.Insert.{left, right, front, back}
 use Rattle.model_closed_forms.specs.Plan.{Plan, nothing, clear, replace, insert-whole, move, plan, cuts}
@@ -201,6 +201,7 @@ implements n (trim-start p) s h = clash (h .listed) refl
 implements n (trim-end p) s h = clash (h .listed) refl
 implements n trim-lines s h = clash (h .listed) refl
 implements n (indent-with i l) s h = clash (h .listed) refl
+implements n (freeze a b) s h = clash (h .listed) refl
 
 -- ── two edits that are apart have plans that are apart ──
 plans-outside : {n : ℕ} {x y : Edit} {P Q : Plan} → Implements n x P → Implements n y Q → PairPremises n x y → All (OutsideReplaced P) (cuts Q)

@@ -14,7 +14,7 @@ use Rattle.model.specs.Text.{all, sum}
 use Rattle.model.specs.MagicString.{MagicString}
 use Rattle.model.specs.Limits.{Limits, piece-count, byte-count}
 use Rattle.model.specs.Call.{Edit, remove, update-with, reset, insert, append, prepend, relocate, trim, trim-start, trim-end}
-use Rattle.model.specs.Call.{trim-lines, indent-with, positions, run, listed}
+use Rattle.model.specs.Call.{trim-lines, indent-with, freeze, positions, run, listed}
 use Rattle.model.specs.WellFormed.{WellFormed}
 use Rattle.model.proofs.Lists.{both, and-left, and-right, clash, all-map, all-true, true-all}
 use Rattle.model_join.specs.Tests.{most-cuts, new-pieces, new-bytes}
@@ -141,6 +141,7 @@ reach-zone n (trim-start p) z = nothing-reached z
 reach-zone n (trim-end p) z = nothing-reached z
 reach-zone n trim-lines z = nothing-reached z
 reach-zone n (indent-with i l) z = nothing-reached z
+reach-zone n (freeze a b) z = nothing-reached z
 
 abbrev Common : Zone → Zone → Type 0
 Common Z W = (z : Spot) × InZone Z z × InZone W z
@@ -215,6 +216,7 @@ decide-move (trim-start p) = never (λ h. h)
 decide-move (trim-end p) = never (λ h. h)
 decide-move trim-lines = never (λ h. h)
 decide-move (indent-with i l) = never (λ h. h)
+decide-move (freeze a b) = never (λ h. h)
 
 decide-replaced : (e : Edit) (p : ℕ) → Decides (in-replaced e p) (InReplaced e p)
 decide-replaced (remove a b) p = never (λ h. h)
@@ -229,6 +231,7 @@ decide-replaced (trim-start q) p = never (λ h. h)
 decide-replaced (trim-end q) p = never (λ h. h)
 decide-replaced trim-lines p = never (λ h. h)
 decide-replaced (indent-with i l) p = never (λ h. h)
+decide-replaced (freeze a b) p = never (λ h. h)
 
 decide-free : (x y : Edit) → Decides (free-of x y) (FreeOf x y)
 decide-free x y = decide-if (decide-move x) (decide-all (λ p. not (in-replaced y p)) (λ p. decide-not (decide-replaced y p)) (positions x))
@@ -252,6 +255,7 @@ decide-wide (trim-start p) = always tt
 decide-wide (trim-end p) = always tt
 decide-wide trim-lines = always tt
 decide-wide (indent-with i l) = always tt
+decide-wide (freeze a b) = always tt
 
 -- ── all premises ──
 pub decide-edits : (n : ℕ) (L : List Edit) → Decides (edits-apart n L) (EditsApart n L)

@@ -5,6 +5,7 @@ use mathlib.Core.List.{List, flatten}
 use Rattle.utf8.specs.Rfc3629.{scalar, sequence, decodeAt, wholeFrom, utf8, between}
 use Rattle.model.specs.Chunk.{contains}
 use Rattle.model.specs.MagicString.{new, split-at, by-edge-mut, to-string}
+use Rattle.model.specs.Frozen.{has-frozen, any-frozen}
 use Rattle.model.specs.Update.{update-chunks}
 use Rattle.model.specs.Update as update-rs
 use Rattle.model.specs.Movement.{change-range}
@@ -23,7 +24,7 @@ use Rattle.any_order.specs.Example.{source, prepared, desk, edits, text}
 -- ── a list of edits on it ──
 computed : (after full prepared (new source) ≡ desk) × (any-order-holds full desk edits ≡ true) × (to-string (after full edits desk) ≡ text)
 unfolding flatten scalar sequence decodeAt wholeFrom utf8 between contains split-at by-edge-mut to-string update-chunks
-    update-rs.update-with change-range movement-rs.remove movement-rs.relocate reset-rs.reset within judged refused-before run edits-apart each-alone
+    update-rs.update-with has-frozen any-frozen change-range movement-rs.remove movement-rs.relocate reset-rs.reset within judged refused-before run edits-apart each-alone
     has-space any-order-holds
 computed = (refl, refl, refl)
 

@@ -98,7 +98,7 @@ module _ {Z : Chunk → Type 0} where
   rearrange-keeps (move a b to) z = insert-all Z to (keep-keeps (inside a b) z) (keep-keeps (outside a b) z)
 
 -- a chunk that contains neither end of a range starts in it exactly if each byte of it lies in it
-halves-inside : (a b q : ℕ) (c : Chunk) → (Contains a c → ⊥) → (Contains b c → ⊥) → Contains q c → inside a b q ≡ inside a b (start-of c)
+pub halves-inside : (a b q : ℕ) (c : Chunk) → (Contains a c → ⊥) → (Contains b c → ⊥) → Contains q c → inside a b q ≡ inside a b (start-of c)
 halves-inside a b q c na nb i = go (dec-inside a b (start-of c))
   where
     go : Dec (Inside a b (start-of c)) → inside a b q ≡ inside a b (start-of c)

@@ -7,6 +7,7 @@ use Rattle.utf8.specs.WhiteSpace.{whiteSpace}
 use Rattle.model.specs.Text.{trim-start-matches, trim-end-matches}
 use Rattle.model.specs.Chunk.{contains}
 use Rattle.model.specs.MagicString.{split-at, by-edge-mut, to-string}
+use Rattle.model.specs.Frozen.{has-frozen, any-frozen}
 use Rattle.model.specs.Update.{update-chunks}
 use Rattle.model.specs.Update as update-rs
 use Rattle.model.specs.Movement.{change-range}
@@ -21,6 +22,6 @@ use Rattle.any_order.specs.Needed.{computed, rows}
 -- ── the table ──
 pub needed : map computed rows ≡ rows
 unfolding flatten scalar sequence decodeAt wholeFrom utf8 between toFirst chars code whiteSpace trim-start-matches trim-end-matches contains split-at
-    by-edge-mut to-string update-chunks update-rs.update-with change-range movement-rs.remove movement-rs.relocate trim-chunk-start
+    by-edge-mut to-string update-chunks update-rs.update-with has-frozen any-frozen change-range movement-rs.remove movement-rs.relocate trim-chunk-start
     trim-chunk-end trim-rs.trim-start trim-rs.trim-end within judged refused-before run each-alone has-space rows
 needed = refl

@@ -2,21 +2,22 @@
 use Prim.Native.Nat.{ℕ, _≤_, _<_}
 use native.Mathlib.Omega.{arith}
 use mathlib.Core.Path.{_≡_, refl, ap, sym, _∙_}
-use mathlib.Core.Bool.{true, false}
-use mathlib.Core.List.{List, map}
+use mathlib.Core.Bool.{Bool, true, false, _&&_}
+use mathlib.Core.List.{List, [], _∷_, map}
 use mathlib.Core.Logic.{_⊎_, inl, inr}
 use Rattle.utf8.specs.Chars.{All, nil, cons}
-use Rattle.model.specs.Text.{Text}
-use Rattle.model.specs.Chunk.{Chunk, is-filled}
+use Rattle.model.specs.Text.{Text, any}
+use Rattle.model.specs.Chunk.{Chunk, start-of, is-filled, first-half, second-half}
 use Rattle.model.specs.MagicString.{MagicString}
-use Rattle.model.proofs.Lists.{clash, all-map₂, map-keeps}
-use Rattle.model_closed_forms.specs.Plan.{Plan, nothing, clear, replace, insert-piece, insert-whole, move, cuts, cut-all, act, acted, rearrange, on-head}
-use Rattle.model_closed_forms.specs.Plan.{on-tail, new-chunks, apply, in-order}
+use Rattle.model.specs.Frozen.{starts-within}
+use Rattle.model.proofs.Lists.{clash, first-of, rest-of, all-map, all-map₂, any-false, false-any, map-keeps}
+use Rattle.model_closed_forms.specs.Plan.{Plan, nothing, clear, replace, insert-piece, insert-whole, move, cuts, cut-all, inside, act, acted, rearrange, on-head}
+use Rattle.model_closed_forms.specs.Plan.{on-tail, new-chunks, apply, in-order, frozen-in}
 use Rattle.model_closed_forms.proofs.Cuts.{Contains, ends-by, Aligned, aligned-halves, cut-all-keeps, cut-all-aligned, cut-all-cut-all, Splittable, splittable-halves}
 use Rattle.model_closed_forms.specs.Spans.{Proper}
 use Rattle.model_closed_forms.proofs.Together.{Together, together-of, together-true}
 use Rattle.any_order.proofs.Acts.{Touch, dec-touch, act-out, act-clear, act-insert, OutsideReplaced, PlanByte, BothAligned, cut-all-acted, acted-acted}
-use Rattle.any_order.proofs.Moves.{rearrange-acted, rearrange-keeps, rearrange-cut-all, together-cut-all, together-acted, together-rearrange}
+use Rattle.any_order.proofs.Moves.{rearrange-acted, rearrange-keeps, halves-inside, rearrange-cut-all, together-cut-all, together-acted, together-rearrange}
 
 -- ── plans that are apart ──
 abbrev pub PlanHead : Plan → Type 0
@@ -219,3 +220,35 @@ order-after P (move a b to) d cs pr h =
     together-true a b
     (together-new-chunks P a b (d .first-outside) (λ l g. rw (order-kept P (λ m. d .moves m tt) l) g) cs
     (together-of a b (cut-all (cuts (move a b to)) cs) (proper-cut-all (cuts (move a b to)) pr) h))
+
+-- ── no marked chunk comes to start in its range (20) ──
+-- neither end of the range lies in the chunk, and the chunk is not a marked one of the range
+record Unmarked (a b : ℕ) (c : Chunk) : Type 0 where
+  aligned : Aligned (a ∷ b ∷ []) c
+  test : starts-within a b c && c .frozen ≡ false
+
+-- a cut keeps this: both halves have the mark, and the second starts in the range only if the first does
+unmarked-halves : (a b q : ℕ) (c : Chunk) → Unmarked a b c → Contains q c → Unmarked a b (first-half q c) × Unmarked a b (second-half q c)
+unmarked-halves a b q c u i =
+    let al = aligned-halves (a ∷ b ∷ []) q c (u .aligned) i in
+    let same : inside a b q ≡ inside a b (start-of c) = halves-inside a b q c (first-of (u .aligned)) (first-of (rest-of (u .aligned))) i in
+    (record { aligned = al .0; test = u .test }, record { aligned = al .1; test = ap (λ (x : Bool). x && c .frozen) same ∙ u .test })
+
+unmarked-after : (P : Plan) (a b : ℕ) → All (OutsideReplaced P) (a ∷ b ∷ []) → (cs : List Chunk) → any (λ c. starts-within a b c && c .frozen) (cut-all (a ∷ b ∷ []) cs) ≡ false
+    → any (λ c. starts-within a b c && c .frozen) (cut-all (a ∷ b ∷ []) (new-chunks P cs)) ≡ false
+unmarked-after P a b fr cs h =
+    let marked : Chunk → Bool = λ c. starts-within a b c && c .frozen in
+    let now : List Chunk = cut-all (a ∷ b ∷ []) cs in
+    let u : All (Unmarked a b) now = all-map₂ (λ c al t. record { aligned = al; test = t }) (cut-all-aligned (a ∷ b ∷ []) cs) (any-false marked now h) in
+    let v : All (Unmarked a b) (cut-all (cuts P) now) = cut-all-keeps (unmarked-halves a b) (cuts P) u in
+    let w : All (λ c. marked c ≡ false) (map (acted P) (cut-all (cuts P) now)) = map-keeps (acted P) (all-map (λ c k. k .test) v) in
+    rw (cuts-first P fr cs, cut-all-cut-all (cuts P) (a ∷ b ∷ []) cs) (false-any marked (rearrange-keeps P w))
+
+pub unfrozen-after : (P Q : Plan) → PlansApart P Q → (cs : List Chunk) → frozen-in Q (cut-all (cuts Q) cs) ≡ false → frozen-in Q (cut-all (cuts Q) (new-chunks P cs)) ≡ false
+unfolding frozen-in cuts
+unfrozen-after P nothing d cs h = refl
+unfrozen-after P (clear a b r) d cs h = unmarked-after P a b (d .first-outside) cs h
+unfrozen-after P (replace a b t o) d cs h = unmarked-after P a b (d .first-outside) cs h
+unfrozen-after P (insert-piece p t left front) d cs h = refl
+unfrozen-after P (insert-whole t left front) d cs h = refl
+unfrozen-after P (move a b to) d cs h = refl

@@ -1,8 +1,8 @@
 -- One step of a list: its first edit is accepted, and the rest meets the premises on the desk that it leaves.
 use Prim.Native.Nat.{ℕ, suc, _+_, _≤_, _<_}
 use native.Mathlib.Omega.{arith}
-use mathlib.Core.Path.{_≡_, refl, ap, _∙_}
-use mathlib.Core.Bool.{true}
+use mathlib.Core.Path.{_≡_, refl, ap, sym, _∙_}
+use mathlib.Core.Bool.{true, false}
 use mathlib.Core.List.{List, [], _∷_}
 use lib.Dec.{leb}
 use lib.ListN.{length}
@@ -11,9 +11,10 @@ use Rattle.utf8.specs.Chars.{All, nil, cons}
 use Rattle.model.specs.Text.{sum}
 use Rattle.model.specs.MagicString.{MagicString, ok}
 use Rattle.model.specs.Limits.{Limits, piece-count, byte-count, within}
-use Rattle.model.specs.Call.{Edit, positions, refused-before, run, listed}
+use Rattle.model.specs.Call.{Edit, remove, update-with, reset, insert, append, prepend, relocate, trim, trim-start, trim-end, trim-lines, indent-with}
+use Rattle.model.specs.Call.{freeze, positions, whole, refused-before, run, listed}
 use Rattle.model.specs.WellFormed.{Formed}
-use Rattle.model.proofs.Lists.{both, and-left, first-of, rest-of, all-map, all-map₂, sum-part}
+use Rattle.model.proofs.Lists.{both, and-left, no-tf, first-of, rest-of, all-map, all-map₂, sum-part}
 use Rattle.model_closed_forms.specs.Plan.{Plan, cuts, apply}
 use Rattle.model_closed_forms.proofs.Cuts.{Splittable, cuttable-of, cuttable-true}
 use Rattle.model_closed_forms.specs.Accepted.{plan-of}
@@ -21,16 +22,32 @@ use Rattle.model_closed_forms.specs.RunClosed.{RunAccepted}
 use Rattle.model_closed_forms.proofs.RunClosed.{accepted-run, run-accepted}
 use Rattle.model_join.specs.Tests.{new-pieces, new-bytes}
 use Rattle.any_order.specs.Claim.{IsMove, Wide, Space, FreeOf, EditsApart, Premises}
-use Rattle.any_order.proofs.Pair.{PlansApart, splittable-after, order-after}
+use Rattle.any_order.proofs.Pair.{PlansApart, splittable-after, order-after, unfrozen-after}
 use Rattle.any_order.proofs.SpaceLaws.{more-chunks, more-pieces, more-bytes}
 use Rattle.any_order.proofs.Bridge.{EditPremises, PairPremises, Implements, implements, plans-apart}
 use Rattle.any_order.proofs.Kept.{formed-proper, formed-once, formed-run}
 
 -- ── 15, 1 and 3 ──
--- they speak of the source alone
-before-kept : (P : Plan) (m : MagicString) (e : Edit) → refused-before (apply P m) e ≡ refused-before m e
+-- the whole desk's 20 is of no edit of L
+not-whole : (e : Edit) → listed e ≡ true → whole e ≡ false
+not-whole (remove a b) l = refl
+not-whole (update-with a b t o) l = refl
+not-whole (reset a b) l = refl
+not-whole (insert p t left front) l = refl
+not-whole (append t) l = refl
+not-whole (prepend t) l = refl
+not-whole (relocate a b to) l = refl
+not-whole (trim p) l = no-tf (sym l)
+not-whole (trim-start p) l = no-tf (sym l)
+not-whole (trim-end p) l = no-tf (sym l)
+not-whole trim-lines l = no-tf (sym l)
+not-whole (indent-with i t) l = no-tf (sym l)
+not-whole (freeze a b) l = refl
+
+-- the others speak of the source alone
+before-kept : (P : Plan) (m : MagicString) (e : Edit) → listed e ≡ true → refused-before (apply P m) e ≡ refused-before m e
 unfolding refused-before
-before-kept P m e = refl
+before-kept P m e l = rw (not-whole e l)
 
 -- ── space ──
 source-fits : (k : Limits) (m : MagicString) → within k m ≡ true → leb (length (m .source)) (k .most-source) ≡ true
@@ -82,11 +99,12 @@ accepted-after k m e x f some-source se sx d ge gx kc kp kb =
     let sp : All (Splittable (cuts Q)) (apply P m .chunks) = splittable-after n P (u .well) (PQ .first-outside) (cuttable-of (cuts Q) (m .chunks) (gx .accepted .cuts-made)) in
     let f′ : Formed (apply P m) = formed-run k m e f (se .listed) ge in
     record {
-      before = before-kept P m x ∙ gx .before;
+      before = before-kept P m x (sx .listed) ∙ gx .before;
       accepted = record {
         arguments = gx .accepted .arguments;
         cuts-made = cuttable-true (cuts Q) sp;
         inside = gx .accepted .inside;
+        unfrozen = unfrozen-after P Q PQ (m .chunks) (gx .accepted .unfrozen);
         ordered = order-after P Q PQ (m .chunks) (formed-proper f some-source) (gx .accepted .ordered);
       };
       space = within-after k (apply P m) Q (ge .space)

@@ -10,7 +10,7 @@ use Rattle.model.specs.Text.{sum}
 use Rattle.model.specs.MagicString.{MagicString, to-string}
 use Rattle.model.specs.Limits.{Limits, piece-count, byte-count}
 use Rattle.model.specs.Call.{Edit, remove, update-with, reset, insert, append, prepend, relocate, trim, trim-start, trim-end}
-use Rattle.model.specs.Call.{trim-lines, indent-with, positions, run, after, Shown, listed}
+use Rattle.model.specs.Call.{trim-lines, indent-with, freeze, positions, run, after, Shown, listed}
 use Rattle.model.specs.WellFormed.{WellFormed}
 use Rattle.model_join.specs.Tests.{most-cuts, new-pieces, new-bytes}
 use Rattle.model_calls.specs.Call.{Call, perform}
@@ -68,6 +68,7 @@ Reach n (trim-start p) z = ⊥
 Reach n (trim-end p) z = ⊥
 Reach n trim-lines z = ⊥
 Reach n (indent-with i l) z = ⊥
+Reach n (freeze a b) z = ⊥
 
 abbrev pub IsMove : Edit → Type 0
 IsMove (remove a b) = ⊥
@@ -82,6 +83,7 @@ IsMove (trim-start p) = ⊥
 IsMove (trim-end p) = ⊥
 IsMove trim-lines = ⊥
 IsMove (indent-with i l) = ⊥
+IsMove (freeze a b) = ⊥
 
 -- "A replaced range is that of a replacement in L, by an empty text too": the position lies strictly inside it
 abbrev pub InReplaced : Edit → ℕ → Type 0
@@ -97,6 +99,7 @@ InReplaced (trim-start q) p = ⊥
 InReplaced (trim-end q) p = ⊥
 InReplaced trim-lines p = ⊥
 InReplaced (indent-with i l) p = ⊥
+InReplaced (freeze a b) p = ⊥
 
 -- a removal, replacement or reset is of a byte or more
 abbrev pub Wide : Edit → Type 0
@@ -112,6 +115,7 @@ Wide (trim-start p) = Unit {0}
 Wide (trim-end p) = Unit {0}
 Wide trim-lines = Unit {0}
 Wide (indent-with i l) = Unit {0}
+Wide (freeze a b) = Unit {0}
 
 -- ── space ──
 -- "Space for L: D's chunks + 3 × calls ≤ 512; D's pieces + insertions .. ≤ 1,024; D's store bytes + all texts in L ≤ 32,768"
@@ -163,7 +167,7 @@ shown k (c ∷ cs) m = perform k c m .shown ∷ shown k cs (perform k c m .desk)
 
 pub record Conclusion (k : Limits) (m : MagicString) (L L′ : List Edit) : Type 0 where
   pub accepted : AllAccepted k L′ m
-  -- a desk here has no numbering and no places in the store, so that equal is what 01 calls the same
+  -- a desk here has no numbering and no places in the store, so that equal is what 01 calls the same; with equal marks, as 02's L8 says
   pub desk : after k L′ m ≡ after k L m
   pub well-formed : WellFormed k (after k L′ m)
   -- "The final text is what `to_string` writes into a buffer that is long enough"

@@ -28,11 +28,11 @@ desk =
       intro = (104 ∷ []) ∷ [];
       outro = [];
       chunks =
-          chunk-of 0 2 (bare none)
-          ∷ chunk-of 2 5 (record { intro = (106 ∷ []) ∷ []; outro = (107 ∷ []) ∷ []; edited-content = none })
-          ∷ chunk-of 5 6 (bare none)
-          ∷ chunk-of 9 11 (record { intro = (105 ∷ []) ∷ []; outro = []; edited-content = some (69 ∷ []) })
-          ∷ chunk-of 6 9 (bare none) ∷ [];
+          chunk-of 0 2 false (bare none)
+          ∷ chunk-of 2 5 false (record { intro = (106 ∷ []) ∷ []; outro = (107 ∷ []) ∷ []; edited-content = none })
+          ∷ chunk-of 5 6 false (bare none)
+          ∷ chunk-of 9 11 false (record { intro = (105 ∷ []) ∷ []; outro = []; edited-content = some (69 ∷ []) })
+          ∷ chunk-of 6 9 false (bare none) ∷ [];
     }
 
 -- ── a list of edits on it ──

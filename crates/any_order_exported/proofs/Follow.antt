@@ -9,13 +9,16 @@ use Rattle.utf8.specs.Chars.{All, nil, cons}
 use Rattle.model.specs.Text.{Text}
 use Rattle.model.specs.MagicString.{MagicString, Result, to-string}
 use Rattle.model.specs.Limits.{Limits}
-use Rattle.model.specs.Call.{Edit, Report, Shown, Outcome, run, cuts-left, show, after}
+use Rattle.model.specs.Call.{Edit, Report, Shown, Outcome, freeze, run, cuts-left, show, after}
 use Rattle.model.specs.Call as call
 use Rattle.model_calls.specs.Call.{DeskCall, on-desk, perform}
+use Rattle.model_filed.specs.Filed.{Answered, freeze-beside, edited-beside}
+use Rattle.model_filed.proofs.Filing.{freeze-empty}
 use Rattle.model_join.specs.Join.{join}
 use Rattle.model_join.proofs.Joining.{join-writes-none}
 use Rattle.memory.proofs.Desks.{full-as, limits-as}
 use Rattle.memory.specs.Calls.{Ran, Told}
+use Rattle.filed_record.specs.Promises.{sittingOf}
 use Rattle.any_order.specs.Claim.{AllAccepted, shown}
 use Rattle.any_order_exported.specs.Runs.{Tables, Holds, deskOf, limits, Answer, EditRun, Seen, LaterRun}
 use Rattle.any_order_exported.specs.Runs as runs
@@ -80,6 +83,19 @@ gives {source} (runs.LaterRun.joined {first = first} {second = second} {calls = 
     let rest = gives r (record { full = full-as (done .lengths) (w .full); well-formed = done .well-formed }) in
     claim.AllGave.cons (join-gave a (join (limits T) first second (deskOf source T)) (done .number-is) (done .value-is) (join-writes-none (limits T) first second (deskOf source T)))
     (subst (AllGave seen) (ap (λ (k : Limits). expected k calls (deskOf source T₁)) u ∙ ap (expected (limits T) calls) (done .desk-is)) rest)
+gives {source} (runs.LaterRun.frozen {from = from} {to = to} {w = w} {b = b} {calls = calls} {T = T} {T₁ = T₁} {a = a} {seen = seen} none x r) h =
+    let k = limits T in
+    let m = deskOf source T in
+    let done = x .taken h [] none tt .becomes in
+    let x₀ = sittingOf source (T .chunks) (T .pieces) (T .store) w b [] in
+    let is : freeze-beside k from to x₀ ≡ edited-beside k (freeze from to) x₀ = freeze-empty k from to x₀ refl in
+    let u : limits T₁ ≡ k = limits-as (done .lengths) in
+    let rest = gives r (record { full = full-as (done .lengths) (h .full); well-formed = done .well-formed }) in
+    let number = done .number-is ∙ ap (λ (o : Answered). o .number) is in
+    let value = done .value-is ∙ ap (λ (o : Answered). o .value) is in
+    let desk = done .desk-is ∙ ap (λ (o : Answered). o .left .desk) is in
+    claim.AllGave.cons (edit-gave a (cuts-left k (freeze from to) m) (run k (freeze from to) m) number value)
+    (subst (AllGave seen) (ap (λ (j : Limits). expected j calls (deskOf source T₁)) u ∙ ap (expected k calls) desk) rest)
 gives {source} (runs.LaterRun.reported {q = q} {T = T} {x = y} x r) w = claim.AllGave.cons (told-gave q (deskOf source T) y (x .well-formed w)) (gives r w)
 
 -- ── the final text ──

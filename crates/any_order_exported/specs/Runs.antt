@@ -1,13 +1,17 @@
 -- Runs of the exported functions, by their contracts: what a caller lends, what it gets back, and what it can see.
 use Prim.Native.Nat.{ℕ}
+use mathlib.Core.Path.{_≡_}
 use mathlib.Core.List.{List, [], _∷_}
+use mathlib.Core.Option.{some}
 use Rattle.model.specs.MagicString.{MagicString}
 use Rattle.model.specs.Limits.{Limits}
-use Rattle.model.specs.Call.{Edit, Report}
+use Rattle.model.specs.Call.{Edit, Report, freeze}
 use Rattle.model_calls.specs.Call.{DeskCall, change, report, join}
 use Rattle.memory.specs.Layout.{magicStringOf}
 use Rattle.memory.specs.WellFormed.{limitsOf, Taken}
 use Rattle.memory.specs.Calls.{Edited, Reported}
+use Rattle.filed_record.specs.Record.{entriesOf}
+use Rattle.filed_record.specs.Promises.{CallFrozen}
 use Rattle.join_lists.specs.Promises.{Joined}
 
 -- the lent tables of a desk
@@ -51,7 +55,7 @@ pub record Seen : Type 0 where
   pub before : List ℕ
   pub after : List ℕ
 
--- an edit and a join take no buffer
+-- an edit, a join and a freezing take no buffer
 abbrev pub seen-edit : Answer → Seen
 seen-edit a = record { answer = a; before = []; after = [] }
 
@@ -65,6 +69,11 @@ abbrev pub JoinCall : List ℕ → List ℕ → List ℕ → Tables → Answer �
 JoinCall source first second T a T₁ =
     Joined first second source (T .chunks) (T .pieces) (T .store) (T₁ .chunks) (T₁ .pieces) (T₁ .store) (record { number = a .number; value = a .value })
 
+-- one freezing beside a record, in slices w and b of its own that are only read, as the contract of its exported function has it (exported_filed.rt)
+abbrev pub FreezeCall : List ℕ → ℕ → ℕ → List ℕ → List ℕ → Tables → Answer → Tables → Type 0
+FreezeCall source from to w b T a T₁ =
+    CallFrozen from to source (T .chunks) (T .pieces) (T .store) w b (T₁ .chunks) (T₁ .pieces) (T₁ .store) (record { number = a .number; value = a .value })
+
 -- "Later calls are any list of this paper's calls on a desk .., refused ones included, run in the same way from what an order of L left": a list of them, and what is seen of each
 pub data LaterRun (source : List ℕ) : List DeskCall → Tables → List Seen → Type 0 where
   done : {T : Tables} → LaterRun source [] T []
@@ -74,3 +83,6 @@ pub data LaterRun (source : List ℕ) : List DeskCall → Tables → List Seen �
       → ReportCall source q T x → LaterRun source calls T seen → LaterRun source (report q ∷ calls) T (x ∷ seen)
   joined : {first second : List ℕ} {calls : List DeskCall} {T T₁ : Tables} {a : Answer} {seen : List Seen}
       → JoinCall source first second T a T₁ → LaterRun source calls T₁ seen → LaterRun source (join first second ∷ calls) T (seen-edit a ∷ seen)
+  -- without calls filed a freezing is an edit of the desk, whatever the record keeps
+  frozen : {from to : ℕ} {w b : List ℕ} {calls : List DeskCall} {T T₁ : Tables} {a : Answer} {seen : List Seen} → entriesOf w b ≡ some []
+      → FreezeCall source from to w b T a T₁ → LaterRun source calls T₁ seen → LaterRun source (change (freeze from to) ∷ calls) T (seen-edit a ∷ seen)

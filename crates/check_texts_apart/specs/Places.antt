@@ -61,6 +61,7 @@ rowEntry t i =
     record {
       start = entryAt t i .start;
       end = entryAt t i .end;
+      frozen = entryAt t i .frozen;
       intro = entryAt t i .intro;
       outro = entryAt t i .outro;
       text = (textStart t i, cell t i TEXT-N);

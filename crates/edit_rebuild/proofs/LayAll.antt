@@ -1,6 +1,6 @@
 -- The loop of a rebuild: entries laid in list order into rows 1, 2, ..
 use mathlib.Core.Path.{_≡_, refl, sym, ap, ap₂, _∙_, subst}
-use mathlib.Core.Bool.{true, cond}
+use mathlib.Core.Bool.{Bool, true, cond}
 use mathlib.Core.List.{List, [], _∷_, _++_, map, map-append, append-assoc, append-nil}
 use mathlib.Core.Option.{Option, none, some}
 use Prim.Native.Nat.{ℕ, zero, suc, _+_, _*_, _-_, _≤_, _<_, min}
@@ -238,8 +238,8 @@ within-room k t p s e =
     let w = within-keeps k (magicStringOf [] t p s) e in
     (omega (arith, w .pieces), omega (arith, w .bytes), omega (arith, w .chunks, length-map (entries t) (chunkOf p s), count-entries t))
 
-chunk-eq : {a a' b b' : ℕ} {x x' y y' : List Text} {w w' : Option Text} → a ≡ a' → b ≡ b' → x ≡ x' → y ≡ y' → w ≡ w'
-    → chunk-of a b (record { intro = x; outro = y; edited-content = w }) ≡ chunk-of a' b' (record { intro = x'; outro = y'; edited-content = w' })
+chunk-eq : {a a' b b' : ℕ} {m : Bool} {x x' y y' : List Text} {w w' : Option Text} → a ≡ a' → b ≡ b' → x ≡ x' → y ≡ y' → w ≡ w'
+    → chunk-of a b m (record { intro = x; outro = y; edited-content = w }) ≡ chunk-of a' b' m (record { intro = x'; outro = y'; edited-content = w' })
 chunk-eq p q r s t = cc
 
 -- the desk's own row has no span and no replacement

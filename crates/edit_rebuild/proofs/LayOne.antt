@@ -150,7 +150,7 @@ chain3 A a B b C c D x y z = omega arith
 pub laid-entry : {p s : List ℕ} {e : Entry} {x : Place} {P S P1 S1 P2 S2 S3 : List ℕ} {byte row byte1 row1 byte2 row2 byte3 : ℕ}
     → LaidRun p s (e .intro .0) (e .intro .1) P S byte row P1 S1 byte1 row1 → LaidRun p s (e .outro .0) (e .outro .1) P1 S1 byte1 row1 P2 S2 byte2 row2
     → LaidText s (e .text) x S2 byte2 S3 byte3
-    → LaidEntry p s e (record { start = e .start; end = e .end; intro = (row, e .intro .1); outro = (row1, e .outro .1); text = x }) P S byte row P2 S3 byte3 row2
+    → LaidEntry p s e (record { start = e .start; end = e .end; frozen = e .frozen; intro = (row, e .intro .1); outro = (row1, e .outro .1); text = x }) P S byte row P2 S3 byte3 row2
 laid-entry {p} {s} {e} {x} {P} {S} {P1} {S1} {P2} {S2} {S3} {byte} {row} {byte1} {row1} {byte2} {row2} {byte3} a b t =
     let g3 : Grown P2 S2 byte2 row2 P2 S3 byte3 row2 = record { pieces = λ j h. refl; store = t .kept; rows-grow = omega arith; bytes-grow = t .grow } in
     let g23 = grown-trans (b .grown) g3 in

@@ -58,7 +58,7 @@ pub record Laying (p s : List ℕ) (us vs : List Entry) (P S : List ℕ) (byte r
 
 -- the desk's own row of a table as an entry
 abbrev pub own : List ℕ → Entry
-own t = record { start = 0; end = 0; intro = entryAt t 0 .intro; outro = entryAt t 0 .outro; text = (NONE, 0) }
+own t = record { start = 0; end = 0; frozen = entryAt t 0 .frozen; intro = entryAt t 0 .intro; outro = entryAt t 0 .outro; text = (NONE, 0) }
 
 -- 1, 2, .., n
 abbrev pub upTo : ℕ → List ℕ

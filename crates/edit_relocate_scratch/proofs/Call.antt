@@ -118,7 +118,7 @@ module _ {source t p s : List ℕ} (a b to : ℕ) (w : WellFormed source t p s) 
 
   module _ (h : all (between source) (a ∷ b ∷ to ∷ []) ≡ true) where
     placed : refused-before (magicStringOf source t p s) (relocate a b to) ≡ 0
-    placed = not-refused (relocate a b to) source t p s refl refl h
+    placed = not-refused (relocate a b to) source t p s refl refl h refl
 
     pub relocate-inside : leb a to && leb to b ≡ true → Ran (relocate a b to) source t p s t p s 8 0
     relocate-inside i = ran-same (relocate a b to) source t p s 8 w placed (steps-inside a b to (magicStringOf source t p s) i)

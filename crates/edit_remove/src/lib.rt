@@ -1,40 +1,41 @@
-// movement.rs: `remove`, and the clearing of a range as a call, which `reset` shares.
+// movement.rs: `remove`, and the change of a range as a call, which `reset` and `freeze` share.
 ghost use Prim.Native.Nat.{_<_};
 ghost use Rattle.model.specs.Call.{remove};
 ghost use Rattle.memory_used.specs.Above.{Above, Desk, Leaves};
-ghost use Rattle.edit_clear_range_steps.specs.Range.{Marked, RangeRan};
+ghost use Rattle.edit_change_range_steps.specs.Range.{EmptyAt, RangeRan};
 use memory_layout::numbers;
+use memory_list::Change;
 use memory_used::Outcome;
 use memory_used::Used;
 
-// `remove` and `reset` past their tests: text_at is 0 for an empty replacement, or the mark for none.
+// `remove`, `reset` and `freeze` past their tests.
 // On the lent rows themselves where two chunks more are within the limit, so that 13 cannot arise: they use no more than before. Else on scratch rows.
-pub fn clear_range_either(
+pub fn change_range_either(
     source: &[u8],
     chunks: &mut [u32],
     pieces: &mut [u32],
     store: &mut [u8],
     a: u32,
     b: u32,
-    text_at: u32,
+    change: Change,
     used: Used,
 ) -> Outcome
     requires { ⌜ Desk (now source) (now chunks) (now pieces) (now store) used ⌝ }
     requires { ⌜ a < b ⌝ }
-    requires { ⌜ Marked «text_at» ⌝ }
-    ensures { λ o. ⌜ RangeRan a b «text_at» (now (source .entry)) (now (chunks .entry)) (now (pieces .entry)) (now (store .entry))
+    requires { ⌜ EmptyAt change ⌝ }
+    ensures { λ o. ⌜ RangeRan change a b (now (source .entry)) (now (chunks .entry)) (now (pieces .entry)) (now (store .entry))
         (now (chunks .exit)) (now (pieces .exit)) (now (store .exit)) (o .number) (o .cuts)
         × Above (now (chunks .exit)) (now (pieces .exit)) (now (store .exit)) (o .used) ⌝ }
 {
     if edit_in_place::has_rows(chunks, 2) {
-        let steps = edit_clear_range_steps::clear_range_steps(chunks, source.len(), a, b, text_at);
+        let steps = edit_change_range_steps::change_range_steps(chunks, source.len(), a, b, change);
         return Outcome {
             number: steps.number,
             cuts: steps.value,
             used,
         };
     }
-    edit_clear_range_scratch::clear_range_scratch(source, chunks, pieces, store, a, b, text_at)
+    edit_change_range_scratch::change_range_scratch(source, chunks, pieces, store, a, b, change)
 }
 
 // `remove`: 3, zero width is a no-op, 4, then the range; an end past the source is accepted.
@@ -66,7 +67,16 @@ pub fn remove(
                 used,
             };
         }
-        return clear_range_either(source, chunks, pieces, store, start, end, 0, used);
+        return change_range_either(
+            source,
+            chunks,
+            pieces,
+            store,
+            start,
+            end,
+            Change::Clear(0),
+            used,
+        );
     }
     Outcome {
         number: numbers::INSIDE_CHARACTER,

@@ -1,1 +1,1 @@
-pub mod ResetTests
+pub mod Tests

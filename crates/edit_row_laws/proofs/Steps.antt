@@ -1,12 +1,12 @@
--- A cut, a clear and a move of rows keep what `Kept` says.
+-- A cut, a change of a range's chunks and a move of rows keep what `Kept` says.
 use mathlib.Core.Path.{_≡_, sym, ap, ap₂, _∙_, fun-ext}
-use mathlib.Core.Bool.{Bool, true, false, _&&_, cond}
+use mathlib.Core.Bool.{Bool, true, false, cond}
 use mathlib.Core.List.{List, [], _∷_, _++_, map}
 use mathlib.Core.Logic.{_⊎_, inl, inr}
 use Prim.Native.Nat.{ℕ, _+_, _≤_, _<_}
 use native.Mathlib.Omega.{arith}
 use native.Mathlib.Decide.{ℕ-discrete}
-use lib.Dec.{leb, ltb, eqb}
+use lib.Dec.{eqb}
 use borrow.Author.Tests.{eq-eqb, ne-eqb}
 use Rattle.memory_table.proofs.Ring.{each-map}
 use Rattle.memory_table.specs.Ring.{Not}
@@ -21,7 +21,9 @@ use Rattle.memory_list.specs.Insert.{Placed, runsOf}
 use Rattle.memory_list.proofs.Insert.{startF}
 use Rattle.memory_list.specs.Split.{first, second, SplitRow}
 use Rattle.memory_list.proofs.Split.{entries-at}
-use Rattle.memory_list.specs.Clear.{clearIn, ClearDone}
+use Rattle.memory_list.specs.declared.Change.{Change}
+use Rattle.memory_list.specs.declared.Change.the-variants.{Clear, Freeze}
+use Rattle.memory_list.specs.Changes.{changedBy, startsIn, changeIn, ChangeDone}
 use Rattle.memory_list.specs.Move.{Parts, swapped, MoveAt, MoveDone}
 use Rattle.edit_row_laws.specs.Counted.{countIn, Counts}
 use Rattle.edit_row_laws.specs.Kept.{Kept}
@@ -76,21 +78,26 @@ split-kept t t' i q l w d n =
           );
     }
 
--- ── a clear ──
-clear-less : (f g : Place → ℕ) → Counts f g → (a b v : ℕ) (es : List Entry) → sum (countIn f g) (map (clearIn a b v) es) ≤ sum (countIn f g) es
-clear-less f g c a b v [] = omega arith
-clear-less f g c a b v (e ∷ es) = let r = clear-less f g c a b v es in let o = one (leb a (e .start) && ltb (e .start) b) in omega arith
-  where
-    one : (x : Bool) → countIn f g (cond x (record { start = e .start; end = e .end; intro = (0, 0); outro = (0, 0); text = (v, 0) }) e) ≤ countIn f g e
-    one true = omega (arith, c .no-pieces 0, c .no-bytes v)
-    one false = omega arith
+-- ── a change of the chunks of a range ──
+module _ (f g : Place → ℕ) (c : Counts f g) (x : Change) (a b : ℕ) where
+  changed-less : (y : Change) (e : Entry) → countIn f g (changedBy y e) ≤ countIn f g e
+  changed-less (Clear v) e = omega (arith, c .no-pieces 0, c .no-bytes v)
+  changed-less Freeze e = omega arith
 
-pub clear-kept : (t t' : List ℕ) (a b v : ℕ) → ClearDone t t' a b v → Kept t t'
-clear-kept t t' a b v d =
+  change-less : (es : List Entry) → sum (countIn f g) (map (changeIn x a b) es) ≤ sum (countIn f g) es
+  change-less [] = omega arith
+  change-less (e ∷ es) = let r = change-less es in let o = one (startsIn a b e) in omega arith
+    where
+      one : (h : Bool) → countIn f g (cond h (changedBy x e) e) ≤ countIn f g e
+      one true = changed-less x e
+      one false = omega arith
+
+pub change-kept : (x : Change) (a b : ℕ) (t t' : List ℕ) → ChangeDone x a b t t' → Kept t t'
+change-kept x a b t t' d =
     record {
-      each = λ h x x0 xc. ap (times x) (d .place) ∙ h x x0 (omega (arith, ap startF (d .desk)));
+      each = λ h i i0 ic. ap (times i) (d .place) ∙ h i i0 (omega (arith, ap startF (d .desk)));
       desk = ap runsOf (d .desk);
-      less = λ f g c. omega (arith, ap (sum (countIn f g)) (d .chunks), clear-less f g c a b v (entries t));
+      less = λ f g c. omega (arith, ap (sum (countIn f g)) (d .chunks), change-less f g c x a b (entries t));
     }
 
 -- ── a move ──

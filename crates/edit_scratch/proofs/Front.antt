@@ -53,8 +53,8 @@ rowFn g i =
       «outro_n» = g (i * ROW + 7);
       «text_at» = g (i * ROW + 8);
       «text_n» = g (i * ROW + 9);
-      spare0 = g (i * ROW + 10);
-      spare1 = g (i * ROW + 11);
+      frozen = g (i * ROW + 10);
+      spare = g (i * ROW + 11);
     }
 
 module _ (t t' : List ℕ) (same : (k : ℕ) → getD t' k 0 ≡ getD t k 0) where

@@ -1,6 +1,6 @@
 -- Laws of what `Tables` in specs/ defines.
 use mathlib.Core.Path.{_≡_, refl, sym, ap, _∙_, subst}
-use mathlib.Core.Bool.{true, false}
+use mathlib.Core.Bool.{true, false, _&&_, and-false}
 use mathlib.Core.List.{List, []}
 use Prim.Native.Nat.{ℕ, suc, _≤_, _<_}
 use native.Mathlib.Omega.{arith}
@@ -11,7 +11,8 @@ use Rattle.memory_table.specs.Order.{countOf}
 use Rattle.model.specs.MagicString.{MagicString, Result, err}
 use Rattle.model.specs.Limits.{Limits, full, within, byte-count}
 use Rattle.model.specs.Text.{all}
-use Rattle.model.specs.Call.{Edit, options-valid, texts, positions, idle, steps, refused-before, judged, run, may-change}
+use Rattle.model.specs.Frozen.{any-frozen}
+use Rattle.model.specs.Call.{Edit, options-valid, texts, positions, whole, idle, steps, refused-before, judged, run, may-change}
 use Rattle.utf8.specs.Rfc3629.{utf8, between}
 use Rattle.model.specs.WellFormed as model
 use Rattle.memory.specs.Layout.{magicStringOf}
@@ -118,7 +119,7 @@ still e source t p s r w q =
       same = λ _. all-same t p s;
     }
 
--- ── 1 and 3 ──
+-- ── 1, 3, and 20 for the whole desk ──
 module _ (e : Edit) (source t p s : List ℕ) (o : options-valid e ≡ true) where
   pub refused-1 : all utf8 (texts e) ≡ false → refused-before (magicStringOf source t p s) e ≡ 1
   unfolding refused-before magicStringOf
@@ -128,9 +129,14 @@ module _ (e : Edit) (source t p s : List ℕ) (o : options-valid e ≡ true) whe
   unfolding refused-before magicStringOf
   refused-3 h k = rw (o, h, k)
 
-  pub not-refused : all utf8 (texts e) ≡ true → all (between source) (positions e) ≡ true → refused-before (magicStringOf source t p s) e ≡ 0
-  unfolding refused-before magicStringOf
-  not-refused h k = rw (o, h, k)
+  module _ (h : all utf8 (texts e) ≡ true) (k : all (between source) (positions e) ≡ true) where
+    pub refused-20 : whole e && any-frozen (magicStringOf source t p s) ≡ true → refused-before (magicStringOf source t p s) e ≡ 20
+    unfolding refused-before magicStringOf
+    refused-20 f = rw (o, h, k, f)
+
+    pub not-refused : whole e && any-frozen (magicStringOf source t p s) ≡ false → refused-before (magicStringOf source t p s) e ≡ 0
+    unfolding refused-before magicStringOf
+    not-refused f = rw (o, h, k, f)
 
 pub ran-before : (e : Edit) (source t p s : List ℕ) (n r : ℕ) → WellFormed source t p s → refused-before (magicStringOf source t p s) e ≡ suc n → r ≡ suc n
     → Ran e source t p s t p s r 0
@@ -161,9 +167,12 @@ did-loaded {f} {source} {t2 = t2} {r = r} w c d l =
     }
 
 -- ── which answers may write ──
-pub may-write-0 : (e : Edit) → idle e ≡ false → may-write e 0 ≡ true
+pub may-write-busy : (e : Edit) (n : ℕ) → idle e ≡ false → may-change e n ≡ true → may-write e n ≡ true
 unfolding may-write
-may-write-0 e h = rw h
+may-write-busy e n h k = rw (h, k, and-false)
+
+pub may-write-0 : (e : Edit) → idle e ≡ false → may-write e 0 ≡ true
+may-write-0 e h = may-write-busy e 0 h refl
 
 -- a number that leaves something
 pub may-write-leaving : (e : Edit) (n : ℕ) → may-change e (suc n) ≡ true → may-write e (suc n) ≡ true

@@ -80,7 +80,7 @@ desk-small source t p s e =
     let kept = within-keeps full m e in
     let a = kept .pieces in
     let b = kept .bytes in
-    let own : Entry = record { start = 0; end = 0; intro = entryAt t 0 .intro; outro = entryAt t 0 .outro; text = (NONE, 0) } in
+    let own : Entry = record { start = 0; end = 0; frozen = entryAt t 0 .frozen; intro = entryAt t 0 .intro; outro = entryAt t 0 .outro; text = (NONE, 0) } in
     let c = small-own p s own (omega (arith, a)) (omega (arith, b)) in
     record {
       desk = record { intro = c .intro; outro = c .outro };

@@ -33,7 +33,7 @@ module _ {source t p s : List ℕ} (a b : ℕ) (text : List ℕ) (o : Bool) (w :
 
     module _ (h : all (between source) (a ∷ b ∷ []) ≡ true) where
       pub update-asked : refused-before (magicStringOf source t p s) (update-with a b text o) ≡ 0
-      update-asked = not-refused (update-with a b text o) source t p s refl (rw v) h
+      update-asked = not-refused (update-with a b text o) source t p s refl (rw v) h refl
 
       pub update-no-width : a ≡ b → Ran (update-with a b text o) source t p s t p s 5 0
       update-no-width e = ran-same (update-with a b text o) source t p s 5 w update-asked (steps-same a b text o (magicStringOf source t p s) e)

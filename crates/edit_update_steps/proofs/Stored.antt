@@ -11,8 +11,9 @@ use Rattle.memory_layout.specs.Layout.{STORE-LEN}
 use Rattle.model.specs.MagicString.{MagicString, Result, ok, err, and-then, with-chunks, at-start}
 use Rattle.model.specs.Chunk.{edit}
 use Rattle.model.specs.Limits.{full, within}
+use Rattle.model.specs.Frozen.{has-frozen, unless-guarded}
 use Rattle.model.specs.Update.{update-chunks}
-use Rattle.model.specs.Call.{update-with, idle}
+use Rattle.model.specs.Call.{update-with, idle, may-change}
 use Rattle.memory.specs.Layout.{magicStringOf}
 use Rattle.memory.specs.WellFormed.{Readable}
 use Rattle.memory.specs.Calls.{may-write}
@@ -20,8 +21,10 @@ use Rattle.memory.proofs.Desks.{source-of}
 use Rattle.memory_texts.specs.Over.{over}
 use Rattle.memory_texts.proofs.Over.{over-nil, over-behind}
 use Rattle.memory_list.specs.declared.Found.the-variants.{At, Nothing}
+use Rattle.memory_frozen.specs.Frozen.{frozenIn}
+use Rattle.memory_frozen.proofs.Frozen.{frozen-within}
 use Rattle.edit_scratch.proofs.Front.{desk-front}
-use Rattle.edit_scratch.proofs.Tables.{past-bytes, may-write-0, may-write-leaving}
+use Rattle.edit_scratch.proofs.Tables.{past-bytes, may-write-busy, may-write-0, may-write-leaving}
 use Rattle.edit_scratch.specs.Tables.{Did}
 use Rattle.edit_split_at.specs.Cuts.{Spans, CutsDone}
 use Rattle.edit_split_at.proofs.Cuts.{stop}
@@ -35,10 +38,6 @@ use Rattle.edit_update_steps.specs.Stored.{stored, UpdateSteps}
 
 pub stored-none : (r : ℕ) (text : List ℕ) → (r ≡ 0 → ⊥) → stored r text ≡ []
 stored-none r text h = rw (ne-eqb r 0 h)
-
-may-write-10 : (a b : ℕ) (text : List ℕ) (o : Bool) → may-write (update-with a b text o) 10 ≡ true
-unfolding may-write
-may-write-10 a b text o = refl
 
 busy : (a b : ℕ) (text : List ℕ) (o : Bool) → idle (update-with a b text o) ≡ false
 busy a b text o = refl
@@ -79,29 +78,40 @@ module _ (a b : ℕ) (text : List ℕ) (o : Bool) (n at : ℕ) (t t1 s1 : List �
     size : (source p s : List ℕ) → length source ≡ n → length (magicStringOf source t1 p s .source) ≡ n
     size source p s ln = ap length (source-of source t1 p s) ∙ ln
 
-    pub update-either-end : n < b → UpdateSteps a b text o n at t s1 t1 s1 10 v
-    update-either-end h =
+    -- a refusal behind the cuts, which stay
+    stopped : (k : ℕ) → (k ≡ 0 → ⊥) → (k ≡ 13 → ⊥) → may-change (update-with a b text o) k ≡ true
+        → ((source p s : List ℕ) → length source ≡ n → update-step a b text o (magicStringOf source t1 p s) ≡ err k (magicStringOf source t1 p s))
+        → UpdateSteps a b text o n at t s1 t1 s1 k v
+    stopped k k0 k13 may q =
         record {
           leave = λ _ source p s y z ln rd sp ls.
-              kept y z
-              (record {
-                readable = c .readable p s rd;
-                result = cut source p s rd sp ∙ rw (lt-ltb (length (magicStringOf source t1 p s .source)) b (omega (arith, size source p s ln)));
-                cuts = c .count;
-              });
-          long = λ z. absurd (omega arith);
-          no-cuts = λ z. absurd (omega arith);
-          writes = λ _. may-write-10 a b text o;
-          short = λ _ z. omega arith;
+              rw (stored-none k text k0) (kept y z (record { readable = c .readable p s rd; result = cut source p s rd sp ∙ q source p s ln; cuts = c .count }));
+          long = λ z. absurd (k13 z);
+          no-cuts = λ z. absurd (k13 z);
+          writes = λ _. may-write-busy (update-with a b text o) k (busy a b text o) may;
+          short = λ _ z. k13 z;
           replaced = kept-replaced (at, length text) (c .kept);
           count = omega (arith, c .count, c .few);
-          store = over-nil s1 at;
+          store = over-nil s1 at ∙ ap (over s1 at) (sym (stored-none k text k0));
         }
 
-    module _ (h : b ≤ n) where
+    pub update-either-end : n < b → UpdateSteps a b text o n at t s1 t1 s1 10 v
+    update-either-end h =
+        stopped 10 (λ z. omega arith) (λ z. omega arith) refl (λ source p s ln. rw (lt-ltb (length (magicStringOf source t1 p s .source)) b (omega (arith, size source p s ln))))
+
+    not-past : b ≤ n → (source p s : List ℕ) → length source ≡ n
+        → update-step a b text o (magicStringOf source t1 p s) ≡ unless-guarded has-frozen a b (magicStringOf source t1 p s) (update-chunks a b text o (magicStringOf source t1 p s))
+    not-past h source p s ln = rw (le-ltb (length (magicStringOf source t1 p s .source)) b (omega (arith, size source p s ln)))
+
+    pub update-frozen : b ≤ n → frozenIn false a b t1 ≡ true → UpdateSteps a b text o n at t s1 t1 s1 20 v
+    update-frozen h f =
+        stopped 20 (λ z. omega arith) (λ z. omega arith) refl
+        (λ source p s ln. not-past h source p s ln ∙ rw (sym (frozen-within source t1 p s a b) ∙ f))
+
+    module _ (h : b ≤ n) (f : frozenIn false a b t1 ≡ false) where
       inside : (source p s : List ℕ) → length source ≡ n → Readable t p s → Spans source t p s → update-past a b text o (magicStringOf source t p s) ≡
           update-chunks a b text o (magicStringOf source t1 p s)
-      inside source p s ln rd sp = cut source p s rd sp ∙ rw (le-ltb (length (magicStringOf source t1 p s .source)) b (omega (arith, size source p s ln)))
+      inside source p s ln rd sp = cut source p s rd sp ∙ not-past h source p s ln ∙ rw (sym (frozen-within source t1 p s a b) ∙ f)
 
       pub update-broken : (t2 : List ℕ) → Walked a b t1 t2 Nothing → UpdateSteps a b text o n at t s1 t2 s1 7 v
       update-broken t2 d =
@@ -145,22 +155,22 @@ module _ (a b : ℕ) (text : List ℕ) (o : Bool) (n at : ℕ) (t t1 s1 : List �
             }
 
         pub update-done : (t3 s3 : List ℕ) → at ≤ STORE-LEN → FirstEdited o at text t2 s1 t3 s3 i → length t3 ≡ length t2 → UpdateSteps a b text o n at t s1 t3 s3 0 v
-        update-done t3 s3 few f len =
+        update-done t3 s3 few g len =
             record {
               leave = λ _ source p s y z ln rd sp ls.
                   let rd2 = walked-readable a b text o source p s t1 t2 (c .readable p s rd) d in
                   record {
-                    readable = edit-readable a o at text p s y z t2 t3 i (f .row) (d .ended .1) rd2 few ls (f .edited) (f .put) len;
-                    result = came source p s ln rd sp ∙ ap ok (sym (edit-desk a o at text p s y z t2 t3 i (f .row) (d .ended .1) rd2 few ls (f .edited) (f .put) len source));
-                    cuts = omega (arith, c .count, walked-count d, edited-count first f (d .linked) len);
+                    readable = edit-readable a o at text p s y z t2 t3 i (g .row) (d .ended .1) rd2 few ls (g .edited) (g .put) len;
+                    result = came source p s ln rd sp ∙ ap ok (sym (edit-desk a o at text p s y z t2 t3 i (g .row) (d .ended .1) rd2 few ls (g .edited) (g .put) len source));
+                    cuts = omega (arith, c .count, walked-count d, edited-count first g (d .linked) len);
                   };
               long = λ z. absurd (omega arith);
               no-cuts = λ z. absurd (omega arith);
               writes = λ _. may-write-0 (update-with a b text o) (busy a b text o);
               short = λ _ z. omega arith;
-              replaced = replaced-then (kept-then (c .kept) (walked-kept d)) (edited-replaced first f (d .linked) len);
-              count = omega (arith, c .count, c .few, walked-count d, edited-count first f (d .linked) len);
-              store = f .store;
+              replaced = replaced-then (kept-then (c .kept) (walked-kept d)) (edited-replaced first g (d .linked) len);
+              count = omega (arith, c .count, c .few, walked-count d, edited-count first g (d .linked) len);
+              store = g .store;
             }
           where
             first : Placed t2 i

@@ -23,7 +23,7 @@ onto e w = record { done = w .done; list = e ∷ w .list }
 
 -- no pieces, and an empty replacement
 abbrev pub emptied : Entry → Entry
-emptied e = record { start = e .start; end = e .end; intro = (0, 0); outro = (0, 0); text = (0, 0) }
+emptied e = record { start = e .start; end = e .end; frozen = e .frozen; intro = (0, 0); outro = (0, 0); text = (0, 0) }
 
 -- `clear-run` of the model
 abbrev pub runs : ℕ → ℕ → List Entry → RunWalk

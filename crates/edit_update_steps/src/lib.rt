@@ -102,7 +102,7 @@ pub fn edit_first(text: &[u8], t: &mut [u32], s: &mut [u8], i: u32, overwrite: b
     memory_table::put_row(t, i, edited(c, byte as u32, text.len() as u32, overwrite));
 }
 
-// The steps past 5 and 4: two cuts, 10, the walk and its 7, and the edit, with the text at `byte`; 13 where the text alone is longer than the store.
+// The steps past 5 and 4: two cuts, 10, 20, the walk and its 7, and the edit, with the text at `byte`; 13 where the text alone is longer than the store.
 pub fn update_steps(
     text: &[u8],
     t: &mut [u32],
@@ -124,6 +124,10 @@ pub fn update_steps(
     }
     if len < end as usize {
         answer.number = numbers::PAST_SOURCE;
+        return answer;
+    }
+    if memory_frozen::frozen_within(t, start, end) {
+        answer.number = numbers::FROZEN;
         return answer;
     }
     let Found::At(i) = update_walk(t, start, end) else {

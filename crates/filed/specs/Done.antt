@@ -13,14 +13,14 @@ use Rattle.model.specs.Call.{after, answers}
 use Rattle.model_sheet.specs.Record.{Recorded, records}
 use Rattle.model_sheet.specs.Sheet.{calls-of}
 use Rattle.model_filed.specs.Filed.{Entry}
-use Rattle.filed_record.specs.Record.{entriesOf}
+use Rattle.filed_record.specs.Record.{entriesOf, KeptTaken}
 use Rattle.filed_record.specs.Promises.{FiledOn, WithdrawnOn}
 
 abbrev pub Files : List ℕ → List ℕ → List ℕ → List ℕ → List ℕ → List ℕ → List ℕ → List ℕ → List ℕ → List ℕ → List ℕ → List ℕ → Answer → Type 0
-Files call source t p s w b t′ p′ s′ w′ b′ r = (l : List Entry) → entriesOf w b ≡ some l → FiledOn call source t p s w b t′ p′ s′ w′ b′ l r
+Files call source t p s w b t′ p′ s′ w′ b′ r = (l : List Entry) → entriesOf w b ≡ some l → KeptTaken source w b l → FiledOn call source t p s w b t′ p′ s′ w′ b′ l r
 
 abbrev pub Withdraws : ℕ → List ℕ → List ℕ → List ℕ → List ℕ → List ℕ → List ℕ → List ℕ → List ℕ → List ℕ → List ℕ → List ℕ → Answer → Type 0
-Withdraws k source t p s w b t′ p′ s′ w′ b′ r = (l : List Entry) → entriesOf w b ≡ some l → WithdrawnOn k source t p s w b t′ p′ s′ w′ b′ l r
+Withdraws k source t p s w b t′ p′ s′ w′ b′ r = (l : List Entry) → entriesOf w b ≡ some l → KeptTaken source w b l → WithdrawnOn k source t p s w b t′ p′ s′ w′ b′ l r
 
 -- the calls in the first u bytes are run from a desk, and their answers written
 pub record RunAnew (list : List Recorded) (source t p s b t′ p′ s′ b′ : List ℕ) : Type 0 where

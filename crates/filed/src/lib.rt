@@ -1,21 +1,21 @@
-// Calls filed and withdrawn, on a desk and a record in lent memory (document 02, L5).
+// Calls filed and withdrawn, on a desk and a record in lent memory (document 02, L5 and L8).
 ghost use mathlib.Core.Path.{_≡_};
 ghost use lib.ListN.{length, take};
 ghost use Prim.Native.Nat.{_≤_};
 ghost use Rattle.memory_layout.specs.Layout.{RECORD-ANSWERS, RECORD-BYTES-LEN};
 ghost use Rattle.model_filed.specs.Filed.{MOST-CALLS};
-ghost use Rattle.memory.specs.WellFormed.{WellFormed};
+ghost use Rattle.memory.specs.WellFormed.{Full, Taken};
 ghost use Rattle.memory_used.specs.Above.{Desk};
 ghost use Rattle.sheet_records.specs.Found.{Counted};
-ghost use Rattle.filed_record.specs.Record.{Holds};
+ghost use Rattle.filed_record.specs.Record.{keptChunks, keptPieces, keptStore, Holds};
 ghost use Rattle.filed.specs.Done.{Files, Withdraws, RunsAnew};
 use filed_record::Size;
 use filed_record::call::Filing;
 use memory::Answer;
 use memory_used::Used;
 
-// Files a call: 16 where it is not exactly one record and 13 where it is one too many change nothing. Else its core call is made on the desk, and it stands behind the
-// others with that call's number, whatever this is.
+// Files a call: 16 where it is not exactly one record and 13 where it is one too many change nothing. Else the first call keeps the desk in the record, its core call is made on
+// the desk, and it stands behind the others with that call's number, whatever this is.
 pub fn file(
     source: &[u8],
     chunks: &mut [u32],
@@ -28,6 +28,7 @@ pub fn file(
     used: Used,
 ) -> Answer
     requires { ⌜ Desk (now source) (now chunks) (now pieces) (now store) used ⌝ }
+    requires { ⌜ Full (now chunks) (now pieces) (now store) ⌝ }
     requires { ⌜ Holds (now words) (now bytes) size ⌝ }
     ensures { λ r. ⌜ Files (now (call .entry)) (now (source .entry)) (now (chunks .entry)) (now (pieces .entry)) (now (store .entry)) (now (words .entry)) (now (bytes .entry))
         (now (chunks .exit)) (now (pieces .exit)) (now (store .exit)) (now (words .exit)) (now (bytes .exit)) r ⌝ }
@@ -40,6 +41,7 @@ pub fn file(
             c,
             text_at,
         } => {
+            filed_kept::keep_first(chunks, pieces, store, words, bytes, size.count);
             let text = &call[text_at..];
             let o = sheet_run::core_call::core_call(
                 source,
@@ -95,7 +97,7 @@ fn run_anew(
     filed_entries::put_answers(bytes, &answers[0..n]);
 }
 
-// Withdraws the k-th call, from 1 on: 17 where there is none, which changes nothing. Else the others are run from a fresh desk.
+// Withdraws the k-th call, from 1 on: 17 where there is none, which changes nothing. Else the others are run from the kept desk, which uses no more than `start` says.
 pub fn withdraw(
     source: &[u8],
     chunks: &mut [u32],
@@ -105,9 +107,11 @@ pub fn withdraw(
     bytes: &mut [u8],
     k: u32,
     size: Size,
+    start: Used,
 ) -> Answer
-    requires { ⌜ WellFormed (now source) (now chunks) (now pieces) (now store) ⌝ }
+    requires { ⌜ Taken (now source) (now chunks) (now pieces) (now store) ⌝ }
     requires { ⌜ Holds (now words) (now bytes) size ⌝ }
+    requires { ⌜ ((size .count ≡ 0 → ⊥) → Desk (now source) (keptChunks (now words)) (keptPieces (now words)) (keptStore (now bytes)) start) ⌝ }
     ensures { λ r. ⌜ Withdraws k (now (source .entry)) (now (chunks .entry)) (now (pieces .entry)) (now (store .entry)) (now (words .entry)) (now (bytes .entry))
         (now (chunks .exit)) (now (pieces .exit)) (now (store .exit)) (now (words .exit)) (now (bytes .exit)) r ⌝ }
 {
@@ -116,7 +120,7 @@ pub fn withdraw(
         return Answer { number, value: 0 };
     }
     let used = filed_entries::take_out(words, bytes, size, memory_layout::wide(k) - 1);
-    let start = open::open_rows(source, chunks, pieces, store);
+    filed_kept::put_back(words, bytes, chunks, pieces, store);
     run_anew(
         source,
         chunks,

@@ -1,19 +1,16 @@
-// Filing and withdrawing on any memory: 2 where it holds no well-formed desk or no well-formed record, then the call (document 02, L5).
+// Filing, withdrawing and freezing on any memory: 2 where it holds no well-formed desk or no well-formed record, then the call (document 02, L5 and L8).
 ghost use mathlib.Core.Path.{_≡_};
-ghost use Rattle.filed_record.specs.Promises.{CallFiled, CallWithdrawn};
+ghost use Rattle.filed_record.specs.Promises.{CallFiled, CallWithdrawn, CallFrozen};
 use check_well_formed::Seen;
-use filed_record::Held;
+use filed_taken::Beside;
 use memory::Answer;
 use memory_layout::numbers;
 
-// No desk, or no record.
-fn not_well_formed() -> Answer
-    ensures { λ r. ⌜ (r .number ≡ 2) × (r .value ≡ 0) ⌝ }
+// A number, and no cuts.
+fn refused(number: u32) -> Answer
+    ensures { λ r. ⌜ (r .number ≡ number) × (r .value ≡ 0) ⌝ }
 {
-    Answer {
-        number: numbers::NOT_WELL_FORMED,
-        value: 0,
-    }
+    Answer { number, value: 0 }
 }
 
 // Makes the call and files it.
@@ -30,10 +27,10 @@ pub fn file(
         (now (chunks .exit)) (now (pieces .exit)) (now (store .exit)) (now (words .exit)) (now (bytes .exit)) r ⌝ }
 {
     let Seen::Desk(used) = check_well_formed::taken(source, chunks, pieces, store) else {
-        return not_well_formed();
+        return refused(numbers::NOT_WELL_FORMED);
     };
-    let Held::Record(size) = filed_record::judge_record(words, bytes) else {
-        return not_well_formed();
+    let Beside::Record { size, kept } = filed_taken::record_taken(source, words, bytes) else {
+        return refused(numbers::NOT_WELL_FORMED);
     };
     filed::file(
         source,
@@ -62,10 +59,40 @@ pub fn withdraw(
         (now (chunks .exit)) (now (pieces .exit)) (now (store .exit)) (now (words .exit)) (now (bytes .exit)) r ⌝ }
 {
     if check_well_formed::well_formed(source, chunks, pieces, store) {
-        let Held::Record(size) = filed_record::judge_record(words, bytes) else {
-            return not_well_formed();
+        let Beside::Record { size, kept } = filed_taken::record_taken(source, words, bytes) else {
+            return refused(numbers::NOT_WELL_FORMED);
         };
-        return filed::withdraw(source, chunks, pieces, store, words, bytes, k, size);
+        return filed::withdraw(source, chunks, pieces, store, words, bytes, k, size, kept);
     }
-    not_well_formed()
+    refused(numbers::NOT_WELL_FORMED)
+}
+
+// Freezes a range of the desk: 20 where calls are filed.
+pub fn freeze(
+    source: &[u8],
+    chunks: &mut [u32],
+    pieces: &mut [u32],
+    store: &mut [u8],
+    words: &[u32],
+    bytes: &[u8],
+    start: u32,
+    end: u32,
+) -> Answer
+    ensures { λ r. ⌜ CallFrozen start end (now (source .entry)) (now (chunks .entry)) (now (pieces .entry)) (now (store .entry)) (now (words .entry)) (now (bytes .entry))
+        (now (chunks .exit)) (now (pieces .exit)) (now (store .exit)) r ⌝ }
+{
+    let Seen::Desk(used) = check_well_formed::taken(source, chunks, pieces, store) else {
+        return refused(numbers::NOT_WELL_FORMED);
+    };
+    let Beside::Record { size, kept } = filed_taken::record_taken(source, words, bytes) else {
+        return refused(numbers::NOT_WELL_FORMED);
+    };
+    if size.count != 0 {
+        return refused(numbers::FROZEN);
+    }
+    let o = edit_freeze::freeze(source, chunks, pieces, store, start, end, used);
+    Answer {
+        number: o.number,
+        value: o.cuts,
+    }
 }

@@ -7,9 +7,9 @@ use native.Mathlib.Numerals.{add-one}
 use native.Mathlib.Omega.{arith}
 use lib.ListN.{length, getD, take, drop, length-drop}
 use lib.Seq.{length-take-le, take-take}
-use Rattle.memory_layout.specs.Layout.{RECORD-ANSWERS}
+use Rattle.memory_layout.specs.Layout.{RECORD-ANSWERS, KEPT-STORE}
 use Rattle.memory_texts.specs.Over.{over}
-use Rattle.memory_texts.proofs.Over.{length-over, take-over-all, take-before, drop-at-over, getD-over, getD-before}
+use Rattle.memory_texts.proofs.Over.{length-over, take-over-all, drop-over, take-before, drop-at-over, getD-over, getD-before}
 use Rattle.model_sheet.specs.Record.{Recorded, records, text-size}
 use Rattle.model_sheet.proofs.Records.{records-append}
 use Rattle.model_filed.specs.Filed.{Entry, with-answers, MOST-CALLS, without}
@@ -17,7 +17,7 @@ use Rattle.model_filed.proofs.Filing.{with-front}
 use Rattle.sheet_records.specs.Found.{Counted}
 use Rattle.filed_record.specs.declared.Size.{Size}
 use Rattle.filed_record.specs.Record.{entriesOf, Holds}
-use Rattle.filed_record.specs.Promises.{KeptBehind}
+use Rattle.filed_record.specs.Promises.{KeptBehind, SameKept}
 use Rattle.filed_record.proofs.Holding.{holds-entries}
 use Rattle.filed_entries.specs.Entries.{EntryOut}
 
@@ -45,7 +45,7 @@ take-drop (suc n) (suc m) [] = nothing (suc m - suc n)
     nothing (suc k) = refl
 take-drop (suc n) (suc m) (x ∷ l) = take-drop n m l ∙ ap (λ k. take k (drop n l)) (let e : m - n ≡ suc m - suc n = omega arith in e)
 
-module _ {w b : List ℕ} {z : Size} (h : Holds w b z) {i : ℕ} (few : i < z .count) {w₁ b₁ : List ℕ} {u : ℕ} (e : EntryOut i z b w₁ b₁ u) where
+module _ {w b : List ℕ} {z : Size} (h : Holds w b z) {i : ℕ} (few : i < z .count) {w₁ b₁ : List ℕ} {u : ℕ} (e : EntryOut i z w b w₁ b₁ u) where
   -- the calls that are left
   abbrev pub others : List Recorded
   others = without (i + 1) (h .list)
@@ -97,6 +97,10 @@ module _ {w b : List ℕ} {z : Size} (h : Holds w b z) {i : ℕ} (few : i < z .c
   pub out-counted : (n : ℕ) → n ≡ z .count - 1 → Counted (take u b₁) MOST-CALLS n
   out-counted n q = record { list = others; are = out-calls; count = omega (arith, others-count); few = omega (arith, h .few) }
 
+  -- the kept desk stands behind all calls
+  pub out-same-kept : SameKept w b w₁ b₁
+  out-same-kept = record { tables = e .tables; store = ap (drop KEPT-STORE) (e .closed) ∙ drop-over b (e .at) moved at-low KEPT-STORE (omega (arith, moved-long, next-low, h .room)) }
+
   module _ (ns : List ℕ) {b₂ : List ℕ} (written : b₂ ≡ over b₁ RECORD-ANSWERS ns) (long : length ns ≡ length others) (same : length w₁ ≡ length w) where
     fits : RECORD-ANSWERS + length ns ≤ length b₁
     fits = omega (arith, others-count, h .few, out-long, h .bytes)
@@ -137,5 +141,12 @@ module _ {w b : List ℕ} {z : Size} (h : Holds w b z) {i : ℕ} (few : i < z .c
         ap (λ l. getD l j 0) (e .closed) ∙ getD-over b (e .at) moved at-low j (omega (arith, moved-long, next-low)) in
         record {
           calls = λ j h₁ h₂ h₃. ap (λ l. getD l j 0) written ∙ getD-before b₁ RECORD-ANSWERS ns low j h₃ ∙ kept j (omega (arith, h .used));
-          answers = λ j h₁ h₂. ap (λ l. getD l j 0) written ∙ getD-over b₁ RECORD-ANSWERS ns low j (omega (arith, others-count)) ∙ kept j (omega (arith, h .room));
+          answers = λ j h₁ h₂ h₃. ap (λ l. getD l j 0) written ∙ getD-over b₁ RECORD-ANSWERS ns low j (omega (arith, others-count)) ∙ kept j (omega (arith, h .room));
         }
+
+    -- and behind all answers
+    pub new-same-kept : SameKept w b w₁ b₂
+    new-same-kept = record {
+      tables = e .tables;
+      store = ap (drop KEPT-STORE) written ∙ drop-over b₁ RECORD-ANSWERS ns low KEPT-STORE (omega (arith, long, others-count, h .few)) ∙ out-same-kept .store;
+    }

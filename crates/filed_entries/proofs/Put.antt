@@ -6,7 +6,7 @@ use mathlib.Core.Option.{Option, some}
 use native.Mathlib.Omega.{arith}
 use lib.ListN.{length, getD, set, take, drop, length-set, length-append, length-drop}
 use lib.Seq.{length-take-le, take-set-le, getD-set-other}
-use Rattle.memory_layout.specs.Layout.{RECORD-ANSWERS}
+use Rattle.memory_layout.specs.Layout.{RECORD-ANSWERS, KEPT-STORE}
 use Rattle.memory_texts.specs.Over.{over}
 use Rattle.memory_texts.proofs.Over.{length-over, take-over-all, drop-over, getD-over}
 use Rattle.model.proofs.Lists.{sum-snoc}
@@ -18,7 +18,7 @@ use Rattle.model_filed.proofs.Filing.{single, single-records}
 use Rattle.filed_record.specs.declared.Size.{Size}
 use Rattle.filed_record.specs.Record.{callsOf, answersOf, entriesOf, Holds}
 use Rattle.filed_record.specs.Judged.{FilesCall}
-use Rattle.filed_record.specs.Promises.{KeptBehind}
+use Rattle.filed_record.specs.Promises.{KeptBehind, SameKept}
 use Rattle.filed_record.proofs.Holding.{holds-entries}
 use Rattle.filed_record.proofs.Calls.{files-text}
 use Rattle.filed_entries.specs.Entries.{EntryPut}
@@ -36,6 +36,12 @@ drop-set zero n x l = ap (λ i. set l i x) (let e : 0 + n ≡ n = omega arith in
 drop-set (suc a) n x [] = refl
 drop-set (suc a) n x (y ∷ l) = ap (λ i. drop (suc a) (set (y ∷ l) i x)) (let e : suc a + n ≡ suc (a + n) = omega arith in e) ∙ drop-set a n x l
 
+drop-set-before : (n : ℕ) (l : List ℕ) (i x : ℕ) → i < n → drop n (set l i x) ≡ drop n l
+drop-set-before n [] i x h = refl
+drop-set-before zero (y ∷ l) i x h = absurd (omega arith)
+drop-set-before (suc n) (y ∷ l) zero x h = refl
+drop-set-before (suc n) (y ∷ l) (suc i) x h = drop-set-before n l i x (omega arith)
+
 module _ {w b : List ℕ} {z : Size} (h : Holds w b z) {call : List ℕ} {kind a b₁ c text-at : ℕ} (g : FilesCall call z kind a b₁ c text-at) where
   -- there is room for it
   pub call-room : z .used + length call ≤ RECORD-ANSWERS
@@ -52,7 +58,7 @@ module _ {w b : List ℕ} {z : Size} (h : Holds w b z) {call : List ℕ} {kind a
         h .text,
       )
 
-  module _ {answer : ℕ} {w′ b′ : List ℕ} (e : EntryPut call answer z b w′ b′) (same : length w′ ≡ length w) where
+  module _ {answer : ℕ} {w′ b′ : List ℕ} (e : EntryPut call answer z w b w′ b′) (same : length w′ ≡ length w) where
     -- the bytes with the call behind the others
     abbrev with-call : List ℕ
     with-call = over b (z .used) call
@@ -112,8 +118,21 @@ module _ {w b : List ℕ} {z : Size} (h : Holds w b z) {call : List ℕ} {kind a
               ap (λ l. getD l i 0) (e .bytes)
               ∙ getD-set-other with-call (RECORD-ANSWERS + z .count) i answer 0 (λ o. omega arith)
               ∙ getD-over b (z .used) call inside i (omega (arith, e .used));
-          answers = λ i h₁ h₂.
+          answers = λ i h₁ h₂ h₃.
               ap (λ l. getD l i 0) (e .bytes)
               ∙ getD-set-other with-call (RECORD-ANSWERS + z .count) i answer 0 (λ o. omega arith)
               ∙ getD-over b (z .used) call inside i (omega (arith, call-room));
+        }
+
+    -- the kept desk stands behind all of it
+    pub put-same-kept : SameKept w b w′ b′
+    put-same-kept =
+        let place = RECORD-ANSWERS + z .count in
+        let calls = g .calls in
+        record {
+          tables = e .tables;
+          store =
+              ap (drop KEPT-STORE) (e .bytes)
+              ∙ drop-set-before KEPT-STORE with-call place answer (omega arith)
+              ∙ drop-over b (z .used) call inside KEPT-STORE (omega (arith, call-room));
         }

@@ -1,11 +1,11 @@
 -- The record's slices as the functions leave them.
 use Prim.Native.Nat.{ℕ, _+_, _-_, _≤_, _<_}
 use mathlib.Core.Path.{_≡_, refl, ap, subst, _∙_}
-use mathlib.Core.List.{List, _++_}
+use mathlib.Core.List.{List, [], _∷_, _++_}
 use native.Mathlib.Omega.{arith}
 use lib.ListN.{length, set, take, drop}
 use lib.Seq.{getD-set-same}
-use Rattle.memory_layout.specs.Layout.{RECORD-ANSWERS, RECORD-USED}
+use Rattle.memory_layout.specs.Layout.{RECORD-ANSWERS, RECORD-USED, KEPT-CHUNKS}
 use Rattle.memory_texts.proofs.Over.{put-back}
 use Rattle.model_sheet.specs.Record.{records}
 use Rattle.filed_record.specs.declared.Size.{Size}
@@ -13,14 +13,20 @@ use Rattle.filed_record.specs.Record.{Holds}
 use Rattle.filed_entries.specs.Places.{Behind, Located}
 use Rattle.filed_entries.specs.Entries.{EntryPut, Closed, EntryOut}
 
+-- the words behind the one that says how many bytes are in use
+words-kept : (w : List ℕ) (x : ℕ) → drop KEPT-CHUNKS (set w RECORD-USED x) ≡ drop KEPT-CHUNKS w
+words-kept [] x = refl
+words-kept (y ∷ w) x = refl
+
 module _ {w b : List ℕ} {z : Size} (h : Holds w b z) where
   pub entry-put : (call ys : List ℕ) (answer : ℕ) → z .used + length call ≤ RECORD-ANSWERS
       → ys ≡ call ++ drop (length call) (take (length b - z .used) (drop (z .used) b))
-      → EntryPut call answer z b (set w RECORD-USED (z .used + length call))
+      → EntryPut call answer z w b (set w RECORD-USED (z .used + length call))
       (set (take (z .used) b ++ (ys ++ drop (length b - z .used) (drop (z .used) b))) (RECORD-ANSWERS + z .count) answer)
   entry-put call ys answer room e =
       record {
         used = getD-set-same w RECORD-USED (z .used + length call) 0 (omega (arith, h .words));
+        tables = words-kept w (z .used + length call);
         bytes = ap (λ l. set l (RECORD-ANSWERS + z .count) answer) (put-back b call call ys (z .used) (omega (arith, h .bytes)) e refl);
       }
 
@@ -32,7 +38,7 @@ module _ {w b : List ℕ} {z : Size} (h : Holds w b z) where
   behind-lent i g = record { list = h .list; are = ap records lent-as ∙ h .are; more = omega (arith, h .count) }
 
   pub entry-out : (i at next : ℕ) {b′ : List ℕ} → Located (take (z .used - 0) b) i at next → Closed at next (z .used) b b′
-      → EntryOut i z b (set w RECORD-USED (z .used - (next - at))) b′ (z .used - (next - at))
+      → EntryOut i z w b (set w RECORD-USED (z .used - (next - at))) b′ (z .used - (next - at))
   entry-out i at next l c =
       record {
         at = at;
@@ -40,5 +46,6 @@ module _ {w b : List ℕ} {z : Size} (h : Holds w b z) where
         located = subst (λ s. Located s i at next) lent-as l;
         closed = c;
         used = getD-set-same w RECORD-USED (z .used - (next - at)) 0 (omega (arith, h .words));
+        tables = words-kept w (z .used - (next - at));
         left = refl;
       }

@@ -15,7 +15,7 @@ pub fn put_entry(words: &mut [u32], bytes: &mut [u8], size: Size, call: &[u8], a
     requires { ⌜ Holds (now words) (now bytes) size ⌝ }
     requires { ⌜ size .used + length (now call) ≤ RECORD-ANSWERS ⌝ }
     requires { ⌜ size .count < RECORD-CALLS ⌝ }
-    ensures { λ _. ⌜ EntryPut (now (call .entry)) answer size (now (bytes .entry)) (now (words .exit)) (now (bytes .exit)) ⌝ }
+    ensures { λ _. ⌜ EntryPut (now (call .entry)) answer size (now (words .entry)) (now (bytes .entry)) (now (words .exit)) (now (bytes .exit)) ⌝ }
 {
     let used = size.used;
     let place = memory_layout::RECORD_ANSWERS + size.count;
@@ -43,7 +43,7 @@ fn close_gap(bytes: &mut [u8], at: usize, next: usize, end: usize)
 pub fn take_out(words: &mut [u32], bytes: &mut [u8], size: Size, i: usize) -> usize
     requires { ⌜ Holds (now words) (now bytes) size ⌝ }
     requires { ⌜ i < size .count ⌝ }
-    ensures { λ r. ⌜ EntryOut i size (now (bytes .entry)) (now (words .exit)) (now (bytes .exit)) r ⌝ }
+    ensures { λ r. ⌜ EntryOut i size (now (words .entry)) (now (bytes .entry)) (now (words .exit)) (now (bytes .exit)) r ⌝ }
 {
     let used = size.used;
     let p = place::place_of(&bytes[0..used], i);

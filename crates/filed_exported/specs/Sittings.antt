@@ -1,16 +1,16 @@
--- Sittings of the exported functions, by their contracts: a desk is opened beside an empty record, and calls are filed and withdrawn, in any order, refused ones too. The desk is
--- always what the record gives when run, and the answers are those of that run. proofs/Sittings.antt proves it.
+-- Sittings of the exported functions, by their contracts: a desk stands beside a record without calls, and calls are filed and withdrawn, in any order, refused ones too. The desk is
+-- always what the record gives when run from the desk that the sitting began on, and the answers are those of that run. proofs/Sittings.antt proves it.
 use Prim.Native.Nat.{ℕ}
 use mathlib.Core.Path.{_≡_}
 use mathlib.Core.List.{List, []}
 use mathlib.Core.Option.{some}
-use Rattle.model.specs.MagicString.{new}
+use Rattle.model.specs.MagicString.{MagicString}
 use Rattle.model_filed.specs.Filed.{Entry}
 use Rattle.model_filed.specs.Kept.{Agrees}
-use Rattle.memory.specs.WellFormed.{limitsOf, Full, Taken}
-use Rattle.memory.specs.Calls.{Opened}
+use Rattle.memory.specs.Layout.{magicStringOf}
+use Rattle.memory.specs.WellFormed.{limitsOf, Taken}
 use Rattle.memory.specs.declared.Answer.{Answer}
-use Rattle.filed_record.specs.Record.{entriesOf}
+use Rattle.filed_record.specs.Record.{entriesOf, KeptTaken}
 use Rattle.filed_record.specs.Promises.{sittingOf, CallFiled, CallWithdrawn}
 
 -- the slices that a sitting is lent beside the source
@@ -30,21 +30,22 @@ abbrev pub WithdrawCall : List ℕ → ℕ → Lent → Answer → Lent → Type
 WithdrawCall source k M r M′ =
     CallWithdrawn k source (M .chunks) (M .pieces) (M .store) (M .words) (M .bytes) (M′ .chunks) (M′ .pieces) (M′ .store) (M′ .words) (M′ .bytes) r
 
--- the memory of a sitting over a source, after any filings and withdrawals
-pub data Sat (source : List ℕ) : Lent → Type 0 where
-  -- an accepted opening, whatever the tables held, on tables of the full sizes; and a record without calls
-  begun : {t p s : List ℕ} {M : Lent} → Opened source t p s (M .chunks) (M .pieces) (M .store) 0 → Full (M .chunks) (M .pieces) (M .store)
-      → entriesOf (M .words) (M .bytes) ≡ some [] → Sat source M
-  filed : {M M′ : Lent} {r : Answer} (call : List ℕ) → Sat source M → FileCall source call M r M′ → Sat source M′
-  withdrawn : {M M′ : Lent} {r : Answer} (k : ℕ) → Sat source M → WithdrawCall source k M r M′ → Sat source M′
+-- the memory of a sitting over a source that began on a desk, after any filings and withdrawals
+pub data Sat (source : List ℕ) (start : MagicString) : Lent → Type 0 where
+  -- a well-formed desk, fresh or edited and frozen before, and a record without calls, whatever it keeps
+  begun : {M : Lent} → Taken source (M .chunks) (M .pieces) (M .store) → magicStringOf source (M .chunks) (M .pieces) (M .store) ≡ start
+      → entriesOf (M .words) (M .bytes) ≡ some [] → Sat source start M
+  filed : {M M′ : Lent} {r : Answer} (call : List ℕ) → Sat source start M → FileCall source call M r M′ → Sat source start M′
+  withdrawn : {M M′ : Lent} {r : Answer} (k : ℕ) → Sat source start M → WithdrawCall source k M r M′ → Sat source start M′
 
--- it holds a well-formed desk and a well-formed record, and they agree: the desk is what the record's calls leave when they are run on a fresh desk, and the answers are those
+-- it holds a well-formed desk and a well-formed record, and they agree: the desk is what the record's calls leave when they are run from the start desk, and the answers are those
 -- of that run
-pub record Holds (source : List ℕ) (M : Lent) : Type 0 where
+pub record Holds (source : List ℕ) (start : MagicString) (M : Lent) : Type 0 where
   pub desk : Taken source (M .chunks) (M .pieces) (M .store)
   pub entries : List Entry
   pub are : entriesOf (M .words) (M .bytes) ≡ some entries
-  pub agrees : Agrees (limitsOf (M .chunks) (M .pieces) (M .store)) (new source) (sittingOf source (M .chunks) (M .pieces) (M .store) entries)
+  pub kept : KeptTaken source (M .words) (M .bytes) entries
+  pub agrees : Agrees (limitsOf (M .chunks) (M .pieces) (M .store)) start (sittingOf source (M .chunks) (M .pieces) (M .store) (M .words) (M .bytes) entries)
 
 abbrev pub AlwaysHolds : Type 0
-AlwaysHolds = (source : List ℕ) (M : Lent) → Sat source M → Holds source M
+AlwaysHolds = (source : List ℕ) (start : MagicString) (M : Lent) → Sat source start M → Holds source start M

@@ -1,2 +1,3 @@
 pub mod Holding
 pub mod Calls
+pub mod Kept

@@ -1,13 +1,17 @@
 -- The record of filed calls in two lent slices (docs/LAYOUT.md). `words` says how many bytes the calls have; `bytes` holds them one behind the other, as document 02's L1 has
--- records, and behind their room the answers, a byte each.
+-- records, and behind their room the answers, a byte each. Behind these the record keeps a desk, L8's "desk as it stood before the first filed call": its tables in `words`, its store in
+-- `bytes`.
 use Prim.Native.Nat.{ℕ, _≤_}
 use mathlib.Core.Path.{_≡_}
 use mathlib.Core.Bool.{Bool, _&&_, cond}
-use mathlib.Core.List.{List}
+use mathlib.Core.List.{List, [], _∷_}
 use mathlib.Core.Option.{Option, none, some, bind, Option·map}
 use lib.Dec.{leb, eqb}
 use lib.ListN.{length, getD, take, drop}
-use Rattle.memory_layout.specs.Layout.{RECORD-ANSWERS, RECORD-BYTES-LEN, RECORD-WORDS-LEN, RECORD-USED}
+use Rattle.memory_layout.specs.Layout.{RECORD-ANSWERS, RECORD-BYTES-LEN, RECORD-WORDS-LEN, RECORD-USED, CHUNKS-LEN, PIECES-LEN, STORE-LEN, KEPT-CHUNKS, KEPT-PIECES, KEPT-STORE}
+use Rattle.memory.specs.Layout.{magicStringOf}
+use Rattle.memory.specs.WellFormed.{Taken}
+use Rattle.model.specs.MagicString.{MagicString}
 use Rattle.model_sheet.specs.Record.{Recorded, records, text-size}
 use Rattle.model_filed.specs.Filed.{Entry, with-answers, MOST-CALLS, MOST-TEXT, within-bounds}
 use Rattle.filed_record.specs.declared.Size.{Size}
@@ -23,6 +27,20 @@ callsOf w b = take (usedOf w) b
 abbrev pub answersOf : List ℕ → List ℕ
 answersOf b = drop RECORD-ANSWERS b
 
+-- the tables of the desk that is kept
+abbrev pub keptChunks : List ℕ → List ℕ
+keptChunks w = take CHUNKS-LEN (drop KEPT-CHUNKS w)
+
+abbrev pub keptPieces : List ℕ → List ℕ
+keptPieces w = take PIECES-LEN (drop KEPT-PIECES w)
+
+abbrev pub keptStore : List ℕ → List ℕ
+keptStore b = take STORE-LEN (drop KEPT-STORE b)
+
+-- that desk, over the source of the desk beside the record
+abbrev pub keptOf : List ℕ → List ℕ → List ℕ → MagicString
+keptOf source w b = magicStringOf source (keptChunks w) (keptPieces w) (keptStore b)
+
 -- slices of a record's lengths, and calls that end inside their room: what stands behind it are answers
 unfoldable pub shaped : List ℕ → List ℕ → Bool
 shaped w b = eqb (length w) RECORD-WORDS-LEN && (eqb (length b) RECORD-BYTES-LEN && leb (usedOf w) RECORD-ANSWERS)
@@ -31,11 +49,16 @@ shaped w b = eqb (length w) RECORD-WORDS-LEN && (eqb (length b) RECORD-BYTES-LEN
 abbrev pub bounded : List Recorded → Option (List Recorded)
 bounded l = cond (within-bounds l) (some l) none
 
--- the entries of the record that two slices hold; none where they hold no well-formed one: "A record that breaks these bounds or L1's record rules gets 2"
+-- the entries of the record that two slices hold, whatever it keeps; none where they hold no well-formed one: "A record that breaks these bounds or L1's record rules gets 2"
 unfoldable pub entriesOf : List ℕ → List ℕ → Option (List Entry)
 entriesOf w b = cond (shaped w b) (Option·map (λ l. with-answers l (answersOf b)) (bind (records (callsOf w b)) bounded)) none
 
--- two slices hold a well-formed record of this size, and the calls that it has
+-- "one with calls whose kept desk isn't well formed over the same source gets 2"; without calls what is kept is not looked at
+abbrev pub KeptTaken : List ℕ → List ℕ → List ℕ → List Entry → Type 0
+KeptTaken source w b [] = Unit {0}
+KeptTaken source w b (e ∷ l) = Taken source (keptChunks w) (keptPieces w) (keptStore b)
+
+-- two slices hold a well-formed record of this size, and the calls that it has, whatever it keeps
 pub record Holds (w b : List ℕ) (z : Size) : Type 0 where
   pub words : length w ≡ RECORD-WORDS-LEN
   pub bytes : length b ≡ RECORD-BYTES-LEN

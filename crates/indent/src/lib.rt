@@ -7,9 +7,12 @@ ghost use Rattle.utf8.specs.Rfc3629.{utf8, between};
 ghost use Rattle.model.specs.Text.{TAB, all};
 ghost use Rattle.model.specs.Indent.{get-indent-string};
 ghost use Rattle.model.specs.Call.{indent-with, options-valid};
+ghost use Rattle.memory_table.specs.Order.{Linked};
 ghost use Rattle.memory_used.specs.Above.{Desk, Leaves};
 ghost use Rattle.memory.specs.Calls.{indentor-of};
+ghost use Rattle.memory_frozen.specs.Frozen.{frozenIn};
 ghost use Rattle.report_indent_string.specs.Guess.{Guessed};
+ghost use Rattle.indent.specs.Refusal.{refusal};
 use memory_layout::numbers;
 use memory_used::Outcome;
 use memory_used::Used;
@@ -30,6 +33,21 @@ fn positions_between(source: &[u8], exclude: &[u32]) -> bool
     true
 }
 
+// 3 for a position inside a character, then 20 on a desk with a frozen chunk; 0 if neither.
+fn refused(source: &[u8], chunks: &[u32], exclude: &[u32]) -> u32
+    requires { ⌜ utf8 (now source) ≡ true ⌝ }
+    requires { ⌜ Linked (now chunks) ⌝ }
+    ensures { λ n. ⌜ n ≡ refusal (all (between (now (source .entry))) (now (exclude .entry))) (frozenIn true 0 0 (now (chunks .entry))) ⌝ }
+{
+    if !positions_between(source, exclude) {
+        return numbers::INSIDE_CHARACTER;
+    }
+    if memory_frozen::any_frozen(chunks) {
+        return numbers::FROZEN;
+    }
+    0
+}
+
 // The guess as a part of the source, or as the lent tab.
 fn guessed<'a>(source: &'a [u8], tab: &'a [u8], g: Indentor) -> &'a [u8]
     requires { ⌜ Guessed (now source) g ⌝ }
@@ -44,7 +62,7 @@ fn guessed<'a>(source: &'a [u8], tab: &'a [u8], g: Indentor) -> &'a [u8]
     &source[at..end]
 }
 
-// Without an indentor: by the guess.
+// Without an indentor: 3, 20, then by the guess.
 fn by_guess(
     source: &[u8],
     chunks: &mut [u32],
@@ -55,17 +73,24 @@ fn by_guess(
 ) -> Outcome
     requires { ⌜ Desk (now source) (now chunks) (now pieces) (now store) used ⌝ }
     requires { ⌜ options-valid (indent-with none (now exclude)) ≡ true ⌝ }
-    requires { ⌜ all (between (now source)) (now exclude) ≡ true ⌝ }
     ensures { λ o. ⌜ Leaves (indent-with none (now (exclude .entry))) (now (source .entry)) (now (chunks .entry)) (now (pieces .entry)) (now (store .entry))
         (now (chunks .exit)) (now (pieces .exit)) (now (store .exit)) o ⌝ }
 {
+    let number = refused(source, chunks, exclude);
+    if number != 0 {
+        return Outcome {
+            number,
+            cuts: 0,
+            used,
+        };
+    }
     let tab = [9u8; 1];
     let g = report_indent_string::guess_indentor(source);
     let indentor = guessed(source, &tab[..1], g);
     indent_scratch::indent_scratch(source, chunks, pieces, store, indentor, exclude, used)
 }
 
-// With an indentor: 1, 3; an empty one leaves everything.
+// With an indentor: 1, 3, 20; an empty one leaves everything.
 fn by_given(
     source: &[u8],
     chunks: &mut [u32],
@@ -80,39 +105,32 @@ fn by_given(
     ensures { λ o. ⌜ Leaves (indent-with (some (now (indentor .entry))) (now (exclude .entry))) (now (source .entry)) (now (chunks .entry)) (now (pieces .entry)) (now (store .entry))
         (now (chunks .exit)) (now (pieces .exit)) (now (store .exit)) o ⌝ }
 {
-    if utf8::valid(indentor) {
-        if positions_between(source, exclude) {
-            if indentor.len() == 0 {
-                return Outcome {
-                    number: 0,
-                    cuts: 0,
-                    used,
-                };
-            }
-            return indent_scratch::indent_scratch(
-                source,
-                chunks,
-                pieces,
-                store,
-                indentor,
-                exclude,
-                used,
-            );
-        }
+    if !utf8::valid(indentor) {
         return Outcome {
-            number: numbers::INSIDE_CHARACTER,
+            number: numbers::NOT_UTF8,
             cuts: 0,
             used,
         };
     }
-    Outcome {
-        number: numbers::NOT_UTF8,
-        cuts: 0,
-        used,
+    let number = refused(source, chunks, exclude);
+    if number != 0 {
+        return Outcome {
+            number,
+            cuts: 0,
+            used,
+        };
     }
+    if indentor.len() == 0 {
+        return Outcome {
+            number: 0,
+            cuts: 0,
+            used,
+        };
+    }
+    indent_scratch::indent_scratch(source, chunks, pieces, store, indentor, exclude, used)
 }
 
-// `indent_with`: 15 for an exclude list of odd count, then 1 and 3, then the steps by the indentor given or by the guess.
+// `indent_with`: 15 for an exclude list of odd count, then by the indentor given or by the guess.
 pub fn indent_with(
     source: &[u8],
     chunks: &mut [u32],
@@ -138,12 +156,5 @@ pub fn indent_with(
     if has_indentor {
         return by_given(source, chunks, pieces, store, indentor, exclude, used);
     }
-    if positions_between(source, exclude) {
-        return by_guess(source, chunks, pieces, store, exclude, used);
-    }
-    Outcome {
-        number: numbers::INSIDE_CHARACTER,
-        cuts: 0,
-        used,
-    }
+    by_guess(source, chunks, pieces, store, exclude, used)
 }

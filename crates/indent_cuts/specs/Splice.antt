@@ -15,10 +15,10 @@ use Rattle.memory_list.specs.Insert.{runsOf}
 use Rattle.memory_list.specs.Split.{first, second}
 
 abbrev pub withIntro : Place → Entry → Entry
-withIntro r e = record { start = e .start; end = e .end; intro = r; outro = e .outro; text = e .text }
+withIntro r e = record { start = e .start; end = e .end; frozen = e .frozen; intro = r; outro = e .outro; text = e .text }
 
 abbrev pub withText : Place → Entry → Entry
-withText r e = record { start = e .start; end = e .end; intro = e .intro; outro = e .outro; text = r }
+withText r e = record { start = e .start; end = e .end; frozen = e .frozen; intro = e .intro; outro = e .outro; text = r }
 
 -- the row q is r with the entry e
 pub record Rewritten (r q : Row) (e : Entry) : Type 0 where

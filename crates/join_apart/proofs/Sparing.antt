@@ -8,7 +8,7 @@ use mathlib.Core.Option.{none, some}
 use Rattle.utf8.specs.Chars.{All, nil, cons}
 use Rattle.model.specs.Text.{all}
 use Rattle.model.specs.Call.{Edit, remove, update-with, reset, insert, append, prepend, relocate, trim, trim-start, trim-end}
-use Rattle.model.specs.Call.{trim-lines, indent-with}
+use Rattle.model.specs.Call.{freeze, trim-lines, indent-with}
 use Rattle.model.proofs.Lists.{both, and-left, and-right, bool-elim, clash, all-true}
 use Rattle.model_join.specs.Tests.{pairs, is-move, free-of, one-move, moves-free}
 use Rattle.join_apart.specs.Moves.{first-move, spared}
@@ -34,6 +34,7 @@ free-self (trim-start p) = refl
 free-self (trim-end p) = refl
 free-self trim-lines = refl
 free-self (indent-with i l) = refl
+free-self (freeze a b) = refl
 
 -- ── the first move ──
 pub first-here : (e : Edit) (L : List Edit) → is-move e ≡ true → first-move (e ∷ L) ≡ some e

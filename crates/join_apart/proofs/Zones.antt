@@ -7,7 +7,7 @@ use mathlib.Core.Bool.{Bool, true, false, _&&_, _||_, not, cond}
 use lib.Dec.{ltb, leb}
 use borrow.Author.Tests.{ltb-true, leb-true, lt-ltb, le-ltb}
 use Rattle.model.specs.Call.{Edit, remove, update-with, reset, insert, append, prepend, relocate, trim, trim-start, trim-end}
-use Rattle.model.specs.Call.{trim-lines, indent-with, listed}
+use Rattle.model.specs.Call.{freeze, trim-lines, indent-with, listed}
 use Rattle.model.proofs.Lists.{both, and-left, and-right, clash}
 use Rattle.model_join.specs.Tests.{Zone, bytes, head-zone, tail-zone, no-zone, left-zone, right-zone, zone, meets, is-move}
 use Rattle.memory.specs.Layout.{Place}
@@ -174,6 +174,7 @@ inside n (trim-start p) h = tt
 inside n (trim-end p) h = tt
 inside n trim-lines h = tt
 inside n (indent-with i l) h = tt
+inside n (freeze a b) h = tt
 
 left-some : (p : ℕ) → is-none (left-zone p) ≡ false
 left-some zero = refl
@@ -199,6 +200,7 @@ move-none n (trim-start p) h = clash h refl
 move-none n (trim-end p) h = clash h refl
 move-none n trim-lines h = clash h refl
 move-none n (indent-with i l) h = clash h refl
+move-none n (freeze a b) h = clash h refl
 
 module _ (n : ℕ) (x y : Edit) (lx : listed x ≡ true) (ly : listed y ≡ true) (fx : fits-in n x ≡ true) (fy : fits-in n y ≡ true) where
   both-tests : meets (zone n x) (zone n y) || (is-move x && is-move y) ≡ overlap (place-of n x) (place-of n y)

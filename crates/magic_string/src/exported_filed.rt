@@ -1,5 +1,5 @@
-// Calls filed in a record beside a desk, and withdrawn from it.
-ghost use Rattle.filed_record.specs.Promises.{CallFiled, CallWithdrawn};
+// Calls filed in a record beside a desk, and withdrawn from it; and freezing, which asks that none is filed.
+ghost use Rattle.filed_record.specs.Promises.{CallFiled, CallWithdrawn, CallFrozen};
 use memory::Answer;
 
 #[no_mangle]
@@ -32,4 +32,21 @@ pub extern "C" fn magic_string_withdraw(
         (now (chunks .exit)) (now (pieces .exit)) (now (store .exit)) (now (words .exit)) (now (bytes .exit)) r ⌝ }
 {
     filed_checked::withdraw(source, chunks, pieces, store, words, bytes, k)
+}
+
+#[no_mangle]
+pub extern "C" fn magic_string_freeze(
+    source: &[u8],
+    chunks: &mut [u32],
+    pieces: &mut [u32],
+    store: &mut [u8],
+    words: &[u32],
+    bytes: &[u8],
+    start: u32,
+    end: u32,
+) -> Answer
+    ensures { λ r. ⌜ CallFrozen start end (now (source .entry)) (now (chunks .entry)) (now (pieces .entry)) (now (store .entry)) (now (words .entry)) (now (bytes .entry))
+        (now (chunks .exit)) (now (pieces .exit)) (now (store .exit)) r ⌝ }
+{
+    filed_checked::freeze(source, chunks, pieces, store, words, bytes, start, end)
 }

@@ -7,7 +7,7 @@ use mathlib.Core.Option.{Option, none, some}
 use lib.ListN.{length}
 use Rattle.model.specs.MagicString.{new}
 use Rattle.model.proofs.Lists.{bool-elim}
-use Rattle.model.specs.Call.{edit-numbers, report-numbers}
+use Rattle.model.specs.Call.{freeze, edit-numbers, report-numbers}
 use Rattle.memory.specs.Layout.{magicStringOf}
 use Rattle.memory.specs.WellFormed.{limitsOf, Full, Taken}
 use Rattle.model_preservation.specs.Refusals.{among}
@@ -19,12 +19,12 @@ use Rattle.model_sheet.proofs.Runs.{sheet-listed}
 use Rattle.model_filed.specs.Filed.{Entry}
 use Rattle.model_join.specs.Join.{join-numbers}
 use Rattle.model_join.proofs.Joining.{join-listed}
-use Rattle.model_filed.proofs.Numbers.{file-listed, withdraw-listed}
+use Rattle.model_filed.proofs.Numbers.{file-listed, withdraw-listed, freeze-listed}
 use Rattle.memory.specs.declared.Answer.{Answer}
-use Rattle.filed_record.specs.Record.{entriesOf}
+use Rattle.filed_record.specs.Record.{entriesOf, KeptTaken}
 use Rattle.filed_record.specs.Promises.{sittingOf, OnSitting}
 use Rattle.magic_string_numbers.specs.Listed.{EditedListed, ReportedListed, OpenedNumberListed, SheetNumberListed, FiledNumberListed, WithdrawnNumberListed}
-use Rattle.magic_string_numbers.specs.Listed.{JoinedNumberListed}
+use Rattle.magic_string_numbers.specs.Listed.{FrozenNumberListed, JoinedNumberListed}
 
 -- a number that is 2 where P does not hold, and one of these where it does, if 2 is one of them
 either : {P : Type 0} (n : ℕ) (ns : List ℕ) → among 2 ns ≡ true → ((P → ⊥) → n ≡ 2) → (P → among n ns ≡ true) → among n ns ≡ true
@@ -64,19 +64,26 @@ on-sitting {source = source} {t} {p} {s} {w} {b} {r = r} ns x f =
   where
     go : Taken source t p s → (o : Option (List Entry)) → entriesOf w b ≡ o → among (r .number) (2 ∷ ns) ≡ true
     go d none e = ap (λ (k : ℕ). among k (2 ∷ ns)) (x .no-record e .0)
-    go d (some l) e = listed-behind (r .number) 2 ns (f d l (x .taken d l e))
+    go d (some l) e = either (r .number) (2 ∷ ns) refl (λ none. x .not-kept l e none .0) (λ (k : KeptTaken source w b l). listed-behind (r .number) 2 ns (f d l (x .taken d l e k)))
 
 pub filed-number-listed : FiledNumberListed
 filed-number-listed call source t p s w b t′ p′ s′ w′ b′ r x =
     on-sitting (16 ∷ 13 ∷ edit-numbers (call-of (parsed call))) x
     (λ d l y.
     ap (λ (k : ℕ). among k (16 ∷ 13 ∷ edit-numbers (call-of (parsed call)))) (y .becomes .number-is)
-    ∙ file-listed (limitsOf t p s) call (sittingOf source t p s l) (d .well-formed .desk .formed))
+    ∙ file-listed (limitsOf t p s) call (sittingOf source t p s w b l) (d .well-formed .desk .formed))
 
 pub withdrawn-number-listed : WithdrawnNumberListed
 withdrawn-number-listed k source t p s w b t′ p′ s′ w′ b′ r x =
     on-sitting (17 ∷ []) x
-    (λ d l y. ap (λ (n : ℕ). among n (17 ∷ [])) (y .becomes .number-is) ∙ withdraw-listed (limitsOf t p s) (new source) k (sittingOf source t p s l))
+    (λ d l y. ap (λ (n : ℕ). among n (17 ∷ [])) (y .becomes .number-is) ∙ withdraw-listed (limitsOf t p s) k (sittingOf source t p s w b l))
+
+pub frozen-number-listed : FrozenNumberListed
+frozen-number-listed from to source t p s w b t′ p′ s′ r x =
+    on-sitting (20 ∷ edit-numbers (freeze from to)) x
+    (λ d l y.
+    ap (λ (k : ℕ). among k (20 ∷ edit-numbers (freeze from to))) (y .becomes .number-is)
+    ∙ freeze-listed (limitsOf t p s) from to (sittingOf source t p s w b l) (d .well-formed .desk .formed))
 
 pub joined-number-listed : JoinedNumberListed
 joined-number-listed first second source t p s t′ p′ s′ r x =

@@ -7,12 +7,12 @@ use Rattle.model.specs.Call.{Edit, Report}
 use Rattle.model_calls.specs.Call.{change, report, join, on-desk, «open», numbers-of}
 use Rattle.model_sheet.specs.Record.{parsed}
 use Rattle.model_sheet.specs.Sheet.{call-of, sheet-numbers}
-use Rattle.model_filed.specs.Filed.{file-numbers, withdraw-numbers}
+use Rattle.model_filed.specs.Filed.{file-numbers, withdraw-numbers, freeze-numbers}
 use Rattle.memory.specs.declared.Answer.{Answer}
 use Rattle.memory.specs.Calls.{Edited, Reported, Opened}
 use Rattle.model_preservation.specs.Refusals.{among}
 use Rattle.sheet_run.specs.SheetRan.{SheetRan}
-use Rattle.filed_record.specs.Promises.{CallFiled, CallWithdrawn}
+use Rattle.filed_record.specs.Promises.{CallFiled, CallWithdrawn, CallFrozen}
 use Rattle.join_lists.specs.Promises.{Joined}
 
 abbrev pub EditedListed : Type 0
@@ -28,7 +28,7 @@ OpenedNumberListed = (source t p s t′ p′ s′ : List ℕ) (number : ℕ) →
 abbrev pub SheetNumberListed : Type 0
 SheetNumberListed = (sheet t p s a t′ p′ s′ a′ : List ℕ) (r : Answer) → SheetRan sheet t p s a t′ p′ s′ a′ r → among (r .number) sheet-numbers ≡ true
 
--- filing, whose numbers are 2, 16, 13 and those of the core call; and withdrawing
+-- filing, whose numbers are 2, 16, 13 and those of the core call; withdrawing; and freezing, whose numbers are 2, 20 and those of the edit
 abbrev pub FiledNumberListed : Type 0
 FiledNumberListed =
     (call source t p s w b t′ p′ s′ w′ b′ : List ℕ) (r : Answer) → CallFiled call source t p s w b t′ p′ s′ w′ b′ r
@@ -37,6 +37,10 @@ FiledNumberListed =
 abbrev pub WithdrawnNumberListed : Type 0
 WithdrawnNumberListed =
     (k : ℕ) (source t p s w b t′ p′ s′ w′ b′ : List ℕ) (r : Answer) → CallWithdrawn k source t p s w b t′ p′ s′ w′ b′ r → among (r .number) withdraw-numbers ≡ true
+
+abbrev pub FrozenNumberListed : Type 0
+FrozenNumberListed =
+    (from to : ℕ) (source t p s w b t′ p′ s′ : List ℕ) (r : Answer) → CallFrozen from to source t p s w b t′ p′ s′ r → among (r .number) (freeze-numbers from to) ≡ true
 
 -- joining, whose numbers are 2, 16, 18, 19 and 13
 abbrev pub JoinedNumberListed : Type 0

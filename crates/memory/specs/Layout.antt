@@ -7,7 +7,7 @@ use mathlib.Core.Option.{Option, none, some}
 use lib.Dec.{eqb}
 use lib.ListN.{getD, take, drop}
 use Rattle.memory_layout.specs.Layout.{NONE, PIECE, PIECE-N}
-use Rattle.memory_table.specs.Order.{Entry, entryAt, entries}
+use Rattle.memory_table.specs.Order.{Entry, is-frozen, entryAt, entries}
 use Rattle.model.specs.Text.{Text}
 use Rattle.model.specs.Chunk.{Chunk, Texts, chunk-of}
 use Rattle.model.specs.MagicString.{MagicString}
@@ -37,12 +37,12 @@ runOf p s r = tabulate (λ k. bytesAt s (pieceAt p (r .0 + k))) (r .1)
 unfoldable pub replacementOf : List ℕ → Place → Option Text
 replacementOf s r = cond (eqb (r .0) NONE) none (some (bytesAt s r))
 
--- a chunk, from its row's span and places
+-- a chunk, from its row's span, mark and places
 abbrev pub textsOf : List ℕ → List ℕ → Entry → Texts
 textsOf p s e = record { intro = runOf p s (e .intro); outro = runOf p s (e .outro); edited-content = replacementOf s (e .text) }
 
 abbrev pub chunkOf : List ℕ → List ℕ → Entry → Chunk
-chunkOf p s e = chunk-of (e .start) (e .end) (textsOf p s e)
+chunkOf p s e = chunk-of (e .start) (e .end) (is-frozen e) (textsOf p s e)
 
 -- the desk: head and tail from row 0, the chunks in list order
 unfoldable pub magicStringOf : List ℕ → List ℕ → List ℕ → List ℕ → MagicString

@@ -26,8 +26,8 @@ headRow r =
       «outro_n» = 0;
       «text_at» = 0;
       «text_n» = 0;
-      spare0 = r .spare0;
-      spare1 = r .spare1;
+      frozen = r .frozen;
+      spare = r .spare;
     }
 
 abbrev pub tailRow : Row → Row
@@ -43,8 +43,8 @@ tailRow r =
       «outro_n» = r .«outro_n»;
       «text_at» = 0;
       «text_n» = 0;
-      spare0 = r .spare0;
-      spare1 = r .spare1;
+      frozen = r .frozen;
+      spare = r .spare;
     }
 
 module _ (t : List ℕ) (g row : ℕ) (r : Row) (e : r ≡ rowAt t row) where

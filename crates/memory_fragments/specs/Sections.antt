@@ -26,10 +26,10 @@ unfoldable pub rowNo : List ℕ → ℕ → ℕ
 rowNo t g = getD (rows t) g 0
 
 abbrev pub headOf : List ℕ → Entry
-headOf t = record { start = 0; end = 0; intro = entryAt t 0 .intro; outro = (0, 0); text = (0, 0) }
+headOf t = record { start = 0; end = 0; frozen = entryAt t 0 .frozen; intro = entryAt t 0 .intro; outro = (0, 0); text = (0, 0) }
 
 abbrev pub tailOf : List ℕ → Entry
-tailOf t = record { start = 0; end = 0; intro = (0, 0); outro = entryAt t 0 .outro; text = (0, 0) }
+tailOf t = record { start = 0; end = 0; frozen = entryAt t 0 .frozen; intro = (0, 0); outro = entryAt t 0 .outro; text = (0, 0) }
 
 unfoldable pub sectionAt : List ℕ → ℕ → ℕ → Entry
 sectionAt t g row = cond (eqb row 0) (cond (eqb g 0) (headOf t) (tailOf t)) (entryAt t row)

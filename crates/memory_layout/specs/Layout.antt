@@ -36,11 +36,12 @@ TEXT-AT = 8
 abbrev pub TEXT-N : ℕ
 TEXT-N = 9
 
-abbrev pub SPARE0 : ℕ
-SPARE0 = 10
+-- the mark of a frozen part: 0 is clear, any other word set
+abbrev pub FROZEN : ℕ
+FROZEN = 10
 
-abbrev pub SPARE1 : ℕ
-SPARE1 = 11
+abbrev pub SPARE : ℕ
+SPARE = 11
 
 -- in `next` of the last chunk and `prev` of the first: the list ends
 abbrev pub LIST-END : ℕ
@@ -169,16 +170,26 @@ RECORD-TEXT = 32768
 abbrev pub RECORD-FRONT : ℕ
 RECORD-FRONT = 15
 
--- the answers stand behind the room of the calls
+-- the answers stand behind the room of the calls, a byte each
 abbrev pub RECORD-ANSWERS : ℕ
 RECORD-ANSWERS = RECORD-CALLS * RECORD-FRONT + RECORD-TEXT
 
-abbrev pub RECORD-BYTES-LEN : ℕ
-RECORD-BYTES-LEN = RECORD-ANSWERS + RECORD-CALLS
-
--- the words, and the place of the one that says how many bytes the calls have
-abbrev pub RECORD-WORDS-LEN : ℕ
-RECORD-WORDS-LEN = 1
-
+-- the place of the word that says how many bytes the calls have
 abbrev pub RECORD-USED : ℕ
 RECORD-USED = 0
+
+-- the desk before the first filed call: its chunk table and its piece table behind that word, its store behind the answers
+abbrev pub KEPT-CHUNKS : ℕ
+KEPT-CHUNKS = RECORD-USED + 1
+
+abbrev pub KEPT-PIECES : ℕ
+KEPT-PIECES = KEPT-CHUNKS + CHUNKS-LEN
+
+abbrev pub KEPT-STORE : ℕ
+KEPT-STORE = RECORD-ANSWERS + RECORD-CALLS
+
+abbrev pub RECORD-WORDS-LEN : ℕ
+RECORD-WORDS-LEN = KEPT-PIECES + PIECES-LEN
+
+abbrev pub RECORD-BYTES-LEN : ℕ
+RECORD-BYTES-LEN = KEPT-STORE + STORE-LEN

@@ -28,9 +28,10 @@ pub const TEXT_AT: usize = 8;
 
 pub const TEXT_N: usize = 9;
 
-pub const SPARE0: usize = 10;
+// The mark of a frozen part: 0 is clear, any other word set.
+pub const FROZEN: usize = 10;
 
-pub const SPARE1: usize = 11;
+pub const SPARE: usize = 11;
 
 // In `next` of the last chunk and `prev` of the first: the list ends. It is the desk's own row, which leads to both ends.
 pub const LIST_END: u32 = 0;
@@ -139,15 +140,22 @@ pub const RECORD_TEXT: usize = 32768;
 // The most bytes of a call before its text: a length, a kind and three positions.
 pub const RECORD_FRONT: usize = 15;
 
-// The answers stand behind the room of the calls.
+// The answers stand behind the room of the calls, a byte each.
 pub const RECORD_ANSWERS: usize = RECORD_CALLS * RECORD_FRONT + RECORD_TEXT;
 
-pub const RECORD_BYTES_LEN: usize = RECORD_ANSWERS + RECORD_CALLS;
-
-// The words, and the place of the one that says how many bytes the calls have.
-pub const RECORD_WORDS_LEN: usize = 1;
-
+// The place of the word that says how many bytes the calls have.
 pub const RECORD_USED: usize = 0;
+
+// The desk before the first filed call: its chunk table and its piece table behind that word, its store behind the answers.
+pub const KEPT_CHUNKS: usize = RECORD_USED + 1;
+
+pub const KEPT_PIECES: usize = KEPT_CHUNKS + CHUNKS_LEN;
+
+pub const KEPT_STORE: usize = RECORD_ANSWERS + RECORD_CALLS;
+
+pub const RECORD_WORDS_LEN: usize = KEPT_PIECES + PIECES_LEN;
+
+pub const RECORD_BYTES_LEN: usize = KEPT_STORE + STORE_LEN;
 
 // ---- words ----
 // A word as a place in a slice.

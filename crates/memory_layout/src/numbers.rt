@@ -57,3 +57,6 @@ pub const NOT_APART: u32 = 18;
 
 // A call of two lists is refused alone on the starting desk.
 pub const REFUSED_ALONE: u32 = 19;
+
+// A frozen chunk in the range, or on the desk; or freezing with calls already filed.
+pub const FROZEN: u32 = 20;

@@ -1,4 +1,4 @@
-pub mod Clear
+pub mod Changes
 pub mod Searches
 pub mod Insert
 pub mod Move

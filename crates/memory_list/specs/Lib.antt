@@ -1,6 +1,6 @@
 pub mod Find
 pub mod Insert
 pub mod Split
-pub mod Clear
+pub mod Changes
 pub mod Swap
 pub mod Move

@@ -7,12 +7,12 @@ use Rattle.memory_table.specs.Table.{rowAt}
 use Rattle.memory_table.specs.Order.{Entry, entryAt, entries, order, countOf, Linked}
 use Rattle.memory_list.specs.Insert.{runsOf}
 
--- the first half keeps the intro, the second takes the outro, a replacement goes to both
+-- the first half keeps the intro, the second takes the outro, replacement and mark go to both
 abbrev pub first : ℕ → Entry → Entry
-first p c = record { start = c .start; end = p; intro = c .intro; outro = (0, 0); text = c .text }
+first p c = record { start = c .start; end = p; frozen = c .frozen; intro = c .intro; outro = (0, 0); text = c .text }
 
 abbrev pub second : ℕ → Entry → Entry
-second p c = record { start = p; end = c .end; intro = (0, 0); outro = c .outro; text = c .text }
+second p c = record { start = p; end = c .end; frozen = c .frozen; intro = (0, 0); outro = c .outro; text = c .text }
 
 -- ── row i of the list written as r, its links kept ──
 pub record RowSet (t t' : List ℕ) (i : ℕ) (e : Entry) : Type 0 where

@@ -1,4 +1,4 @@
-// The list of a chunk table: searches along it, a row split or written in place, rows linked in and moved.
+// The list of a chunk table: searches along it, a row split, rows changed in place, rows linked in and moved.
 ghost use mathlib.Core.Path.{_≡_};
 ghost use Prim.Native.Nat.{_+_, _*_, _≤_};
 ghost use lib.ListN.{length};
@@ -7,7 +7,7 @@ ghost use Rattle.memory_table.specs.Order.{Linked, entryOf, countOf};
 ghost use Rattle.memory_list.specs.Find.{meets, FoundIn};
 ghost use Rattle.memory_list.specs.Insert.{Placed, LinkedIn};
 ghost use Rattle.memory_list.specs.Split.{SplitRow};
-ghost use Rattle.memory_list.specs.Clear.{ClearedAt, ClearDone};
+ghost use Rattle.memory_list.specs.Changes.{ChangedRow, ChangedAt, ChangeDone};
 ghost use Rattle.memory_list.specs.Move.{Joined, Movable, Relinked, MoveAt, MoveDone};
 
 // What a search may not find.
@@ -98,10 +98,37 @@ pub fn split_row(t: &mut [u32], i: u32, p: u32)
     link_in(t, i, b);
 }
 
-// Row k, if it starts from a up to b: it loses its pieces, and its replacement is empty, at text_at, or gone.
-fn clear_row(t: &mut [u32], k: u32, a: u32, b: u32, text_at: u32)
+// What the chunks of a range get: no pieces and a replacement that is empty, at this place of the store, or gone; or the mark of a frozen part.
+pub enum Change {
+    Clear(u32),
+    Freeze,
+}
+
+fn changed(c: memory_table::Row, change: Change) -> memory_table::Row
+    ensures { λ r. ⌜ ChangedRow change c r ⌝ }
+{
+    let mut d = c;
+    match change {
+        Change::Clear(text_at) => {
+            d.intro_at = 0;
+            d.intro_n = 0;
+            d.outro_at = 0;
+            d.outro_n = 0;
+            d.text_at = text_at;
+            d.text_n = 0;
+            d
+        }
+        Change::Freeze => {
+            d.frozen = 1;
+            d
+        }
+    }
+}
+
+// Row k, if it starts from a up to b.
+fn change_row(t: &mut [u32], k: u32, a: u32, b: u32, change: Change)
     requires { ⌜ k * ROW + ROW ≤ length (now t) ⌝ }
-    ensures { λ _. ⌜ ClearedAt (now (t .entry)) (now (t .exit)) k a b «text_at» ⌝ }
+    ensures { λ _. ⌜ ChangedAt change a b (now (t .entry)) (now (t .exit)) k ⌝ }
 {
     let c = memory_table::get_row(t, k);
     if c.start < a {
@@ -110,27 +137,20 @@ fn clear_row(t: &mut [u32], k: u32, a: u32, b: u32, text_at: u32)
     if b <= c.start {
         return;
     }
-    let mut d = c;
-    d.intro_at = 0;
-    d.intro_n = 0;
-    d.outro_at = 0;
-    d.outro_n = 0;
-    d.text_at = text_at;
-    d.text_n = 0;
-    memory_table::put_row(t, k, d);
+    memory_table::put_row(t, k, changed(c, change));
 }
 
-// The same for every chunk.
-pub fn clear_rows(t: &mut [u32], a: u32, b: u32, text_at: u32)
+// Every chunk that starts from a up to b.
+pub fn change_rows(t: &mut [u32], a: u32, b: u32, change: Change)
     requires { ⌜ Linked (now t) ⌝ }
-    ensures { λ _. ⌜ ClearDone (now (t .entry)) (now (t .exit)) a b «text_at» ⌝ }
+    ensures { λ _. ⌜ ChangeDone change a b (now (t .entry)) (now (t .exit)) ⌝ }
 {
     let z = memory_table::get_row(t, 0);
     let n = z.start;
     let mut k = 0;
     while k < n {
         k += 1;
-        clear_row(t, k, a, b, text_at);
+        change_row(t, k, a, b, change);
     }
 }
 

@@ -13,7 +13,7 @@ use Rattle.memory_table.specs.Table.{rowAt, Put}
 -- the words of a row, and the row of such words
 abbrev pub wordsOf : Row → List ℕ
 wordsOf r =
-    r .start ∷ r .end ∷ r .next ∷ r .prev ∷ r .«intro_at» ∷ r .«intro_n» ∷ r .«outro_at» ∷ r .«outro_n» ∷ r .«text_at» ∷ r .«text_n» ∷ r .spare0 ∷ r .spare1 ∷ []
+    r .start ∷ r .end ∷ r .next ∷ r .prev ∷ r .«intro_at» ∷ r .«intro_n» ∷ r .«outro_at» ∷ r .«outro_n» ∷ r .«text_at» ∷ r .«text_n» ∷ r .frozen ∷ r .spare ∷ []
 
 abbrev pub rowOf : List ℕ → Row
 rowOf c =
@@ -28,8 +28,8 @@ rowOf c =
       «outro_n» = getD c 7 0;
       «text_at» = getD c 8 0;
       «text_n» = getD c 9 0;
-      spare0 = getD c 10 0;
-      spare1 = getD c 11 0;
+      frozen = getD c 10 0;
+      spare = getD c 11 0;
     }
 
 row-cells : (t : List ℕ) (i : ℕ) → rowOf (cells ROW t i) ≡ rowAt t i

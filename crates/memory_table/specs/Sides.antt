@@ -21,6 +21,6 @@ with-side outro x r =
       «outro_n» = cond outro (x .1) (r .«outro_n»);
       «text_at» = r .«text_at»;
       «text_n» = r .«text_n»;
-      spare0 = r .spare0;
-      spare1 = r .spare1;
+      frozen = r .frozen;
+      spare = r .spare;
     }

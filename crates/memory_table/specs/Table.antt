@@ -3,7 +3,7 @@ use mathlib.Core.Path.{_≡_}
 use mathlib.Core.List.{List}
 use Prim.Native.Nat.{ℕ, _+_, _*_}
 use lib.ListN.{getD}
-use Rattle.memory_layout.specs.Layout.{ROW, END, NEXT, PREV, INTRO-AT, INTRO-N, OUTRO-AT, OUTRO-N, TEXT-AT, TEXT-N, SPARE0, SPARE1}
+use Rattle.memory_layout.specs.Layout.{ROW, END, NEXT, PREV, INTRO-AT, INTRO-N, OUTRO-AT, OUTRO-N, TEXT-AT, TEXT-N, FROZEN, SPARE}
 use Rattle.memory_table.specs.declared.Row.{Row}
 
 -- row i of the table t: its words from i * ROW on
@@ -20,8 +20,8 @@ rowAt t i =
       «outro_n» = getD t (i * ROW + OUTRO-N) 0;
       «text_at» = getD t (i * ROW + TEXT-AT) 0;
       «text_n» = getD t (i * ROW + TEXT-N) 0;
-      spare0 = getD t (i * ROW + SPARE0) 0;
-      spare1 = getD t (i * ROW + SPARE1) 0;
+      frozen = getD t (i * ROW + FROZEN) 0;
+      spare = getD t (i * ROW + SPARE) 0;
     }
 
 -- t' is t with row i written as r

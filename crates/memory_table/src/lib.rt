@@ -20,8 +20,8 @@ pub struct Row {
     pub outro_n: u32,
     pub text_at: u32,
     pub text_n: u32,
-    pub spare0: u32,
-    pub spare1: u32,
+    pub frozen: u32,
+    pub spare: u32,
 }
 
 pub fn get_row(t: &[u32], i: u32) -> Row
@@ -40,8 +40,8 @@ pub fn get_row(t: &[u32], i: u32) -> Row
         outro_n: t[b + memory_layout::OUTRO_N],
         text_at: t[b + memory_layout::TEXT_AT],
         text_n: t[b + memory_layout::TEXT_N],
-        spare0: t[b + memory_layout::SPARE0],
-        spare1: t[b + memory_layout::SPARE1],
+        frozen: t[b + memory_layout::FROZEN],
+        spare: t[b + memory_layout::SPARE],
     }
 }
 
@@ -72,8 +72,8 @@ pub fn put_row(t: &mut [u32], i: u32, r: Row)
         r.outro_n,
         r.text_at,
         r.text_n,
-        r.spare0,
-        r.spare1,
+        r.frozen,
+        r.spare,
     ];
     put_words(t, i as usize * memory_layout::ROW, &w);
 }

@@ -4,4 +4,4 @@ use Rattle.memory_table.specs.Order.{Entry}
 use Rattle.memory_layout.specs.Layout.{NONE}
 
 abbrev pub ownOf : Row → Entry
-ownOf r = record { start = 0; end = 0; intro = (r .«intro_at», r .«intro_n»); outro = (r .«outro_at», r .«outro_n»); text = (NONE, 0) }
+ownOf r = record { start = 0; end = 0; frozen = r .frozen; intro = (r .«intro_at», r .«intro_n»); outro = (r .«outro_at», r .«outro_n»); text = (NONE, 0) }

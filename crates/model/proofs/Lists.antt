@@ -1,4 +1,4 @@
--- Laws of tests and of lists that many crates cite: `&&` and `||`, `All`, `all`, `sum`, `map`, and texts one behind the other.
+-- Laws of tests and of lists that many crates cite: `&&` and `||`, `All`, `all`, `any`, `sum`, `map`, and texts one behind the other.
 use Prim.Native.Nat.{ℕ, _+_, _≤_, _<_}
 use native.Mathlib.Omega.{arith}
 use mathlib.Core.Path.{_≡_, refl, sym, ap, ap₂, _∙_}
@@ -8,7 +8,7 @@ use mathlib.Core.Logic.{_⊎_, inl, inr}
 use lib.ListN.{length, length-append}
 use Rattle.utf8.specs.Chars.{All, nil, cons, concat}
 use Rattle.utf8.proofs.Sequences as sequences
-use Rattle.model.specs.Text.{Text, is-nil, all, skip-while, sum}
+use Rattle.model.specs.Text.{Text, is-nil, any, all, skip-while, sum}
 
 -- ── tests ──
 pub both : {a b : Bool} → a ≡ true → b ≡ true → a && b ≡ true
@@ -112,6 +112,15 @@ module _ {A : Type 0} (f : A → Bool) where
   pub true-all : {xs : List A} → All (λ x. f x ≡ true) xs → all f xs ≡ true
   true-all nil = refl
   true-all (cons h hs) = both h (true-all hs)
+
+  -- the test fails at every element
+  pub any-false : (xs : List A) → any f xs ≡ false → All (λ x. f x ≡ false) xs
+  any-false [] h = nil
+  any-false (x ∷ xs) h = let n = neither (f x) (any f xs) h in cons (n .0) (any-false xs (n .1))
+
+  pub false-any : {xs : List A} → All (λ x. f x ≡ false) xs → any f xs ≡ false
+  false-any nil = refl
+  false-any (cons h hs) = rw (h, false-any hs)
 
   pub tests-append : (xs ys : List A) → all f (xs ++ ys) ≡ all f xs && all f ys
   tests-append [] ys = refl

@@ -1,6 +1,6 @@
 -- Document 01's calls on a desk, by name, and what each gives: `run` for those that change it, `show` for those that report on it. Crate `model_calls` has the list of all calls.
 use Prim.Native.Nat.{ℕ, zero, suc, _-_, _%_}
-use mathlib.Core.Bool.{Bool, true, false, _||_, not, cond}
+use mathlib.Core.Bool.{Bool, true, false, _&&_, _||_, not, cond}
 use mathlib.Core.List.{List, [], _∷_, _++_}
 use mathlib.Core.Option.{Option, none, some}
 use lib.Dec.{leb, eqb}
@@ -9,6 +9,8 @@ use Rattle.utf8.specs.Rfc3629.{utf8, between}
 use Rattle.model.specs.Text.{Text, unwrap-or, any, all}
 use Rattle.model.specs.MagicString.{MagicString, Result, ok, err, new}
 use Rattle.model.specs.MagicString as mod-rs
+use Rattle.model.specs.Frozen.{Guard, unguarded, has-frozen, any-frozen}
+use Rattle.model.specs.Frozen as frozen-parts
 use Rattle.model.specs.Append as append-rs
 use Rattle.model.specs.Prepend as prepend-rs
 use Rattle.model.specs.Insert as insertion
@@ -34,6 +36,8 @@ pub data Edit : Type 0 where
   trim trim-start trim-end : ℕ → Edit
   trim-lines : Edit
   indent-with : Option Text → List ℕ → Edit
+  -- document 02, L8
+  freeze : ℕ → ℕ → Edit
 
 -- the calls that report on a desk. The last number of `to-string`, `slice`, `last-line` and `get-indent-string` is the length of the lent buffer; the end of a slice may be absent
 pub data Report : Type 0 where
@@ -59,96 +63,122 @@ pub record Asked : Type 0 where
   pub texts : List Text
   -- 3: the positions
   pub positions : List ℕ
+  -- 20 on any desk with a marked chunk
+  pub whole : Bool
   -- whether the Rust accepts it without a step: zero width, or an empty indentor
   pub idle : Bool
   pub steps : MagicString → Result
-  -- which of 15, 1 and 3 it may give, and "the module's own" numbers, in the order of its tests
+  -- which of 15, 1, 3 and the whole desk's 20 it may give, and "the module's own" numbers, in the order of its tests
   pub before : List ℕ
   pub own : List ℕ
-  -- of its own: "6, 7, 9 and `update_with`'s 10 leave the desk as the Rust does: cuts made stay, so do chunks cleared before 7. All others change nothing"
+  -- of its own: "6, 7, 9 and `update_with`'s 10 leave the desk as the Rust does: cuts made stay, so do chunks cleared before 7. All others change nothing"; document 02 of 20: "cuts
+  -- made stay"
   pub leaving : List ℕ
 
 abbrev pub addition : Text → (MagicString → Result) → Asked
-addition t f = record { options-valid = true; texts = t ∷ []; positions = []; idle = false; steps = f; before = 1 ∷ []; own = []; leaving = [] }
+addition t f =
+    record { options-valid = true; texts = t ∷ []; positions = []; whole = false; idle = false; steps = f; before = 1 ∷ []; own = []; leaving = [] }
 
 abbrev pub trimming : Bool → List ℕ → (MagicString → MagicString) → Asked
 trimming valid before f =
-    record { options-valid = valid; texts = []; positions = []; idle = false; steps = λ m. ok (f m); before = before; own = []; leaving = [] }
+    record { options-valid = valid; texts = []; positions = []; whole = true; idle = false; steps = λ m. ok (f m); before = before; own = []; leaving = [] }
 
-abbrev pub asked : Edit → Asked
-asked (remove a b) =
+abbrev pub asked-by : Guard → Edit → Asked
+asked-by g (remove a b) =
     record {
       options-valid = true;
       texts = [];
       positions = a ∷ b ∷ [];
+      whole = false;
       idle = eqb a b;
-      steps = movement-rs.remove a b;
+      steps = movement-rs.remove g a b;
       before = 3 ∷ [];
-      own = 4 ∷ 6 ∷ [];
-      leaving = 6 ∷ [];
+      own = 4 ∷ 6 ∷ 20 ∷ [];
+      leaving = 6 ∷ 20 ∷ [];
     }
-asked (update-with a b t o) =
+asked-by g (update-with a b t o) =
     record {
       options-valid = true;
       texts = t ∷ [];
       positions = a ∷ b ∷ [];
+      whole = false;
       idle = false;
-      steps = update-rs.update-with a b t o;
+      steps = update-rs.update-with g a b t o;
       before = 1 ∷ 3 ∷ [];
-      own = 5 ∷ 4 ∷ 6 ∷ 10 ∷ 7 ∷ [];
-      leaving = 6 ∷ 10 ∷ 7 ∷ [];
+      own = 5 ∷ 4 ∷ 6 ∷ 10 ∷ 20 ∷ 7 ∷ [];
+      leaving = 6 ∷ 10 ∷ 20 ∷ 7 ∷ [];
     }
-asked (reset a b) =
+asked-by g (reset a b) =
     record {
       options-valid = true;
       texts = [];
       positions = a ∷ b ∷ [];
+      whole = false;
       idle = eqb a b;
-      steps = reset-rs.reset a b;
+      steps = reset-rs.reset g a b;
       before = 3 ∷ [];
-      own = 4 ∷ 10 ∷ 6 ∷ [];
-      leaving = 6 ∷ [];
+      own = 4 ∷ 10 ∷ 6 ∷ 20 ∷ [];
+      leaving = 6 ∷ 20 ∷ [];
     }
 -- the one cut is made or refused, so that 6 leaves nothing
-asked (insert p t left front) =
+asked-by g (insert p t left front) =
     record {
       options-valid = true;
       texts = t ∷ [];
       positions = p ∷ [];
+      whole = false;
       idle = false;
       steps = insertion.insert p t left front;
       before = 1 ∷ 3 ∷ [];
       own = 6 ∷ [];
       leaving = [];
     }
-asked (append t) = addition t (append-rs.append t)
-asked (prepend t) = addition t (prepend-rs.prepend t)
-asked (relocate a b to) =
+asked-by g (append t) = addition t (append-rs.append t)
+asked-by g (prepend t) = addition t (prepend-rs.prepend t)
+asked-by g (relocate a b to) =
     record {
       options-valid = true;
       texts = [];
       positions = a ∷ b ∷ to ∷ [];
+      whole = false;
       idle = eqb a b;
       steps = movement-rs.relocate a b to;
       before = 3 ∷ [];
       own = 8 ∷ 4 ∷ 10 ∷ 6 ∷ 9 ∷ [];
       leaving = 6 ∷ 9 ∷ [];
     }
-asked (trim p) = trimming (leb p 1) (15 ∷ []) (trim-rs.trim p)
-asked (trim-start p) = trimming (leb p 1) (15 ∷ []) (trim-rs.trim-start p)
-asked (trim-end p) = trimming (leb p 1) (15 ∷ []) (trim-rs.trim-end p)
-asked trim-lines = trimming true [] trim-rs.trim-lines
-asked (indent-with i l) =
+asked-by g (trim p) = trimming (leb p 1) (15 ∷ 20 ∷ []) (trim-rs.trim p)
+asked-by g (trim-start p) = trimming (leb p 1) (15 ∷ 20 ∷ []) (trim-rs.trim-start p)
+asked-by g (trim-end p) = trimming (leb p 1) (15 ∷ 20 ∷ []) (trim-rs.trim-end p)
+asked-by g trim-lines = trimming true (20 ∷ []) trim-rs.trim-lines
+asked-by g (indent-with i l) =
     record {
       options-valid = eqb (length l % 2) 0;
       texts = given i;
       positions = l;
+      whole = true;
       idle = is-empty-indentor i;
       steps = indent-rs.indent-with i l;
-      before = 15 ∷ 1 ∷ 3 ∷ [];
+      before = 15 ∷ 1 ∷ 3 ∷ 20 ∷ [];
       own = [];
       leaving = [];
     }
+asked-by g (freeze a b) =
+    record {
+      options-valid = true;
+      texts = [];
+      positions = a ∷ b ∷ [];
+      whole = false;
+      idle = eqb a b;
+      steps = frozen-parts.freeze a b;
+      before = 3 ∷ [];
+      own = 4 ∷ 10 ∷ 6 ∷ [];
+      leaving = 6 ∷ [];
+    }
+
+-- by the marks
+abbrev pub asked : Edit → Asked
+asked = asked-by has-frozen
 
 abbrev pub options-valid : Edit → Bool
 options-valid e = asked e .options-valid
@@ -159,19 +189,26 @@ texts e = asked e .texts
 abbrev pub positions : Edit → List ℕ
 positions e = asked e .positions
 
+abbrev pub whole : Edit → Bool
+whole e = asked e .whole
+
 abbrev pub idle : Edit → Bool
 idle e = asked e .idle
 
 abbrev pub steps : Edit → MagicString → Result
 steps e = asked e .steps
 
--- "Order: 2, 15, 1, 3, then the module's own". 2 is judged on the memory, before there is a desk to speak of
-unfoldable pub refused-before : MagicString → Edit → ℕ
-refused-before m e =
+-- "Order: 2, 15, 1, 3, then the module's own". 2 is judged on the memory, before there is a desk to speak of. "For trim and indent [20] comes after 3", where a chunk is marked
+abbrev pub refused-by : Bool → MagicString → Edit → ℕ
+refused-by marked m e =
     cond (not (options-valid e)) 15
     (cond (not (all utf8 (texts e))) 1
     (cond (not (all (between (m .source)) (positions e))) 3
-    0))
+    (cond (whole e && marked) 20
+    0)))
+
+unfoldable pub refused-before : MagicString → Edit → ℕ
+refused-before m e = refused-by (any-frozen m) m e
 
 -- "13 stands after 3 and replaces any answer after it: .. given if and only if the desk that the Rust would leave .., accepted or refused, breaks a desk limit"; then nothing is changed
 unfoldable pub judged : Limits → MagicString → Result → Result
@@ -179,6 +216,10 @@ judged k before r = cond (not (within k (r .desk))) (err 13 before) r
 
 unfoldable pub run : Limits → Edit → MagicString → Result
 run k e m = elim (refused-before m e) [ suc n ↦ err (suc n) m | zero ↦ judged k m (steps e m) ]
+
+-- the same as the Rust has it, which knows no marks: what document 01 says. crates/model_preservation proves that on a desk without marks it is `run`
+unfoldable pub rust-run : Limits → Edit → MagicString → Result
+rust-run k e m = elim (refused-by false m e) [ suc n ↦ err (suc n) m | zero ↦ judged k m (asked-by unguarded e .steps m) ]
 
 -- document 02, L4: "On a refusal the number counts the cuts that remain. It equals the growth in chunks." An edit's value
 abbrev pub cuts-left : Limits → Edit → MagicString → ℕ
@@ -298,3 +339,4 @@ listed (trim-start p) = false
 listed (trim-end p) = false
 listed trim-lines = false
 listed (indent-with i l) = false
+listed (freeze a b) = false

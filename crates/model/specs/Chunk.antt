@@ -21,26 +21,28 @@ pub record Texts : Type 0 where
   pub outro : List Text
   pub edited-content : Option Text
 
--- `Chunk`. Links and indices are gone: the list of a desk's chunks is in list order. The span stands apart from the rest, so that what changes the rest keeps it
+-- `Chunk`, and document 02's L8: "Each chunk gains a mark". Links and indices are gone: the list of a desk's chunks is in list order. Span and mark stand apart from the
+-- texts, so that what changes the texts keeps them
 pub record Chunk : Type 0 where
   pub span : Span
+  pub frozen : Bool
   pub texts : Texts
 
 -- every chunk is made here
-abbrev pub chunk-of : ℕ → ℕ → Texts → Chunk
-chunk-of start end t = record { span = record { start = start; end = end }; texts = t }
+abbrev pub chunk-of : ℕ → ℕ → Bool → Texts → Chunk
+chunk-of start end frozen t = record { span = record { start = start; end = end }; frozen = frozen; texts = t }
 
 -- no pieces and this replacement, or none
 abbrev pub bare : Option Text → Texts
 bare e = record { intro = []; outro = []; edited-content = e }
 
--- `Chunk::new`
+-- `Chunk::new`; the mark is "clear on opening"
 abbrev pub new-chunk : ℕ → ℕ → Chunk
-new-chunk start end = chunk-of start end (bare none)
+new-chunk start end = chunk-of start end false (bare none)
 
--- the chunk with other texts, and the same span
+-- the chunk with other texts, and the same span and mark
 abbrev pub with-texts : (Texts → Texts) → Chunk → Chunk
-with-texts f c = record { span = c .span; texts = f (c .texts) }
+with-texts f c = record { span = c .span; frozen = c .frozen; texts = f (c .texts) }
 
 -- `Chunk::start`, `Chunk::end`
 abbrev pub start-of : Chunk → ℕ
@@ -75,14 +77,14 @@ abbrev pub is-filled : Option Text → Bool
 is-filled none = false
 is-filled (some t) = not (is-nil t)
 
--- the two halves of `Chunk::split`: the first keeps the intro, the second takes the outro, and an empty replacement goes to both
+-- the two halves of `Chunk::split`: the first keeps the intro, the second takes the outro, and an empty replacement goes to both. "A cut gives the mark to both halves"
 abbrev pub first-half : ℕ → Chunk → Chunk
 first-half at c =
-    chunk-of (start-of c) at (record { intro = c .texts .intro; outro = []; edited-content = c .texts .edited-content })
+    chunk-of (start-of c) at (c .frozen) (record { intro = c .texts .intro; outro = []; edited-content = c .texts .edited-content })
 
 abbrev pub second-half : ℕ → Chunk → Chunk
 second-half at c =
-    chunk-of at (end-of c) (record { intro = []; outro = c .texts .outro; edited-content = c .texts .edited-content })
+    chunk-of at (end-of c) (c .frozen) (record { intro = []; outro = c .texts .outro; edited-content = c .texts .edited-content })
 
 -- "A chunk's content is either its part of the source or its replacement text"
 abbrev pub content : Text → Chunk → Text

@@ -1,6 +1,7 @@
 pub mod Text
 pub mod Chunk
 pub mod MagicString
+pub mod Frozen
 pub mod Append
 pub mod Prepend
 pub mod Insert

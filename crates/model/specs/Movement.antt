@@ -7,6 +7,7 @@ use lib.Dec.{ltb, leb, eqb}
 use lib.ListN.{length}
 use Rattle.model.specs.Chunk.{Chunk, Texts, start-of, end-of, edit}
 use Rattle.model.specs.MagicString.{MagicString, Result, ok, err, and-then, with-chunks, by-start, at-start, split-at}
+use Rattle.model.specs.Frozen.{Guard, unless-guarded}
 
 -- The loop of `remove`, and of `reset`: the chunk that starts at `at` is changed, then the one that starts at its end, by position, while `end` lies behind. The first
 -- argument bounds the turns: no chunk is met twice, except that on an empty source the Rust meets its one chunk again and again, where document 01 changes it once
@@ -21,17 +22,18 @@ change-by-position (suc k) f at end cs =
       ]
     ]
 
-unfoldable pub change-range : (Texts → Texts) → ℕ → ℕ → MagicString → Result
-change-range f start end m =
+-- two cuts, document 02's 20 where the range is refused, then the loop
+unfoldable pub change-range : Guard → (Texts → Texts) → ℕ → ℕ → MagicString → Result
+change-range g f start end m =
     and-then (split-at start m) λ m. and-then (split-at end m) λ m.
-    ok (with-chunks m (change-by-position (length (m .chunks)) f start end (m .chunks)))
+    unless-guarded g start end m (ok (with-chunks m (change-by-position (length (m .chunks)) f start end (m .chunks))))
 
 -- `remove`: an end past the source is accepted
-unfoldable pub remove : ℕ → ℕ → MagicString → Result
-remove start end m =
+unfoldable pub remove : Guard → ℕ → ℕ → MagicString → Result
+remove g start end m =
     cond (eqb start end) (ok m)
     (cond (ltb end start) (err 4 m)
-    (change-range (edit [] true) start end m))
+    (change-range g (edit [] true) start end m))
 
 -- ── `relocate` ──
 -- the list taken apart: what stands before the range, the range, what stands behind it; or the range does not stand together

@@ -7,7 +7,7 @@ use lib.Dec.{eqb}
 use lib.ListN.{length}
 use Rattle.utf8.specs.WhiteSpace.{whiteSpace}
 use Rattle.model.specs.Text.{Text, LF, CR, is-nil, trim-start-matches, trim-end-matches}
-use Rattle.model.specs.Chunk.{Chunk, content}
+use Rattle.model.specs.Chunk.{Chunk, with-texts, content}
 use Rattle.model.specs.MagicString.{MagicString, with-chunks, with-intro, with-outro}
 
 -- the patterns of document 01: 0 for `\s`, 1 for `[\r\n]`
@@ -48,7 +48,7 @@ pub record Trimmed : Type 0 where
 
 abbrev pub trimmed : Chunk → List Text → Option Text → List Text → Bool → Trimmed
 trimmed c intro edited outro k =
-    record { goes-on = k; chunk = record { span = c .span; texts = record { intro = intro; outro = outro; edited-content = edited } } }
+    record { goes-on = k; chunk = with-texts (λ x. record { intro = intro; outro = outro; edited-content = edited }) c }
 
 -- the turn of `trim_start_aborted` at one chunk: its intro, its content, its outro; each stops the trim where something is left
 unfoldable pub trim-chunk-start : ℕ → Text → Chunk → Trimmed

@@ -7,6 +7,7 @@ use lib.ListN.{length}
 use Rattle.model.specs.Text.{Text}
 use Rattle.model.specs.Chunk.{Chunk, with-texts, start-of, end-of, edit}
 use Rattle.model.specs.MagicString.{MagicString, Result, ok, err, and-then, with-chunks, split-at}
+use Rattle.model.specs.Frozen.{Guard, unless-guarded}
 
 -- the chunks that a walk leaves, and whether it came to the end of the range
 pub record Walk : Type 0 where
@@ -39,10 +40,11 @@ update-chunks start end t overwrite m =
     let w : Walk = update-walk start end t overwrite (m .chunks) in
     cond (w .done) (ok (with-chunks m (w .chunks))) (err 7 (with-chunks m (w .chunks)))
 
--- `update_with`: 5, 4, cut start, cut end, 10 (where the Rust panics), then the walk
-unfoldable pub update-with : ℕ → ℕ → Text → Bool → MagicString → Result
-update-with start end t overwrite m =
+-- `update_with`: 5, 4, cut start, cut end, 10 (where the Rust panics), 20, then the walk
+unfoldable pub update-with : Guard → ℕ → ℕ → Text → Bool → MagicString → Result
+update-with g start end t overwrite m =
     cond (eqb start end) (err 5 m)
     (cond (ltb end start) (err 4 m)
     (and-then (split-at start m) λ m. and-then (split-at end m) λ m.
-    cond (ltb (length (m .source)) end) (err 10 m) (update-chunks start end t overwrite m)))
+    cond (ltb (length (m .source)) end) (err 10 m)
+    (unless-guarded g start end m (update-chunks start end t overwrite m))))

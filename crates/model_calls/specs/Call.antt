@@ -7,8 +7,8 @@ use Rattle.model.specs.Limits.{Limits}
 use Rattle.model.specs.Call.{Edit, Report, edit-numbers, report-numbers, show, opened, Outcome, changed, edited}
 use Rattle.model_join.specs.Join as joining
 
--- the calls on a desk: "this paper's calls on a desk (edits, trims, indent, slices, reports, `to_string`)", and the join of two lists. The any-order rule's later calls are these, so
--- that a call that is added is one of them
+-- the calls on a desk: "this paper's calls on a desk (edits, trims, indent, slices, reports, `to_string`)", freezing among the edits, and the join of two lists. The
+-- any-order rule's later calls are these, so that a call that is added is one of them
 pub data DeskCall : Type 0 where
   change : Edit → DeskCall
   report : Report → DeskCall

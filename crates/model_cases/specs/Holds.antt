@@ -7,6 +7,7 @@ use Rattle.utf8.specs.WhiteSpace.{whiteSpace}
 use Rattle.model.specs.Text.{trim-start-matches, trim-end-matches}
 use Rattle.model.specs.Chunk.{contains}
 use Rattle.model.specs.MagicString.{split-at, by-edge-mut, to-string, len, last-char}
+use Rattle.model.specs.Frozen.{has-frozen, any-frozen, freeze-range, freeze}
 use Rattle.model.specs.Update.{update-chunks, update-with}
 use Rattle.model.specs.Movement.{change-range, remove, relocate}
 use Rattle.model.specs.Reset.{reset}
@@ -22,7 +23,7 @@ use Rattle.model_cases.specs.Numbers.{numbers}
 
 both-tables : Holds marked × Holds numbers
 unfolding flatten scalar sequence decodeAt wholeFrom utf8 between toFirst chars code whiteSpace trim-start-matches trim-end-matches contains split-at
-    by-edge-mut to-string len last-char update-chunks update-with change-range remove relocate reset contains-end chunk-slice ends-inside
+    by-edge-mut to-string len last-char update-chunks update-with has-frozen any-frozen freeze-range freeze change-range remove relocate reset contains-end chunk-slice ends-inside
     slice trim-chunk-start trim-chunk-end trim-start trim-end get-indent-string indent-chunk indent-by indent-with within judged refused-before run
     show opened perform marked numbers
 both-tables = (refl, refl)

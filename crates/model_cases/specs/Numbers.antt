@@ -1,4 +1,4 @@
--- Document 01, "Numbers a caller may get": the table's own examples. 2 is of memory that is no desk, and stands with the memory.
+-- Document 01, "Numbers a caller may get": the table's own examples; and 20 of document 02's L8. 2 is of memory that is no desk, and stands with the memory.
 use Prim.Native.Nat.{_+_}
 use mathlib.Core.Bool.{false}
 use mathlib.Core.List.{List, [], _∷_}
@@ -6,7 +6,7 @@ use mathlib.Core.Option.{none, some}
 use lib.ListN.{replicate}
 use Rattle.model.specs.Limits.{full}
 use Rattle.model.specs.Insert.{left, back}
-use Rattle.model.specs.Call.{remove, update-with, reset, insert, relocate, trim, to-string}
+use Rattle.model.specs.Call.{remove, update-with, reset, insert, relocate, trim, freeze, to-string}
 use Rattle.model_calls.specs.Call.{report}
 use Rattle.model_cases.specs.Case.{Case}
 use Rattle.model_cases.specs.Letters.{a, b, c, d, e, f, X, Z, gives, opened, edited, output, slice-refused}
@@ -53,4 +53,9 @@ numbers =
     -- 14 output buffer too short: "abc" into 2 bytes
     abc (record { steps = gives (report (to-string 2)) 14 0 [] ∷ []; spans = (0, 3) ∷ [] }) ∷
     -- 15 pattern above 1: trim 2
-    abc (record { steps = edited (trim 2) 15 0 ∷ output (a ∷ b ∷ c ∷ []) ∷ []; spans = (0, 3) ∷ [] }) ∷ []
+    abc (record { steps = edited (trim 2) 15 0 ∷ output (a ∷ b ∷ c ∷ []) ∷ []; spans = (0, 3) ∷ [] }) ∷
+    -- 20 a frozen chunk in the range, whose cuts stay, or on the desk: "abc", freeze 0,1, remove 0,2, trim
+    abc (record {
+      steps = edited (freeze 0 1) 0 1 ∷ edited (remove 0 2) 20 1 ∷ edited (trim 0) 20 0 ∷ output (a ∷ b ∷ c ∷ []) ∷ [];
+      spans = (0, 1) ∷ (1, 2) ∷ (2, 3) ∷ [];
+    }) ∷ []

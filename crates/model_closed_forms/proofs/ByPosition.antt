@@ -265,11 +265,11 @@ module _ (n : ℕ) (f : Texts → Texts) (b : ℕ) where
           next (no l) = turn-last k f a b cs c e (le-ltb y b (omega arith)) ∙ (r .turn ∙ range-last a y b f ab (omega arith) (r .apart))
 
 -- on the one chunk of an empty source: changed once if a is 0
-walk-empty : (f : Texts → Texts) (a b : ℕ) (t : Texts) → a < b → change-by-position 1 f a b (chunk-of 0 0 t ∷ []) ≡ map (in-range a b f) (chunk-of 0 0 t ∷ [])
-walk-empty f a b t ab = go (ℕ-discrete 0 a)
+walk-empty : (f : Texts → Texts) (a b : ℕ) (z : Bool) (t : Texts) → a < b → change-by-position 1 f a b (chunk-of 0 0 z t ∷ []) ≡ map (in-range a b f) (chunk-of 0 0 z t ∷ [])
+walk-empty f a b z t ab = go (ℕ-discrete 0 a)
   where
     c : Chunk
-    c = chunk-of 0 0 t
+    c = chunk-of 0 0 z t
 
     go : Dec (0 ≡ a) → change-by-position 1 f a b (c ∷ []) ≡ map (in-range a b f) (c ∷ [])
     go (yes e) =
@@ -278,7 +278,7 @@ walk-empty f a b t ab = go (ℕ-discrete 0 a)
     go (no e) = turn-none 0 f a b (c ∷ []) (rw (ne-eqb 0 a e)) ∙ rw (inside-false a b 0 (λ i. e (omega arith)))
 
 pub by-position : (f : Texts → Texts) (a b : ℕ) → a < b → {s : Text} {cs : List Chunk} → Cover s cs → All (λ c. Contains a c → ⊥) cs → change-by-position (length cs) f a b cs ≡ map (in-range a b f) cs
-by-position f a b ab (empty t) al = walk-empty f a b t ab
+by-position f a b ab (empty z t) al = walk-empty f a b z t ab
 by-position f a b ab (tiled {source = s} {cs = cs} l t) al = walk (length s) f b (length cs) a cs ab t al (from-length a cs)
 
 -- ── the chunk that an insertion looks for ──
@@ -303,14 +303,14 @@ one-or true f c = refl
 one-or false f c = refl
 
 pub at-edge-is-map : (left : Bool) (p : ℕ) (f : Texts → Texts) {s : Text} {cs : List Chunk} → Cover s cs → at-edge left p f cs ≡ map (if-edge left p f) cs
-at-edge-is-map true p f (empty t) = one-or (eqb 0 p) f (chunk-of 0 0 t)
-at-edge-is-map false p f (empty t) = one-or (eqb 0 p) f (chunk-of 0 0 t)
+at-edge-is-map true p f (empty z t) = one-or (eqb 0 p) f (chunk-of 0 0 z t)
+at-edge-is-map false p f (empty z t) = one-or (eqb 0 p) f (chunk-of 0 0 z t)
 at-edge-is-map left p f (tiled {cs = cs} l t) = at-edge-map left p f cs (tiling-once t) (t .proper)
 
 -- a chunk ends, or starts, where the plan says
 end-is-found : (p : ℕ) {s : Text} {cs : List Chunk} → Cover s cs → All (λ c. Contains p c → ⊥) cs → is-some (by-end p cs) ≡ chunk-ends (length s) p
-end-is-found zero (empty t) al = refl
-end-is-found (suc p) (empty t) al = rw (ne-eqb 0 (suc p) (λ e. omega arith), lt-leb (suc p) 0 (omega arith))
+end-is-found zero (empty z t) al = refl
+end-is-found (suc p) (empty z t) al = rw (ne-eqb 0 (suc p) (λ e. omega arith), lt-leb (suc p) 0 (omega arith))
 end-is-found p (tiled {source = s} {cs = cs} l t) al = go (ℕ-discrete p 0) (decLe p (length s))
   where
     go : Dec (p ≡ 0) → Dec (p ≤ length s) → is-some (by-end p cs) ≡ chunk-ends (length s) p
@@ -319,8 +319,8 @@ end-is-found p (tiled {source = s} {cs = cs} l t) al = go (ℕ-discrete p 0) (de
     go (no z) (no k) = rw (end-missing p (all-map (λ c w e. omega arith) (t .within)), lt-leb p (length s) (omega arith))
 
 start-is-found : (p : ℕ) {s : Text} {cs : List Chunk} → Cover s cs → All (λ c. Contains p c → ⊥) cs → is-some (by-start p cs) ≡ chunk-starts (length s) p
-start-is-found zero (empty t) al = refl
-start-is-found (suc p) (empty t) al = rw (ne-eqb 0 (suc p) (λ e. omega arith), le-ltb (suc p) 0 (omega arith), ne-eqb (suc p) 0 (λ e. omega arith))
+start-is-found zero (empty z t) al = refl
+start-is-found (suc p) (empty z t) al = rw (ne-eqb 0 (suc p) (λ e. omega arith), le-ltb (suc p) 0 (omega arith), ne-eqb (suc p) 0 (λ e. omega arith))
 start-is-found p (tiled {source = s} {cs = cs} l t) al = go (decLt p (length s))
   where
     go : Dec (p < length s) → is-some (by-start p cs) ≡ chunk-starts (length s) p
@@ -338,7 +338,7 @@ chunk-is-found false p v al = start-is-found p v al
 
 -- where none does, the position needs no cut
 no-end-aligned : (p : ℕ) {s : Text} {cs : List Chunk} → Cover s cs → chunk-ends (length s) p ≡ false → All (λ c. Contains p c → ⊥) cs
-no-end-aligned p (empty t) h = let n : Contains p (chunk-of 0 0 t) → ⊥ = λ i. omega arith in cons n nil
+no-end-aligned p (empty z t) h = let n : Contains p (chunk-of 0 0 z t) → ⊥ = λ i. omega arith in cons n nil
 no-end-aligned p (tiled {source = s} {cs = cs} l t) h = go (ℕ-discrete p 0) (decLe p (length s))
   where
     go : Dec (p ≡ 0) → Dec (p ≤ length s) → All (λ c. Contains p c → ⊥) cs
@@ -347,7 +347,7 @@ no-end-aligned p (tiled {source = s} {cs = cs} l t) h = go (ℕ-discrete p 0) (d
     go (no z) (no k) = all-map (λ c w i. omega arith) (t .within)
 
 no-start-aligned : (p : ℕ) {s : Text} {cs : List Chunk} → Cover s cs → chunk-starts (length s) p ≡ false → All (λ c. Contains p c → ⊥) cs
-no-start-aligned p (empty t) h = let n : Contains p (chunk-of 0 0 t) → ⊥ = λ i. omega arith in cons n nil
+no-start-aligned p (empty z t) h = let n : Contains p (chunk-of 0 0 z t) → ⊥ = λ i. omega arith in cons n nil
 no-start-aligned p (tiled {source = s} {cs = cs} l t) h = go (decLt p (length s))
   where
     go : Dec (p < length s) → All (λ c. Contains p c → ⊥) cs

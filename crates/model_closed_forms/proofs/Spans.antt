@@ -145,7 +145,7 @@ pub cover-of : (source : Text) (cs : List Chunk) → Covered source cs → Cover
 cover-of [] [] h = absurd (span-of-none h)
 cover-of [] (c ∷ []) h =
     let e : c .span ≡ record { start = 0; end = 0 } = cc in
-    subst (λ (s : Span). Cover [] (record { span = s; texts = c .texts } ∷ [])) (sym e) (empty (c .texts))
+    subst (λ (s : Span). Cover [] (record { span = s; frozen = c .frozen; texts = c .texts } ∷ [])) (sym e) (empty (c .frozen) (c .texts))
 cover-of [] (c ∷ d ∷ l) h = let e : _≡_ {A = List Span} [] (d .span ∷ map (λ x. x .span) l) = cc in absurd (span-of-none e)
 cover-of (a ∷ s) cs h =
     tiled {source = a ∷ s} (omega arith) (record { proper = all-map (λ c p. p .proper) (h .spans); within = all-map (λ c p. p .inside) (h .spans); exact = h .once })

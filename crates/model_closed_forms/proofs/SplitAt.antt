@@ -16,25 +16,25 @@ use Rattle.model.specs.MagicString.{MagicString, Result, ok, err, and-then, wit
 use Rattle.model.specs.WellFormed.{covers}
 use Rattle.model.proofs.Lists.{or-cases, bool-cases, clash, all-of, all-map, true-all}
 use Rattle.model.proofs.Spans.{covers-in, covers-out}
-use Rattle.model_closed_forms.specs.Plan.{Plan, cut, cut-all, splittable, cuttable, cut-until-refused, cuts, apply, in-order, order-number, left-over, ends-past, closed-plan}
+use Rattle.model_closed_forms.specs.Plan.{Plan, cut, cut-all, splittable, cuttable, cut-until-refused, cuts, apply, in-order, order-number, left-over, ends-past, frozen-in, closed-plan}
 use Rattle.model_closed_forms.proofs.Cuts.{Contains, dec-contains, contains-true, contains-false, split-in, split-out, cut-none, splittable-true}
 use Rattle.model_closed_forms.specs.Spans.{Proper, Cover, empty, tiled}
 use Rattle.model_closed_forms.proofs.Spans.{none-cover, Once, once-rest, tiling-once, tiling-cut}
 use Rattle.model_closed_forms.specs.SplitAt.{cuts-then}
 
 -- ── the spans of any desk ──
-empty-once : (t : Texts) → Once (chunk-of 0 0 t ∷ [])
-empty-once t x = omega (arith, covers-out x (chunk-of 0 0 t) (λ i. omega arith))
+empty-once : (z : Bool) (t : Texts) → Once (chunk-of 0 0 z t ∷ [])
+empty-once z t x = omega (arith, covers-out x (chunk-of 0 0 z t) (λ i. omega arith))
 
 pub cover-once : {s : Text} {cs : List Chunk} → Cover s cs → Once cs
-cover-once (empty t) = empty-once t
+cover-once (empty z t) = empty-once z t
 cover-once (tiled l t) = tiling-once t
 
-empty-aligned : (p : ℕ) (t : Texts) → All (λ c. Contains p c → ⊥) (chunk-of 0 0 t ∷ [])
-empty-aligned p t = let n : Contains p (chunk-of 0 0 t) → ⊥ = λ i. omega arith in cons n nil
+empty-aligned : (p : ℕ) (z : Bool) (t : Texts) → All (λ c. Contains p c → ⊥) (chunk-of 0 0 z t ∷ [])
+empty-aligned p z t = let n : Contains p (chunk-of 0 0 z t) → ⊥ = λ i. omega arith in cons n nil
 
 pub cover-cut : {s : Text} {cs : List Chunk} (p : ℕ) → Cover s cs → Cover s (cut p cs)
-cover-cut p (empty t) = rw (cut-none p (empty-aligned p t)) (empty t)
+cover-cut p (empty z t) = rw (cut-none p (empty-aligned p z t)) (empty z t)
 cover-cut p (tiled l t) = tiled l (tiling-cut p t)
 
 pub cover-cut-all : {s : Text} (ps : List ℕ) {cs : List Chunk} → Cover s cs → Cover s (cut-all ps cs)
@@ -66,7 +66,7 @@ ends-aligned p (c ∷ cs) o (cons x pr) q e = go (ℕ-discrete (end-of c) p) (en
 
 -- "does nothing at 0, at or past the source's end, or at a chunk's edge"
 pub idle-aligned : (p : ℕ) {s : Text} {cs : List Chunk} → Cover s cs → eqb p 0 || (leb (length s) p || is-some (by-end p cs)) ≡ true → All (λ c. Contains p c → ⊥) cs
-idle-aligned p (empty t) h = empty-aligned p t
+idle-aligned p (empty z t) h = empty-aligned p z t
 idle-aligned p (tiled {source = s} {cs = cs} l t) h = at-zero (or-cases (eqb p 0) (leb (length s) p || is-some (by-end p cs)) h)
   where
     at-edge : Dec (p ≡ 0) → is-some (by-end p cs) ≡ true → All (λ c. Contains p c → ⊥) cs
@@ -156,7 +156,8 @@ abbrev pub after-cuts : Plan → MagicString → Result
 after-cuts P m =
     let cs : List Chunk = cut-all (cuts P) (m .chunks) in
     cond (ends-past (length (m .source)) P) (err 10 (with-chunks m cs))
-    (cond (in-order P cs) (ok (apply P m)) (err (order-number P) (with-chunks m (left-over P cs))))
+    (cond (frozen-in P cs) (err 20 (with-chunks m cs))
+    (cond (in-order P cs) (ok (apply P m)) (err (order-number P) (with-chunks m (left-over P cs)))))
 
 pub cuts-then-step : (P : Plan) (step : MagicString → Result) (m : MagicString) → Cover (m .source) (m .chunks)
     → step (with-chunks m (cut-all (cuts P) (m .chunks))) ≡ after-cuts P m → cuts-then (cuts P) step m ≡ closed-plan P m

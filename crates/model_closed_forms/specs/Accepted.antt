@@ -4,7 +4,7 @@ use mathlib.Core.Bool.{true, false}
 use lib.ListN.{length}
 use Rattle.model.specs.MagicString.{MagicString}
 use Rattle.model.specs.Call.{Edit}
-use Rattle.model_closed_forms.specs.Plan.{Plan, plan, refused-first, cut-all, cuttable, cuts, in-order, ends-past}
+use Rattle.model_closed_forms.specs.Plan.{Plan, plan, refused-first, cut-all, cuttable, cuts, in-order, ends-past, frozen-in}
 
 abbrev pub plan-of : Edit → MagicString → Plan
 plan-of e m = plan (length (m .source)) e
@@ -17,5 +17,7 @@ pub record Accepted (e : Edit) (m : MagicString) : Type 0 where
   pub cuts-made : cuttable (cuts (plan-of e m)) (m .chunks) ≡ true
   -- no 10 of update
   pub inside : ends-past (length (m .source)) (plan-of e m) ≡ false
+  -- no 20
+  pub unfrozen : frozen-in (plan-of e m) (cut-all (cuts (plan-of e m)) (m .chunks)) ≡ false
   -- no 7 and no 9
   pub ordered : in-order (plan-of e m) (cut-all (cuts (plan-of e m)) (m .chunks)) ≡ true

@@ -6,13 +6,14 @@ use mathlib.Core.List.{List, [], _∷_, _++_, map}
 use mathlib.Core.Option.{Option, none, some}
 use lib.Dec.{ltb, leb, eqb}
 use lib.ListN.{length}
-use Rattle.model.specs.Text.{Text, all}
+use Rattle.model.specs.Text.{Text, any, all}
 use Rattle.model.specs.Chunk.{Span, Texts, Chunk, bare, with-texts, start-of, end-of, contains, is-filled, first-half, second-half, edit}
 use Rattle.model.specs.MagicString.{MagicString, Result, ok, err, with-chunks, edge}
+use Rattle.model.specs.Frozen.{starts-within}
 use Rattle.model.specs.Insert.{left, right, front, back, push, push-to}
 use Rattle.model.specs.Movement.{insert-before}
 use Rattle.model.specs.Call.{Edit, remove, update-with, reset, insert, append, prepend, relocate, trim, trim-start, trim-end}
-use Rattle.model.specs.Call.{trim-lines, indent-with}
+use Rattle.model.specs.Call.{trim-lines, indent-with, freeze}
 
 -- ── plans ──
 pub data Plan : Type 0 where
@@ -56,6 +57,7 @@ plan n (trim-start p) = nothing
 plan n (trim-end p) = nothing
 plan n trim-lines = nothing
 plan n (indent-with i l) = nothing
+plan n (freeze a b) = nothing
 
 -- the number refused before any cut, by the arguments and the source's length alone: 4, 5, 8, and 10 but for update's; 0 for none
 unfoldable pub refused-first : ℕ → Edit → ℕ
@@ -71,6 +73,7 @@ refused-first n (trim-start p) = 0
 refused-first n (trim-end p) = 0
 refused-first n trim-lines = 0
 refused-first n (indent-with i l) = 0
+refused-first n (freeze a b) = 0
 
 -- ── cuts ──
 -- one chunk: its two halves if it contains p, or itself
@@ -221,14 +224,24 @@ ends-past n (insert-piece p t left front) = false
 ends-past n (insert-whole t left front) = false
 ends-past n (move a b to) = false
 
+-- document 02's 20: the plan clears or replaces a range in which a marked chunk starts
+unfoldable pub frozen-in : Plan → List Chunk → Bool
+frozen-in nothing cs = false
+frozen-in (clear a b r) cs = any (λ c. starts-within a b c && c .frozen) cs
+frozen-in (replace a b t o) cs = any (λ c. starts-within a b c && c .frozen) cs
+frozen-in (insert-piece p t left front) cs = false
+frozen-in (insert-whole t left front) cs = false
+frozen-in (move a b to) cs = false
+
 -- ── an edit in closed form: number and desk ──
--- 6 leaves the cuts before the refused one; update's 10, 7 and 9 leave all cuts, and 7 the chunks that it cleared
+-- 6 leaves the cuts before the refused one; update's 10, 20, 7 and 9 leave all cuts, and 7 the chunks that it cleared
 unfoldable pub closed-plan : Plan → MagicString → Result
 closed-plan P m =
     let cs : List Chunk = cut-all (cuts P) (m .chunks) in
     cond (cuttable (cuts P) (m .chunks))
     (cond (ends-past (length (m .source)) P) (err 10 (with-chunks m cs))
-    (cond (in-order P cs) (ok (apply P m)) (err (order-number P) (with-chunks m (left-over P cs)))))
+    (cond (frozen-in P cs) (err 20 (with-chunks m cs))
+    (cond (in-order P cs) (ok (apply P m)) (err (order-number P) (with-chunks m (left-over P cs))))))
     (err 6 (with-chunks m (cut-until-refused (cuts P) (m .chunks))))
 
 -- a refusal before any cut changes nothing

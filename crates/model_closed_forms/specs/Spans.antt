@@ -1,6 +1,7 @@
 -- Spans: which bytes they cover, that they cover the source once, and what keeps that.
 use Prim.Native.Nat.{ℕ, _≤_, _<_}
 use mathlib.Core.Path.{_≡_}
+use mathlib.Core.Bool.{Bool}
 use mathlib.Core.List.{List, [], _∷_}
 use lib.ListN.{length}
 use Rattle.utf8.specs.Chars.{All}
@@ -20,5 +21,5 @@ pub record Tiling (n : ℕ) (cs : List Chunk) : Type 0 where
 
 -- ── a well-formed desk's spans: a tiling, or the one chunk of an empty source ──
 pub data Cover : Text → List Chunk → Type 0 where
-  empty : (t : Texts) → Cover [] (chunk-of 0 0 t ∷ [])
+  empty : (frozen : Bool) (t : Texts) → Cover [] (chunk-of 0 0 frozen t ∷ [])
   tiled : {source : Text} {cs : List Chunk} → 0 < length source → Tiling (length source) cs → Cover source cs

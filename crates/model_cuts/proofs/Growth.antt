@@ -4,13 +4,15 @@ use native.Mathlib.Omega.{arith}
 use native.Mathlib.Decide.{decLt, ℕ-discrete}
 use mathlib.Core.Path.{_≡_, refl, ap, _∙_}
 use mathlib.Core.Bool.{Bool, true, false, _&&_, not, cond}
-use mathlib.Core.List.{List, [], _∷_}
+use mathlib.Core.List.{List, [], _∷_, map}
 use lib.Dec.{ltb, leb, eqb}
 use lib.ListN.{length}
 use borrow.Author.Tests.{eq-eqb, ne-eqb, lt-ltb, le-ltb, le-leb, lt-leb}
 use Rattle.model.specs.Text.{Text}
 use Rattle.model.specs.Chunk.{Texts, edit, reset-texts}
 use Rattle.model.specs.MagicString.{MagicString, Result, ok, err, with-chunks, by-edge-mut}
+use Rattle.model.specs.Frozen.{has-frozen, unless-guarded, freeze-chunk, freeze-range}
+use Rattle.model.specs.Frozen as frozen-parts
 use Rattle.model.specs.Insert as insert-rs
 use Rattle.model.specs.Update.{update-chunks}
 use Rattle.model.specs.Update as update-rs
@@ -20,7 +22,7 @@ use Rattle.model.specs.Reset as reset-rs
 use Rattle.model.specs.Limits.{Limits, within}
 use Rattle.model.specs.WellFormed.{Formed}
 use Rattle.model.specs.Call.{Edit, remove, update-with, reset, insert, append, prepend, relocate, trim, trim-start, trim-end, trim-lines, indent-with}
-use Rattle.model.specs.Call.{steps, refused-before, judged, run}
+use Rattle.model.specs.Call.{freeze, steps, refused-before, judged, run}
 use Rattle.model_closed_forms.specs.Spans.{Cover}
 use Rattle.model_closed_forms.specs.SplitAt.{cuts-then}
 use Rattle.model_closed_forms.proofs.Spans.{formed-cover}
@@ -28,7 +30,7 @@ use Rattle.model_preservation.proofs.Lists.{of-cond}
 use Rattle.model_preservation.proofs.Calls.{run-keeps}
 use Rattle.model_cuts.specs.Cuts.{count-made, cuts-of, cuts-made, cuts-at-most, CutsCounted, AllCutsCounted}
 use Rattle.model_cuts.proofs.Cuts.{Grows, cuts-grow, count-few}
-use Rattle.model_cuts.proofs.Steps.{change-keeps, insert-keeps, update-keeps, move-keeps, trim-start-length, trim-end-length, trim-length}
+use Rattle.model_cuts.proofs.Steps.{change-keeps, freeze-keeps, insert-keeps, update-keeps, move-keeps, trim-start-length, trim-end-length, trim-length}
 use Rattle.model_cuts.proofs.Indent.{indent-grows}
 
 -- ── how the ends of a range compare, by the tests of an edit ──
@@ -63,41 +65,51 @@ stays : (m : MagicString) → Grows [] m (ok m)
 stays m = omega arith
 
 module _ (a b : ℕ) (m : MagicString) (v : Cover (m .source) (m .chunks)) where
-  range-grows : (f : Texts → Texts) → Grows (a ∷ b ∷ []) m (change-range f a b m)
+  range-grows : (f : Texts → Texts) → Grows (a ∷ b ∷ []) m (change-range has-frozen f a b m)
   unfolding change-range
-  range-grows f = cuts-grow (a ∷ b ∷ []) (λ m. ok (with-chunks m (change-by-position (length (m .chunks)) f a b (m .chunks)))) (change-keeps f a b) m v
+  range-grows f =
+      cuts-grow (a ∷ b ∷ []) (λ m. unless-guarded has-frozen a b m (ok (with-chunks m (change-by-position (length (m .chunks)) f a b (m .chunks))))) (change-keeps has-frozen f a b) m v
 
-  remove-grows : Grows (cuts-of (remove a b) m) m (movement-rs.remove a b m)
+  remove-grows : Grows (cuts-of (remove a b) m) m (movement-rs.remove has-frozen a b m)
   unfolding cuts-of movement-rs.remove
   remove-grows = go (ends a b)
     where
-      go : {x y z : Bool} → Ends x y z → Grows (cond z (a ∷ b ∷ []) []) m (cond x (ok m) (cond y (err 4 m) (change-range (edit [] true) a b m)))
+      go : {x y z : Bool} → Ends x y z → Grows (cond z (a ∷ b ∷ []) []) m (cond x (ok m) (cond y (err 4 m) (change-range has-frozen (edit [] true) a b m)))
       go equal = stays m
       go reversed = stays m
       go ordered = range-grows (edit [] true)
 
-  update-grows : (t : Text) (o : Bool) → Grows (cuts-of (update-with a b t o) m) m (update-rs.update-with a b t o m)
+  update-grows : (t : Text) (o : Bool) → Grows (cuts-of (update-with a b t o) m) m (update-rs.update-with has-frozen a b t o m)
   unfolding cuts-of update-rs.update-with
   update-grows t o = go (ends a b)
     where
       step : MagicString → Result
-      step m = cond (ltb (length (m .source)) b) (err 10 m) (update-chunks a b t o m)
+      step m = cond (ltb (length (m .source)) b) (err 10 m) (unless-guarded has-frozen a b m (update-chunks a b t o m))
 
       go : {x y z : Bool} → Ends x y z → Grows (cond z (a ∷ b ∷ []) []) m (cond x (err 5 m) (cond y (err 4 m) (cuts-then (a ∷ b ∷ []) step m)))
       go equal = stays m
       go reversed = stays m
-      go ordered = cuts-grow (a ∷ b ∷ []) step (update-keeps a b t o) m v
+      go ordered = cuts-grow (a ∷ b ∷ []) step (update-keeps has-frozen a b t o) m v
 
-  reset-grows : Grows (cuts-of (reset a b) m) m (reset-rs.reset a b m)
-  unfolding cuts-of reset-rs.reset
-  reset-grows = go (ends a b) (bound (length (m .source)) b)
+  -- the tests of reset, and of freezing
+  bounded-grows : (r : Result) → Grows (a ∷ b ∷ []) m r
+      → Grows (cond (ltb a b && leb b (length (m .source))) (a ∷ b ∷ []) []) m (cond (eqb a b) (ok m) (cond (ltb b a) (err 4 m) (cond (ltb (length (m .source)) b) (err 10 m) r)))
+  bounded-grows r h = go (ends a b) (bound (length (m .source)) b)
     where
-      go : {x y z p q : Bool} → Ends x y z → Bound p q
-          → Grows (cond (z && q) (a ∷ b ∷ []) []) m (cond x (ok m) (cond y (err 4 m) (cond p (err 10 m) (change-range reset-texts a b m))))
+      go : {x y z p q : Bool} → Ends x y z → Bound p q → Grows (cond (z && q) (a ∷ b ∷ []) []) m (cond x (ok m) (cond y (err 4 m) (cond p (err 10 m) r)))
       go equal _ = stays m
       go reversed _ = stays m
       go ordered past = stays m
-      go ordered inside = range-grows reset-texts
+      go ordered inside = h
+
+  reset-grows : Grows (cuts-of (reset a b) m) m (reset-rs.reset has-frozen a b m)
+  unfolding cuts-of reset-rs.reset
+  reset-grows = bounded-grows (change-range has-frozen reset-texts a b m) (range-grows reset-texts)
+
+  freeze-grows : Grows (cuts-of (freeze a b) m) m (frozen-parts.freeze a b m)
+  unfolding cuts-of frozen-parts.freeze freeze-range
+  freeze-grows =
+      bounded-grows (freeze-range a b m) (cuts-grow (a ∷ b ∷ []) (λ m. ok (with-chunks m (map (freeze-chunk a b) (m .chunks)))) (freeze-keeps a b) m v)
 
   move-grows : (to : ℕ) → Grows (cuts-of (relocate a b to) m) m (movement-rs.relocate a b to m)
   unfolding cuts-of movement-rs.relocate
@@ -138,6 +150,7 @@ steps-grow (trim-start p) m v = omega (arith, trim-start-length p m)
 steps-grow (trim-end p) m v = omega (arith, trim-end-length p m)
 steps-grow trim-lines m v = omega (arith, trim-length 1 m)
 steps-grow (indent-with i l) m v = indent-grows i l m v
+steps-grow (freeze a b) m v = freeze-grows a b m v
 
 -- ── how many at most ──
 few-positions : (e : Edit) (m : MagicString) → length (cuts-of e m) ≤ cuts-at-most e m
@@ -155,9 +168,10 @@ few-positions (trim-start p) m = omega arith
 few-positions (trim-end p) m = omega arith
 few-positions trim-lines m = omega arith
 few-positions (indent-with i l) m = omega arith
+few-positions (freeze a b) m = of-cond (λ (l : List ℕ). length l ≤ 2) (ltb a b && leb b (length (m .source))) (λ _. omega arith) (λ _. omega arith)
 
 -- ── the call ──
--- the desk that it leaves: 15, 1, 3 and 13 change nothing
+-- the desk that it leaves: 15, 1, 3, the whole desk's 20 and 13 change nothing
 run-desk : (k : Limits) (e : Edit) (m : MagicString) → run k e m .desk ≡ cond (eqb (refused-before m e) 0 && within k (steps e m .desk)) (steps e m .desk) m
 unfolding run judged
 run-desk k e m = go (refused-before m e) (within k (steps e m .desk))

@@ -3,12 +3,13 @@ use Prim.Native.Nat.{ℕ, zero, suc, _+_}
 use native.Mathlib.Omega.{arith}
 use mathlib.Core.Path.{_≡_, refl, ap, _∙_}
 use mathlib.Core.Bool.{Bool, false, cond}
-use mathlib.Core.List.{List, [], _∷_, _++_, reverse}
+use mathlib.Core.List.{List, [], _∷_, _++_, map, reverse}
 use lib.Dec.{ltb, eqb}
-use lib.ListN.{length, length-append, length-reverse}
+use lib.ListN.{length, length-append, length-map, length-reverse}
 use Rattle.model.specs.Text.{Text, is-nil}
 use Rattle.model.specs.Chunk.{Chunk, Texts, start-of, end-of}
 use Rattle.model.specs.MagicString.{MagicString, Result, ok, err, with-chunks, edge, by-edge, by-start, at-edge, at-start, change-at}
+use Rattle.model.specs.Frozen.{Guard, unless-guarded, freeze-chunk}
 use Rattle.model.specs.Update.{Walk, clear-run, update-walk, update-chunks}
 use Rattle.model.specs.Movement.{Segment, together, apart, change-by-position, segment, insert-before, stands-there, move-segment}
 use Rattle.model.specs.Trim.{Trimmed, trim-deque-start, trim-deque-end, trim-chunk-start, trim-chunk-end, trim-chunks, trim-start, trim-end, trim}
@@ -44,19 +45,30 @@ walk-length a b t o (c ∷ cs) =
     of-cond (λ (w : Walk). SameLength (c ∷ cs) (w .chunks)) (eqb (start-of c) a) (λ _. ap suc (clear-length (end-of c) b cs)) (λ _. ap suc (walk-length a b t o cs))
 
 -- ── the steps behind the cuts ──
-pub change-keeps : (f : Texts → Texts) (a b : ℕ) → Keeps (λ m. ok (with-chunks m (change-by-position (length (m .chunks)) f a b (m .chunks))))
-change-keeps f a b m = position-length (length (m .chunks)) f a b (m .chunks)
+-- a range that is refused stays as the cuts left it
+guarded-keeps : (g : Guard) (a b : ℕ) (step : MagicString → Result) → Keeps step → Keeps (λ m. unless-guarded g a b m (step m))
+guarded-keeps g a b step k m = of-cond (λ (r : Result). SameLength (m .chunks) (r .desk .chunks)) (g a b m) (λ _. refl) (λ _. k m)
+
+pub change-keeps : (g : Guard) (f : Texts → Texts) (a b : ℕ) → Keeps (λ m. unless-guarded g a b m (ok (with-chunks m (change-by-position (length (m .chunks)) f a b (m .chunks)))))
+change-keeps g f a b = guarded-keeps g a b _ (λ m. position-length (length (m .chunks)) f a b (m .chunks))
+
+pub freeze-keeps : (a b : ℕ) → Keeps (λ m. ok (with-chunks m (map (freeze-chunk a b) (m .chunks))))
+freeze-keeps a b m = length-map (m .chunks) (freeze-chunk a b)
 
 pub insert-keeps : (left : Bool) (p : ℕ) (f : Texts → Texts) (g : List Text → List Text) → Keeps (change-at left p f g)
 insert-keeps left p f g m =
     of-option (λ (r : Result). SameLength (m .chunks) (r .desk .chunks)) (by-edge left p (m .chunks)) (λ _. refl) (λ c _. edge-length left p f (m .chunks))
 
-pub update-keeps : (a b : ℕ) (t : Text) (o : Bool) → Keeps (λ m. cond (ltb (length (m .source)) b) (err 10 m) (update-chunks a b t o m))
+walk-keeps : (a b : ℕ) (t : Text) (o : Bool) → Keeps (update-chunks a b t o)
 unfolding update-chunks
-update-keeps a b t o m =
-    let P : Result → Type 0 = λ r. SameLength (m .chunks) (r .desk .chunks) in
+walk-keeps a b t o m =
     let w = walk-length a b t o (m .chunks) in
-    of-cond P (ltb (length (m .source)) b) (λ _. refl) (λ _. of-cond P (update-walk a b t o (m .chunks) .done) (λ _. w) (λ _. w))
+    of-cond (λ (r : Result). SameLength (m .chunks) (r .desk .chunks)) (update-walk a b t o (m .chunks) .done) (λ _. w) (λ _. w)
+
+pub update-keeps : (g : Guard) (a b : ℕ) (t : Text) (o : Bool) → Keeps (λ m. cond (ltb (length (m .source)) b) (err 10 m) (unless-guarded g a b m (update-chunks a b t o m)))
+update-keeps g a b t o m =
+    of-cond (λ (r : Result). SameLength (m .chunks) (r .desk .chunks)) (ltb (length (m .source)) b) (λ _. refl)
+    (λ _. guarded-keeps g a b (update-chunks a b t o) (walk-keeps a b t o) m)
 
 -- the range is taken out and put in again
 insert-length : (to : ℕ) (range cs : List Chunk) → length (insert-before to range cs) ≡ length range + length cs

@@ -14,7 +14,7 @@ use Rattle.model.specs.Indent.{get-indent-string, indent-pieces, line-starts, i
 use Rattle.model.specs.Limits.{Limits, within}
 use Rattle.model.specs.WellFormed.{Formed, WellFormed}
 use Rattle.model.specs.Call.{Edit, remove, update-with, reset, insert, append, prepend, relocate, trim, trim-start, trim-end, trim-lines, indent-with}
-use Rattle.model.specs.Call.{steps, refused-before, run, cuts-left, after}
+use Rattle.model.specs.Call.{freeze, steps, refused-before, run, cuts-left, after}
 use Rattle.model.specs.Cut.{Cut, made, edge, outside, refused, cut-at}
 
 -- ── cuts one after another ──
@@ -66,12 +66,13 @@ cuts-of (trim-start p) m = []
 cuts-of (trim-end p) m = []
 cuts-of trim-lines m = []
 cuts-of (indent-with i l) m = indent-starts i l m
+cuts-of (freeze a b) m = cond (ltb a b && leb b (length (m .source))) (a ∷ b ∷ []) []
 
--- the cuts that an edit made and that remain: 15, 1, 3 and 13 leave none
+-- the cuts that an edit made and that remain: 15, 1, 3, the 20 of a trim or an indent, and 13 leave none
 unfoldable pub cuts-made : Limits → Edit → MagicString → ℕ
 cuts-made k e m = cond (eqb (refused-before m e) 0 && within k (steps e m .desk)) (count-made (cuts-of e m) m) 0
 
--- "at most 1 for an insertion, 2 for a removal, replacement or reset, 3 for a move. An indent reports at most one per line it indents"
+-- "at most 1 for an insertion, 2 for a removal, replacement or reset, 3 for a move. An indent reports at most one per line it indents". Freezing cuts as reset does
 unfoldable pub cuts-at-most : Edit → MagicString → ℕ
 cuts-at-most (remove a b) m = 2
 cuts-at-most (update-with a b t o) m = 2
@@ -85,6 +86,7 @@ cuts-at-most (trim-start p) m = 0
 cuts-at-most (trim-end p) m = 0
 cuts-at-most trim-lines m = 0
 cuts-at-most (indent-with i l) m = length (indent-starts i l m)
+cuts-at-most (freeze a b) m = 2
 
 -- ── the law: for every edit on every well-formed desk ──
 pub record Counted (k : Limits) (e : Edit) (m : MagicString) : Type 0 where

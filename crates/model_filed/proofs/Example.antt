@@ -7,7 +7,8 @@ use Rattle.utf8.specs.Chars.{toFirst, chars, code}
 use Rattle.model.specs.Chunk.{contains}
 use Rattle.model.specs.MagicString.{split-at, by-edge-mut, to-string}
 use Rattle.model.specs.Update.{update-chunks, update-with}
-use Rattle.model.specs.Movement.{change-range, relocate}
+use Rattle.model.specs.Frozen.{has-frozen, any-frozen, freeze-range, freeze}
+use Rattle.model.specs.Movement.{change-range, remove, relocate}
 use Rattle.model.specs.Limits.{within}
 use Rattle.model.specs.Call.{refused-before, judged, run}
 use Rattle.model_sheet.specs.BigEndian.{number, bytes}
@@ -18,7 +19,7 @@ use Rattle.model_filed.specs.Worked.{worked, computed, bounds, bound-com
 
 pub worked-sittings : map computed worked ≡ worked
 unfolding flatten bind scalar sequence decodeAt wholeFrom utf8 between toFirst chars code contains split-at by-edge-mut to-string update-chunks update-with
-    change-range relocate within judged refused-before run number bytes positions carries fits quads encode extent numbers parsed call-of within-bounds is-record
+    change-range remove relocate has-frozen any-frozen freeze-range freeze within judged refused-before run number bytes positions carries fits quads encode extent numbers parsed call-of within-bounds is-record
     refused-filing file refused-withdrawal withdraw
 worked-sittings = refl
 

@@ -8,15 +8,14 @@ use lib.Dec.{ltb, leb, eqb}
 use lib.ListN.{length, getD, drop}
 use borrow.Author.Tests.{ltb-true, leb-true, eqb-true, lt-ltb, le-leb, lt-leb, eq-eqb}
 use native.Mathlib.Omega.{arith}
-use Rattle.model.specs.MagicString.{MagicString}
 use Rattle.model.specs.Limits.{Limits}
-use Rattle.model.specs.Call.{answers}
+use Rattle.model.specs.Call.{freeze}
 use Rattle.model.proofs.Lists.{and-left, and-right}
 use Rattle.model_sheet.specs.Record.{Recorded, fits, extent, parsed, records, text-size}
 use Rattle.model_sheet.proofs.Whole.{Whole, fits-facts, facts-fits, of-whole}
 use Rattle.model_sheet.proofs.Upto.{records-one}
 use Rattle.model_filed.specs.Filed.{Entry, calls, with-answers, Sitting, MOST-CALLS, MOST-TEXT, within-bounds, unchanged, is-record, refused-filing, filed, file}
-use Rattle.model_filed.specs.Filed.{without, run-anew, refused-withdrawal, withdraw}
+use Rattle.model_filed.specs.Filed.{without, run-anew, refused-withdrawal, withdraw, edited-beside, if-filed, freeze-beside}
 
 -- ── entries ──
 pub calls-with : (l : List Recorded) (ns : List ℕ) → calls (with-answers l ns) ≡ l
@@ -119,15 +118,24 @@ module _ (k : Limits) where
   unfolding file
   file-filed s x e = rw (e, file) refl
 
-  module _ (start : MagicString) (n : ℕ) (x : Sitting) where
-    pub withdraw-refused : (i : ℕ) → refused-withdrawal n (x .entries) ≡ suc i → withdraw k start n x ≡ unchanged (suc i) x
+  module _ (n : ℕ) (x : Sitting) where
+    pub withdraw-refused : (i : ℕ) → refused-withdrawal n (x .entries) ≡ suc i → withdraw k n x ≡ unchanged (suc i) x
     unfolding withdraw
     withdraw-refused i e = rw (e, withdraw) refl
 
     pub withdraw-done : refused-withdrawal n (x .entries) ≡ 0
-        → withdraw k start n x ≡ record { number = 0; value = 0; left = run-anew k start (without n (calls (x .entries))) }
+        → withdraw k n x ≡ record { number = 0; value = 0; left = run-anew k (x .kept) (without n (calls (x .entries))) }
     unfolding withdraw
     withdraw-done e = rw (e, withdraw) refl
+
+  module _ (a b : ℕ) (x : Sitting) where
+    pub freeze-empty : x .entries ≡ [] → freeze-beside k a b x ≡ edited-beside k (freeze a b) x
+    unfolding freeze-beside
+    freeze-empty e = ap (λ l. if-filed l (unchanged 20 x) (edited-beside k (freeze a b) x)) e
+
+    pub freeze-filed : {e : Entry} {l : List Entry} → x .entries ≡ e ∷ l → freeze-beside k a b x ≡ unchanged 20 x
+    unfolding freeze-beside
+    freeze-filed e = ap (λ l. if-filed l (unchanged 20 x) (edited-beside k (freeze a b) x)) e
 
 module _ (n : ℕ) (l : List Entry) where
   pub withdrawal-0 : 0 < n → n ≤ length l → refused-withdrawal n l ≡ 0

@@ -5,17 +5,16 @@ use mathlib.Core.Bool.{Bool, true, false, _&&_, not, cond}
 use mathlib.Core.List.{List, [], _∷_, _++_}
 use lib.Dec.{ltb, leb}
 use lib.ListN.{length}
-use Rattle.model.specs.MagicString.{MagicString}
 use Rattle.model.specs.Limits.{Limits}
 use Rattle.model.specs.WellFormed.{Formed}
-use Rattle.model.specs.Call.{edit-numbers, run}
+use Rattle.model.specs.Call.{freeze, edit-numbers, run}
 use Rattle.model_preservation.specs.Refusals.{among}
 use Rattle.model_preservation.proofs.Refusals.{answer-listed}
 use Rattle.model_preservation.proofs.Numbers.{listed-behind}
 use Rattle.model_sheet.specs.Record.{Recorded, parsed}
 use Rattle.model_sheet.specs.Sheet.{call-of}
-use Rattle.model_filed.specs.Filed.{Sitting, Answered, calls, within-bounds, is-record, refused-filing, file, refused-withdrawal, withdraw}
-use Rattle.model_filed.proofs.Filing.{file-refused, file-filed, withdraw-refused, withdraw-done}
+use Rattle.model_filed.specs.Filed.{Entry, Sitting, Answered, calls, within-bounds, is-record, refused-filing, file, refused-withdrawal, withdraw, freeze-beside}
+use Rattle.model_filed.proofs.Filing.{file-refused, file-filed, withdraw-refused, withdraw-done, freeze-empty, freeze-filed}
 
 -- 16 and 13, before any of these
 refused-listed : (s : List ℕ) (l : List Recorded) (ns : List ℕ) → among (refused-filing s l) (16 ∷ 13 ∷ ns) ≡ true
@@ -40,10 +39,19 @@ file-listed k s x f = go (refused-filing s (calls (x .entries))) refl
         ∙ listed-behind (run k (call-of (parsed s)) (x .desk) .number) 16 (13 ∷ edit-numbers (call-of (parsed s)))
         (listed-behind (run k (call-of (parsed s)) (x .desk) .number) 13 (edit-numbers (call-of (parsed s))) (answer-listed k (call-of (parsed s)) (x .desk) f))
 
-pub withdraw-listed : (k : Limits) (start : MagicString) (n : ℕ) (x : Sitting) → among (withdraw k start n x .number) (17 ∷ []) ≡ true
+pub withdraw-listed : (k : Limits) (n : ℕ) (x : Sitting) → among (withdraw k n x .number) (17 ∷ []) ≡ true
 unfolding withdraw refused-withdrawal
-withdraw-listed k start n x = go (ltb 0 n && leb n (length (x .entries))) refl
+withdraw-listed k n x = go (ltb 0 n && leb n (length (x .entries))) refl
   where
-    go : (b : Bool) → (ltb 0 n && leb n (length (x .entries))) ≡ b → among (withdraw k start n x .number) (17 ∷ []) ≡ true
-    go true e = ap (λ (a : Answered). among (a .number) (17 ∷ [])) (withdraw-done k start n x (rw e refl))
-    go false e = ap (λ (a : Answered). among (a .number) (17 ∷ [])) (withdraw-refused k start n x 16 (rw e refl))
+    go : (b : Bool) → (ltb 0 n && leb n (length (x .entries))) ≡ b → among (withdraw k n x .number) (17 ∷ []) ≡ true
+    go true e = ap (λ (a : Answered). among (a .number) (17 ∷ [])) (withdraw-done k n x (rw e refl))
+    go false e = ap (λ (a : Answered). among (a .number) (17 ∷ [])) (withdraw-refused k n x 16 (rw e refl))
+
+pub freeze-listed : (k : Limits) (a b : ℕ) (x : Sitting) → Formed (x .desk) → among (freeze-beside k a b x .number) (20 ∷ edit-numbers (freeze a b)) ≡ true
+freeze-listed k a b x f = go (x .entries) refl
+  where
+    go : (l : List Entry) → x .entries ≡ l → among (freeze-beside k a b x .number) (20 ∷ edit-numbers (freeze a b)) ≡ true
+    go [] e =
+        ap (λ (o : Answered). among (o .number) (20 ∷ edit-numbers (freeze a b))) (freeze-empty k a b x e)
+        ∙ listed-behind (run k (freeze a b) (x .desk) .number) 20 (edit-numbers (freeze a b)) (answer-listed k (freeze a b) (x .desk) f)
+    go (c ∷ l) e = ap (λ (o : Answered). among (o .number) (20 ∷ edit-numbers (freeze a b))) (freeze-filed k a b x e)

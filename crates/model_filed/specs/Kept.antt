@@ -4,36 +4,40 @@ use mathlib.Core.Path.{_≡_}
 use mathlib.Core.List.{List, [], _∷_}
 use Rattle.model.specs.MagicString.{MagicString}
 use Rattle.model.specs.Limits.{Limits}
-use Rattle.model_filed.specs.Filed.{Sitting, Answered, calls, file, without, run-anew, withdraw}
+use Rattle.model.specs.Call.{after, answers}
+use Rattle.model_sheet.specs.Sheet.{calls-of}
+use Rattle.model_filed.specs.Filed.{Sitting, Answered, calls, with-answers, start-of, file, without, withdraw}
 
 -- a call that is filed, by its bytes, or withdrawn, by its number
 pub data Action : Type 0 where
   filing : List ℕ → Action
   withdrawing : ℕ → Action
 
-abbrev pub act : Limits → MagicString → Action → Sitting → Answered
-act k start (filing s) x = file k s x
-act k start (withdrawing n) x = withdraw k start n x
+abbrev pub act : Limits → Action → Sitting → Answered
+act k (filing s) x = file k s x
+act k (withdrawing n) x = withdraw k n x
 
 -- actions one after the other, refused ones too
-abbrev pub acts : Limits → MagicString → List Action → Sitting → Sitting
-acts k start [] x = x
-acts k start (a ∷ l) x = acts k start l (act k start a x .left)
+abbrev pub acts : Limits → List Action → Sitting → Sitting
+acts k [] x = x
+acts k (a ∷ l) x = acts k l (act k a x .left)
 
--- the start desk beside an empty record
-abbrev pub begun : MagicString → Sitting
-begun start = record { desk = start; entries = [] }
+-- a desk beside a record without calls; what that keeps does not matter
+abbrev pub begun : MagicString → MagicString → Sitting
+begun start kept = record { desk = start; kept = kept; entries = [] }
 
--- the desk is what the record's calls leave when they are run from the start desk, and its answers are those of that run
-abbrev pub Agrees : Limits → MagicString → Sitting → Type 0
-Agrees k start x = x ≡ run-anew k start (calls (x .entries))
+-- the record's calls begin on the start desk, the desk is what they leave when they are run from it, and the answers are those of that run
+pub record Agrees (k : Limits) (start : MagicString) (x : Sitting) : Type 0 where
+  pub begins : start-of x ≡ start
+  pub desk : x .desk ≡ after k (calls-of (calls (x .entries))) start
+  pub answers : x .entries ≡ with-answers (calls (x .entries)) (answers k (calls-of (calls (x .entries))) start)
 
 -- the law
 abbrev pub AlwaysAgrees : Type 0
-AlwaysAgrees = (k : Limits) (start : MagicString) (l : List Action) → Agrees k start (acts k start l (begun start))
+AlwaysAgrees = (k : Limits) (start kept : MagicString) (l : List Action) → Agrees k start (acts k l (begun start kept))
 
 -- a withdrawal that is accepted leaves the others in order
 abbrev pub LeavesOthers : Type 0
 LeavesOthers =
-    (k : Limits) (start : MagicString) (n : ℕ) (x : Sitting) → withdraw k start n x .number ≡ 0
-    → calls (withdraw k start n x .left .entries) ≡ without n (calls (x .entries))
+    (k : Limits) (n : ℕ) (x : Sitting) → withdraw k n x .number ≡ 0
+    → calls (withdraw k n x .left .entries) ≡ without n (calls (x .entries))

@@ -5,17 +5,19 @@ use lib.ListN.{replicate}
 use Rattle.model.specs.Text.{Text}
 use Rattle.model.specs.MagicString.{MagicString, new, to-string}
 use Rattle.model.specs.Limits.{full}
+use Rattle.model.specs.Call.{remove, freeze, after}
 use Rattle.model_sheet.specs.Record.{Recorded, encode}
 use Rattle.model_sheet.specs.Worked.{fields}
 use Rattle.model_filed.specs.Filed.{Entry, Sitting, refused-filing}
 use Rattle.model_filed.specs.Kept.{Action, filing, withdrawing, act, acts, begun}
 
 -- the number and the value of each action
-abbrev pub told : MagicString → List Action → Sitting → List (ℕ × ℕ)
-told start [] x = []
-told start (a ∷ l) x = (act full start a x .number, act full start a x .value) ∷ told start l (act full start a x .left)
+abbrev pub told : List Action → Sitting → List (ℕ × ℕ)
+told [] x = []
+told (a ∷ l) x = (act full a x .number, act full a x .value) ∷ told l (act full a x .left)
 
 pub record Worked : Type 0 where
+  pub start : MagicString
   pub actions : List Action
   pub answers : List (ℕ × ℕ)
   pub entries : List Entry
@@ -44,6 +46,17 @@ again = fields 2 1 4 0 (0x51 ∷ [])
 abbrev pub not-text : Recorded
 not-text = fields 7 6 0 0 (0xFF ∷ [])
 
+-- append_left at 1 of "X"; update 4 to 6 by "Q"
+abbrev pub inserted : Recorded
+inserted = fields 5 1 0 0 (0x58 ∷ [])
+
+abbrev pub late : Recorded
+late = fields 2 4 6 0 (0x51 ∷ [])
+
+-- edits that are made before the first call is filed, and are not filed
+abbrev pub begun-on : MagicString
+begun-on = after full (remove 1 2 ∷ freeze 3 6 ∷ []) (new source)
+
 abbrev pub filed-three : List Action
 filed-three = filing-of replaced ∷ filing-of moved ∷ filing-of again ∷ []
 
@@ -51,6 +64,7 @@ abbrev pub worked : List Worked
 worked =
     -- a refused call is filed too; the text is "aQef"
     record {
+      start = new source;
       actions = filed-three;
       answers = (0, 2) ∷ (6, 0) ∷ (0, 0) ∷ [];
       entries = entry replaced 0 ∷ entry moved 6 ∷ entry again 0 ∷ [];
@@ -58,6 +72,7 @@ worked =
     }
     -- the first withdrawn: the move is accepted now, and the replacement across the moved edge refused; the text is "abdecf"
     ∷ record {
+      start = new source;
       actions = filed-three ++ (withdrawing 1 ∷ []);
       answers = (0, 2) ∷ (6, 0) ∷ (0, 0) ∷ (0, 0) ∷ [];
       entries = entry moved 0 ∷ entry again 7 ∷ [];
@@ -65,6 +80,7 @@ worked =
     }
     -- the last withdrawn: "aXYef"; then there is no third
     ∷ record {
+      start = new source;
       actions = filed-three ++ (withdrawing 3 ∷ withdrawing 3 ∷ withdrawing 0 ∷ []);
       answers = (0, 2) ∷ (6, 0) ∷ (0, 0) ∷ (0, 0) ∷ (17, 0) ∷ (17, 0) ∷ [];
       entries = entry replaced 0 ∷ entry moved 6 ∷ [];
@@ -72,18 +88,29 @@ worked =
     }
     -- no bytes, no such kind and two records are 16; a text that is not UTF-8 is filed with 1; then all is withdrawn
     ∷ record {
+      start = new source;
       actions = filing [] ∷ filing (0 ∷ 1 ∷ 9 ∷ []) ∷ filing (encode moved ++ encode moved) ∷ filing-of not-text ∷ withdrawing 1 ∷ withdrawing 1 ∷ [];
       answers = (16, 0) ∷ (16, 0) ∷ (16, 0) ∷ (1, 0) ∷ (0, 0) ∷ (17, 0) ∷ [];
       entries = [];
       text = source;
+    }
+    -- a desk with "b" removed and "def" frozen, neither of them filed: a replacement in the frozen part is filed with 20, the cut that it made counted; what was filed before it is withdrawn,
+    -- and then it: removal and mark are still there, so that the next is refused too
+    ∷ record {
+      start = begun-on;
+      actions = filing-of inserted ∷ filing-of late ∷ withdrawing 1 ∷ withdrawing 1 ∷ filing-of late ∷ [];
+      answers = (0, 0) ∷ (20, 1) ∷ (0, 0) ∷ (0, 0) ∷ (20, 1) ∷ [];
+      entries = entry late 20 ∷ [];
+      text = 0x61 ∷ 0x63 ∷ 0x64 ∷ 0x65 ∷ 0x66 ∷ [];
     }
     ∷ []
 
 -- the sitting as it is computed
 abbrev pub computed : Worked → Worked
 computed w =
-    let x = acts full (new source) (w .actions) (begun (new source)) in
-    record { actions = w .actions; answers = told (new source) (w .actions) (begun (new source)); entries = x .entries; text = to-string (x .desk) }
+    let x = begun (w .start) (w .start) in
+    let y = acts full (w .actions) x in
+    record { start = w .start; actions = w .actions; answers = told (w .actions) x; entries = y .entries; text = to-string (y .desk) }
 
 -- ── bounds, as a table: calls that are filed, the bytes of one more, and the number that refuses it ──
 abbrev pub text-of : ℕ → Recorded

@@ -33,7 +33,7 @@ module _ (indentor : Text) (exclude : List ℕ) (source : Text) (mark : Bool) (c
   unfolding indented-chunk
   indented-excluded e x =
       rw (e, x, indented-chunk)
-      (ap (λ (o : Option Text). record { mark = mark; chunks = record { span = c .span; texts = record { intro = c .texts .intro; outro = c .texts .outro; edited-content = o } } ∷ [] }) e)
+      (ap (λ (o : Option Text). record { mark = mark; chunks = with-texts (λ x. record { intro = x .intro; outro = x .outro; edited-content = o }) c ∷ [] }) e)
 
   pub indented-replaced : {t : Text} → c .texts .edited-content ≡ some t → excluded exclude (start-of c) ≡ false
       → let r : Indented = indent-frag indentor mark t in

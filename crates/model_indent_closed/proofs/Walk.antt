@@ -35,7 +35,7 @@ use Rattle.model_indent_closed.proofs.Indent.{split-lines-inside, split
 -- ── spans ──
 -- the same spans with other texts
 cover-spans : {s : Text} {cs : List Chunk} → Cover s cs → (ds : List Chunk) → map (λ c. c .span) ds ≡ map (λ c. c .span) cs → Cover s ds
-cover-spans (empty t) ds e = cover-of [] ds e
+cover-spans (empty z t) ds e = cover-of [] ds e
 cover-spans (tiled {source = s} {cs = cs} l t) ds e =
     tiled l (record {
       proper = all-key (λ (c : Chunk). c .span) Proper (λ c d q h. rw q h) cs ds e (t .proper);
@@ -54,7 +54,7 @@ pub record Fits (s : Text) (c : Chunk) : Type 0 where
   pub inside : end-of c ≤ length s
 
 pub cover-fits : {s : Text} {cs : List Chunk} → Cover s cs → All (Fits s) cs
-cover-fits (empty t) = cons {x = chunk-of 0 0 t} (record { ordered = omega arith; inside = omega arith }) nil
+cover-fits (empty z t) = cons {x = chunk-of 0 0 z t} (record { ordered = omega arith; inside = omega arith }) nil
 cover-fits (tiled l t) = all-map₂ (λ c p w. record { ordered = omega arith; inside = w }) (t .proper) (t .within)
 
 middle : {P : Chunk → Type 0} (xs : List Chunk) (c : Chunk) (ys : List Chunk) → All P (xs ++ c ∷ ys) → P c
@@ -70,8 +70,8 @@ none-start q xs c ys o p l h =
 
 -- nor where it starts
 starts-apart : (xs : List Chunk) (c : Chunk) (ys : List Chunk) {s : Text} {cs : List Chunk} → cs ≡ xs ++ c ∷ ys → Cover s cs → All (λ d. eqb (start-of d) (start-of c) ≡ false) xs
-starts-apart [] c ys e (empty t) = nil
-starts-apart (x ∷ xs) c ys e (empty t) = absurd (omega (arith, ap length e, length-append xs (c ∷ ys)))
+starts-apart [] c ys e (empty z t) = nil
+starts-apart (x ∷ xs) c ys e (empty z t) = absurd (omega (arith, ap length e, length-append xs (c ∷ ys)))
 starts-apart xs c ys e (tiled {source = s} {cs = cs} l t) =
     let v : Cover s (xs ++ c ∷ ys) = subst (Cover s) e (tiled l t) in
     let p : All Proper (xs ++ c ∷ ys) = cover-proper v l in

@@ -8,7 +8,7 @@ use Rattle.model.specs.Text.{all, sum}
 use Rattle.model.specs.MagicString.{MagicString}
 use Rattle.model.specs.Limits.{Limits, piece-count, byte-count}
 use Rattle.model.specs.Call.{Edit, remove, update-with, reset, insert, append, prepend, relocate, trim, trim-start, trim-end}
-use Rattle.model.specs.Call.{trim-lines, indent-with, texts, positions, run, listed}
+use Rattle.model.specs.Call.{trim-lines, indent-with, freeze, texts, positions, run, listed}
 
 -- every two elements, the earlier one first
 abbrev pub pairs : {A : Type 0} → (A → A → Bool) → List A → Bool
@@ -41,6 +41,7 @@ zone n (trim-start p) = no-zone
 zone n (trim-end p) = no-zone
 zone n trim-lines = no-zone
 zone n (indent-with i l) = no-zone
+zone n (freeze a b) = no-zone
 
 -- the two have something in common. Two ranges: each has a byte, and each starts before the other ends
 abbrev pub meets : Zone → Zone → Bool
@@ -72,6 +73,7 @@ is-move (trim-start p) = false
 is-move (trim-end p) = false
 is-move trim-lines = false
 is-move (indent-with i l) = false
+is-move (freeze a b) = false
 
 abbrev pub in-replaced : Edit → ℕ → Bool
 in-replaced (remove a b) p = false
@@ -86,6 +88,7 @@ in-replaced (trim-start q) p = false
 in-replaced (trim-end q) p = false
 in-replaced trim-lines p = false
 in-replaced (indent-with i l) p = false
+in-replaced (freeze a b) p = false
 
 -- if x is a move, none of its positions lies strictly inside a range that y replaces
 abbrev pub free-of : Edit → Edit → Bool
@@ -105,6 +108,7 @@ is-wide (trim-start p) = true
 is-wide (trim-end p) = true
 is-wide trim-lines = true
 is-wide (indent-with i l) = true
+is-wide (freeze a b) = true
 
 -- ── the tests of a list over a source of n bytes ──
 abbrev pub all-within : ℕ → List Edit → Bool
@@ -144,6 +148,7 @@ new-pieces (trim-start p) = 0
 new-pieces (trim-end p) = 0
 new-pieces trim-lines = 0
 new-pieces (indent-with i l) = 0
+new-pieces (freeze a b) = 0
 
 -- "all texts in L"
 abbrev pub new-bytes : Edit → ℕ

@@ -1,8 +1,8 @@
--- The calls of append.rs, prepend.rs, update.rs, movement.rs and reset.rs keep a desk formed, accepted or refused.
+-- The calls of append.rs, prepend.rs, update.rs, movement.rs and reset.rs, and freezing, keep a desk formed, accepted or refused.
 use Prim.Native.Nat.{ℕ}
 use mathlib.Core.Path.{_≡_}
 use mathlib.Core.Bool.{Bool, true, false, cond}
-use mathlib.Core.List.{List, []}
+use mathlib.Core.List.{List, [], map}
 use lib.Dec.{ltb, eqb}
 use lib.ListN.{length}
 use Rattle.utf8.specs.Rfc3629.{between}
@@ -10,6 +10,7 @@ use Rattle.utf8.specs.Chars.{All}
 use Rattle.model.specs.Text.{Text}
 use Rattle.model.specs.Chunk.{Chunk, Texts, edit}
 use Rattle.model.specs.MagicString.{MagicString, Result, ok, err, and-then, with-chunks, with-intro, with-outro, with-whole, by-edge, split-at, by-edge-mut}
+use Rattle.model.specs.Frozen.{Guard, unless-guarded, freeze-chunk, freeze-range, freeze}
 use Rattle.model.specs.Append.{append}
 use Rattle.model.specs.Prepend.{prepend}
 use Rattle.model.specs.Insert.{front, back, push, push-to, insert, insert-step}
@@ -20,7 +21,7 @@ use Rattle.model.specs.WellFormed.{Valid}
 use Rattle.model_preservation.proofs.Lists.{of-cond, of-option}
 use Rattle.model_preservation.proofs.Desk.{Leaves, of-and-then, FormedOf, cut-keeps}
 use Rattle.model_preservation.proofs.Retexts.{Retexts, KeepsValid, retexts-keep, retexts-same, at-edge-retexts, change-retexts, update-retexts, clear-valid}
-use Rattle.model_preservation.proofs.Retexts.{reset-valid, push-valid, push-to-valid}
+use Rattle.model_preservation.proofs.Retexts.{reset-valid, push-valid, push-to-valid, freeze-retexts}
 
 -- ---- head and tail
 
@@ -73,30 +74,23 @@ module _ (source : Text) where
         of-and-then (FormedOf source) (split-at start m) _ (cut-keeps source start a m h)
         (λ n k. of-and-then (FormedOf source) (split-at end n) f (cut-keeps source end b n k) g)
 
-    -- ---- `remove`, `reset`
+    -- ---- `freeze`
 
-    change-keeps : (f : Texts → Texts) → KeepsValid f → (m : MagicString) → FormedOf source m → Keeps (change-range f start end m)
-    unfolding change-range
-    change-keeps f v =
-        two-cuts (λ n. ok (with-chunks n (change-by-position (length (n .chunks)) f start end (n .chunks))))
-        (λ n k. record { desk = with-chunks-keeps n _ (change-retexts (length (n .chunks)) f v start end (n .chunks) (k .formed .texts)) k })
+    freeze-range-keeps : (m : MagicString) → FormedOf source m → Keeps (freeze-range start end m)
+    unfolding freeze-range
+    freeze-range-keeps =
+        two-cuts (λ n. ok (with-chunks n (map (freeze-chunk start end) (n .chunks))))
+        (λ n k. record { desk = with-chunks-keeps n _ (freeze-retexts start end (k .formed .texts)) k })
 
-    pub remove-keeps : (m : MagicString) → FormedOf source m → Leaves (FormedOf source) (remove start end m)
-    unfolding remove
-    remove-keeps m h =
-        of-cond Keeps (eqb start end) (λ _. record { desk = h })
-        (λ _. of-cond Keeps (ltb end start) (λ _. record { desk = h })
-        (λ _. change-keeps (edit [] true) clear-valid m h))
-
-    pub reset-keeps : (m : MagicString) → FormedOf source m → Leaves (FormedOf source) (reset start end m)
-    unfolding reset
-    reset-keeps m h =
+    pub freeze-keeps : (m : MagicString) → FormedOf source m → Leaves (FormedOf source) (freeze start end m)
+    unfolding freeze
+    freeze-keeps m h =
         of-cond Keeps (eqb start end) (λ _. record { desk = h })
         (λ _. of-cond Keeps (ltb end start) (λ _. record { desk = h })
         (λ _. of-cond Keeps (ltb (length (m .source)) end) (λ _. record { desk = h })
-        (λ _. change-keeps _ reset-valid m h)))
+        (λ _. freeze-range-keeps m h)))
 
-    -- ---- `update_with`
+    -- ---- the walk of `update_with`
 
     update-chunks-keeps : (t : Text) (overwrite : Bool) → Valid t → (m : MagicString) → FormedOf source m → Keeps (update-chunks start end t overwrite m)
     unfolding update-chunks
@@ -104,11 +98,40 @@ module _ (source : Text) where
         let k = with-chunks-keeps m _ (update-retexts start end t overwrite v (h .formed .texts)) h in
         of-cond Keeps (update-walk start end t overwrite (m .chunks) .done) (λ _. record { desk = k }) (λ _. record { desk = k })
 
-    pub update-keeps : (t : Text) (overwrite : Bool) → Valid t → (m : MagicString) → FormedOf source m → Leaves (FormedOf source) (update-with start end t overwrite m)
-    unfolding update-with
-    update-keeps t overwrite v m h =
-        of-cond Keeps (eqb start end) (λ _. record { desk = h })
-        (λ _. of-cond Keeps (ltb end start) (λ _. record { desk = h })
-        (λ _. two-cuts (λ n. cond (ltb (length (n .source)) end) (err 10 n) (update-chunks start end t overwrite n))
-        (λ n k. of-cond Keeps (ltb (length (n .source)) end) (λ _. record { desk = k }) (λ _. update-chunks-keeps t overwrite v n k))
-        m h))
+    -- whichever ranges are refused
+    module _ (g : Guard) where
+      -- ---- `remove`, `reset`
+
+      change-keeps : (f : Texts → Texts) → KeepsValid f → (m : MagicString) → FormedOf source m → Keeps (change-range g f start end m)
+      unfolding change-range
+      change-keeps f v =
+          two-cuts (λ n. unless-guarded g start end n (ok (with-chunks n (change-by-position (length (n .chunks)) f start end (n .chunks)))))
+          (λ n k. of-cond Keeps (g start end n) (λ _. record { desk = k })
+          (λ _. record { desk = with-chunks-keeps n _ (change-retexts (length (n .chunks)) f v start end (n .chunks) (k .formed .texts)) k }))
+
+      pub remove-keeps : (m : MagicString) → FormedOf source m → Leaves (FormedOf source) (remove g start end m)
+      unfolding remove
+      remove-keeps m h =
+          of-cond Keeps (eqb start end) (λ _. record { desk = h })
+          (λ _. of-cond Keeps (ltb end start) (λ _. record { desk = h })
+          (λ _. change-keeps (edit [] true) clear-valid m h))
+
+      pub reset-keeps : (m : MagicString) → FormedOf source m → Leaves (FormedOf source) (reset g start end m)
+      unfolding reset
+      reset-keeps m h =
+          of-cond Keeps (eqb start end) (λ _. record { desk = h })
+          (λ _. of-cond Keeps (ltb end start) (λ _. record { desk = h })
+          (λ _. of-cond Keeps (ltb (length (m .source)) end) (λ _. record { desk = h })
+          (λ _. change-keeps _ reset-valid m h)))
+
+      -- ---- `update_with`
+
+      pub update-keeps : (t : Text) (overwrite : Bool) → Valid t → (m : MagicString) → FormedOf source m → Leaves (FormedOf source) (update-with g start end t overwrite m)
+      unfolding update-with
+      update-keeps t overwrite v m h =
+          of-cond Keeps (eqb start end) (λ _. record { desk = h })
+          (λ _. of-cond Keeps (ltb end start) (λ _. record { desk = h })
+          (λ _. two-cuts (λ n. cond (ltb (length (n .source)) end) (err 10 n) (unless-guarded g start end n (update-chunks start end t overwrite n)))
+          (λ n k. of-cond Keeps (ltb (length (n .source)) end) (λ _. record { desk = k })
+          (λ _. of-cond Keeps (g start end n) (λ _. record { desk = k }) (λ _. update-chunks-keeps t overwrite v n k)))
+          m h))

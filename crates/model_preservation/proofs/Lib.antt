@@ -11,3 +11,4 @@ pub mod Reports
 pub mod Retexts
 pub mod Spans
 pub mod Trim
+pub mod Frozen

@@ -2,7 +2,7 @@
 use Prim.Native.Nat.{ℕ, zero, suc, _%_}
 use mathlib.Core.Path.{_≡_, refl, sym, ap, _∙_, subst}
 use mathlib.Core.Bool.{Bool, true, false, _&&_, not, cond, true≢false}
-use mathlib.Core.List.{List, [], _∷_, _++_}
+use mathlib.Core.List.{List, [], _∷_, _++_, map}
 use lib.Dec.{ltb, leb, eqb}
 use lib.ListN.{length}
 use borrow.Author.Tests.{eqb-true}
@@ -13,6 +13,8 @@ use Rattle.model.proofs.Lists.{bool-elim}
 use Rattle.model.specs.WellFormed.{Formed}
 use Rattle.model.specs.Chunk.{Texts}
 use Rattle.model.specs.MagicString.{MagicString, Result, ok, err, and-then, with-chunks, by-edge, by-start, split-at, split-holder, by-edge-mut}
+use Rattle.model.specs.Frozen.{has-frozen, any-frozen, unless-guarded, freeze-chunk, freeze-range}
+use Rattle.model.specs.Frozen as frozen-parts
 use Rattle.model.specs.Insert.{insert-step}
 use Rattle.model.specs.Update.{update-walk, update-chunks}
 use Rattle.model.specs.Update as update-rs
@@ -21,7 +23,7 @@ use Rattle.model.specs.Movement as movement-rs
 use Rattle.model.specs.Reset as reset-rs
 use Rattle.model.specs.Limits.{Limits, within}
 use Rattle.model.specs.Call.{Edit, remove, update-with, reset, insert, append, prepend, relocate, trim, trim-start, trim-end}
-use Rattle.model.specs.Call.{trim-lines, indent-with, asked, texts, positions, steps, refused-before, judged, run, edit-numbers, may-change}
+use Rattle.model.specs.Call.{trim-lines, indent-with, freeze, asked, texts, positions, steps, refused-before, judged, run, edit-numbers, may-change}
 use Rattle.model_preservation.proofs.Lists.{of-cond, of-guard, of-option, of-number}
 use Rattle.model_preservation.proofs.Desk.{split-cases}
 use Rattle.model_preservation.proofs.IndentAccepted.{indent-with-accepted}
@@ -53,10 +55,15 @@ module _ (e : Edit) where
     two-cuts-may start end f g m =
         may-then (split-at start m) (λ n. and-then (split-at end n) f) (split-may start m) (λ n. may-then (split-at end n) f (split-may end n) g)
 
-    change-may : (f : Texts → Texts) (start end : ℕ) (m : MagicString) → May (change-range f start end m)
+    change-may : may-change e 20 ≡ true → (f : Texts → Texts) (start end : ℕ) (m : MagicString) → May (change-range has-frozen f start end m)
     unfolding change-range
-    change-may f start end m =
-        two-cuts-may start end (λ n. ok (with-chunks n (change-by-position (length (n .chunks)) f start end (n .chunks)))) (λ n. may-0) m
+    change-may may-20 f start end m =
+        two-cuts-may start end (λ n. unless-guarded has-frozen start end n (ok (with-chunks n (change-by-position (length (n .chunks)) f start end (n .chunks)))))
+        (λ n. of-cond May (has-frozen start end n) (λ _. may-20) (λ _. may-0)) m
+
+    freeze-may : (start end : ℕ) (m : MagicString) → May (freeze-range start end m)
+    unfolding freeze-range
+    freeze-may start end m = two-cuts-may start end (λ n. ok (with-chunks n (map (freeze-chunk start end) (n .chunks)))) (λ n. may-0) m
 
   update-may : may-change e 7 ≡ true → (start end : ℕ) (t : Text) (overwrite : Bool) (m : MagicString) → May (update-chunks start end t overwrite m)
   unfolding update-chunks
@@ -103,25 +110,25 @@ cut-answered e p m f h g =
     split-cases (λ r. Answered e m (and-then r f)) p m (done e m (g m)) (λ _. same e m 6 h) (λ _. done e m (g (with-chunks m (split-holder p (m .chunks)))))
 
 steps-answered : (e : Edit) (m : MagicString) → Formed m → Answered e m (steps e m)
-unfolding by-edge-mut movement-rs.remove update-rs.update-with reset-rs.reset movement-rs.relocate
+unfolding by-edge-mut movement-rs.remove update-rs.update-with reset-rs.reset movement-rs.relocate frozen-parts.freeze
 steps-answered (remove a b) m f =
     let e : Edit = remove a b in
     of-cond (Answered e m) (eqb a b) (λ _. done e m refl)
     (λ _. of-cond (Answered e m) (ltb b a) (λ _. same e m 4 refl)
-    (λ _. may e m (cons refl nil) (change-may e refl _ a b m)))
+    (λ _. may e m (cons refl (cons refl nil)) (change-may e refl refl _ a b m)))
 steps-answered (update-with a b t o) m f =
     let e : Edit = update-with a b t o in
     of-cond (Answered e m) (eqb a b) (λ _. same e m 5 refl)
     (λ _. of-cond (Answered e m) (ltb b a) (λ _. same e m 4 refl)
-    (λ _. may e m (cons refl (cons refl (cons refl nil)))
-    (two-cuts-may e refl a b (λ n. cond (ltb (length (n .source)) b) (err 10 n) (update-chunks a b t o n))
-    (λ n. of-cond (May e) (ltb (length (n .source)) b) (λ _. refl) (λ _. update-may e refl a b t o n)) m)))
+    (λ _. may e m (cons refl (cons refl (cons refl (cons refl nil))))
+    (two-cuts-may e refl a b (λ n. cond (ltb (length (n .source)) b) (err 10 n) (unless-guarded has-frozen a b n (update-chunks a b t o n)))
+    (λ n. of-cond (May e) (ltb (length (n .source)) b) (λ _. refl) (λ _. of-cond (May e) (has-frozen a b n) (λ _. refl) (λ _. update-may e refl a b t o n))) m)))
 steps-answered (reset a b) m f =
     let e : Edit = reset a b in
     of-cond (Answered e m) (eqb a b) (λ _. done e m refl)
     (λ _. of-cond (Answered e m) (ltb b a) (λ _. same e m 4 refl)
     (λ _. of-cond (Answered e m) (ltb (length (m .source)) b) (λ _. same e m 10 refl)
-    (λ _. may e m (cons refl nil) (change-may e refl _ a b m))))
+    (λ _. may e m (cons refl (cons refl nil)) (change-may e refl refl _ a b m))))
 steps-answered (insert p t left front) m f =
     cut-answered (insert p t left front) p m (insert-step p t left front) refl
     (λ n. of-option (λ (r : Result). r .number ≡ 0) (by-edge left p (n .chunks)) (λ _. refl) (λ c _. refl))
@@ -141,33 +148,44 @@ steps-answered (trim-start p) m f = done (trim-start p) m refl
 steps-answered (trim-end p) m f = done (trim-end p) m refl
 steps-answered trim-lines m f = done trim-lines m refl
 steps-answered (indent-with i l) m f = done (indent-with i l) m (indent-with-accepted i l m f)
+steps-answered (freeze a b) m f =
+    let e : Edit = freeze a b in
+    of-cond (Answered e m) (eqb a b) (λ _. done e m refl)
+    (λ _. of-cond (Answered e m) (ltb b a) (λ _. same e m 4 refl)
+    (λ _. of-cond (Answered e m) (ltb (length (m .source)) b) (λ _. same e m 10 refl)
+    (λ _. may e m (cons refl nil) (freeze-may e refl a b m))))
 
 -- ---- the call
 
--- 15, 1 and 3, each only where it is among the numbers
+-- 15, 1, 3 and 20, each only where it is among the numbers
 guarded : (b : Bool) (n x : ℕ) (ns : List ℕ) → among n ns ≡ true → among x ns ≡ true → among (cond (not b) n x) ns ≡ true
 guarded b n x ns h g = of-guard (λ (y : ℕ). among y ns ≡ true) b (λ _. h) (λ _. g)
 
 -- 1 for the texts, 3 for the positions
-text-then : (m : MagicString) (e : Edit) → among 1 (edit-numbers e) ≡ true → among 3 (edit-numbers e) ≡ true
-    → among (cond (not (all utf8 (texts e))) 1 (cond (not (all (between (m .source)) (positions e))) 3 0)) (edit-numbers e) ≡ true
-text-then m e h g = guarded (all utf8 (texts e)) 1 _ (edit-numbers e) h (guarded (all (between (m .source)) (positions e)) 3 0 (edit-numbers e) g refl)
+text-then : (m : MagicString) (e : Edit) (x : ℕ) → among 1 (edit-numbers e) ≡ true → among 3 (edit-numbers e) ≡ true → among x (edit-numbers e) ≡ true
+    → among (cond (not (all utf8 (texts e))) 1 (cond (not (all (between (m .source)) (positions e))) 3 x)) (edit-numbers e) ≡ true
+text-then m e x h g k = guarded (all utf8 (texts e)) 1 _ (edit-numbers e) h (guarded (all (between (m .source)) (positions e)) 3 x (edit-numbers e) g k)
+
+-- 20 for a marked chunk
+marked : (m : MagicString) (ns : List ℕ) → among 20 ns ≡ true → among (cond (any-frozen m) 20 0) ns ≡ true
+marked m ns h = of-cond (λ (y : ℕ). among y ns ≡ true) (any-frozen m) (λ _. h) (λ _. refl)
 
 before-listed : (m : MagicString) (e : Edit) → among (refused-before m e) (edit-numbers e) ≡ true
 unfolding refused-before
 before-listed m (remove a b) = guarded (all (between (m .source)) (a ∷ b ∷ [])) 3 0 (edit-numbers (remove a b)) refl refl
-before-listed m (update-with a b t o) = text-then m (update-with a b t o) refl refl
+before-listed m (update-with a b t o) = text-then m (update-with a b t o) 0 refl refl refl
 before-listed m (reset a b) = guarded (all (between (m .source)) (a ∷ b ∷ [])) 3 0 (edit-numbers (reset a b)) refl refl
-before-listed m (insert p t left front) = text-then m (insert p t left front) refl refl
+before-listed m (insert p t left front) = text-then m (insert p t left front) 0 refl refl refl
 before-listed m (append t) = guarded (all utf8 (t ∷ [])) 1 0 (edit-numbers (append t)) refl refl
 before-listed m (prepend t) = guarded (all utf8 (t ∷ [])) 1 0 (edit-numbers (prepend t)) refl refl
 before-listed m (relocate a b to) = guarded (all (between (m .source)) (a ∷ b ∷ to ∷ [])) 3 0 (edit-numbers (relocate a b to)) refl refl
-before-listed m (trim p) = guarded (leb p 1) 15 0 (edit-numbers (trim p)) refl refl
-before-listed m (trim-start p) = guarded (leb p 1) 15 0 (edit-numbers (trim-start p)) refl refl
-before-listed m (trim-end p) = guarded (leb p 1) 15 0 (edit-numbers (trim-end p)) refl refl
-before-listed m trim-lines = refl
+before-listed m (trim p) = guarded (leb p 1) 15 _ (edit-numbers (trim p)) refl (marked m (edit-numbers (trim p)) refl)
+before-listed m (trim-start p) = guarded (leb p 1) 15 _ (edit-numbers (trim-start p)) refl (marked m (edit-numbers (trim-start p)) refl)
+before-listed m (trim-end p) = guarded (leb p 1) 15 _ (edit-numbers (trim-end p)) refl (marked m (edit-numbers (trim-end p)) refl)
+before-listed m trim-lines = marked m (edit-numbers trim-lines) refl
 before-listed m (indent-with i l) =
-    guarded (eqb (length l % 2) 0) 15 _ (edit-numbers (indent-with i l)) refl (text-then m (indent-with i l) refl refl)
+    guarded (eqb (length l % 2) 0) 15 _ (edit-numbers (indent-with i l)) refl (text-then m (indent-with i l) _ refl refl (marked m (edit-numbers (indent-with i l)) refl))
+before-listed m (freeze a b) = guarded (all (between (m .source)) (a ∷ b ∷ [])) 3 0 (edit-numbers (freeze a b)) refl refl
 
 thirteen-listed : (ns os : List ℕ) → among 13 (ns ++ (13 ∷ os)) ≡ true
 thirteen-listed [] os = refl

@@ -1,4 +1,4 @@
--- Walks that change texts only: the chunk at a position, chunks by position, the walk of `update_with`. Each keeps every span and leaves valid texts.
+-- Walks that change texts only: the chunk at a position, chunks by position, the walk of `update_with`; and the marks that freezing sets. Each keeps every span and leaves valid texts.
 use Prim.Native.Nat.{ℕ, zero, suc}
 use mathlib.Core.Path.{_≡_, refl, _∙_, subst}
 use mathlib.Core.Bool.{Bool, true, false}
@@ -10,6 +10,7 @@ use Rattle.utf8.proofs.Texts.{utf8-nil}
 use Rattle.model.specs.Text.{Text}
 use Rattle.model.specs.Chunk.{Chunk, Texts, bare, start-of, end-of, edit, reset-texts}
 use Rattle.model.specs.MagicString.{MagicString, edge, by-start, at-start, at-edge}
+use Rattle.model.specs.Frozen.{freeze-chunk}
 use Rattle.model.specs.Insert.{right, push, push-to}
 use Rattle.model.specs.Update.{Walk, clear-run, update-walk}
 use Rattle.model.specs.Movement.{change-by-position}
@@ -115,3 +116,9 @@ update-retexts start end t overwrite v (cons {x = c} {xs = cs} h k) =
     (λ _. of-cond (λ (d : Chunk). Retexts (c ∷ cs) (d ∷ clear-run (end-of c) end cs .chunks)) (clear-run (end-of c) end cs .done)
     (λ _. more refl (edit-valid t overwrite v (c .texts) h) r) (λ _. more refl h r))
     (λ _. more refl h (update-retexts start end t overwrite v k))
+
+-- ---- marks
+
+pub freeze-retexts : (start end : ℕ) {cs : List Chunk} → All (λ c. ValidTexts (c .texts)) cs → Retexts cs (map (freeze-chunk start end) cs)
+freeze-retexts start end nil = none
+freeze-retexts start end (cons h k) = more refl h (freeze-retexts start end k)

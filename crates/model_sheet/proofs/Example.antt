@@ -7,6 +7,7 @@ use Rattle.utf8.specs.Chars.{toFirst, chars, code}
 use Rattle.model.specs.Text.{Text}
 use Rattle.model.specs.Chunk.{contains}
 use Rattle.model.specs.MagicString.{split-at, by-edge-mut, to-string}
+use Rattle.model.specs.Frozen.{has-frozen, any-frozen}
 use Rattle.model.specs.Update.{update-chunks, update-with}
 use Rattle.model.specs.Movement.{change-range, relocate}
 use Rattle.model.specs.Limits.{within}
@@ -34,6 +35,6 @@ called t = refl
 
 pub worked : (map (λ q. (q .0, printed (q .0))) prints ≡ prints) × (map computed runs ≡ runs)
 unfolding flatten bind scalar sequence decodeAt wholeFrom utf8 between toFirst chars code contains split-at by-edge-mut to-string update-chunks update-with
-    change-range relocate within judged refused-before run opened records-behind record-at parsed extent number numbers fits positions carries source-size front-fits sheet
+    has-frozen any-frozen change-range relocate within judged refused-before run opened records-behind record-at parsed extent number numbers fits positions carries source-size front-fits sheet
     call-of run-read run-sheet lines printed-run printed
 worked = (refl, refl)

@@ -1,4 +1,4 @@
--- A run case by case, and its numbers: which it may give, and that each answer is at most 15.
+-- A run case by case, and its numbers: which it may give, and that each answer is at most 20.
 use Prim.Native.Nat.{ℕ, zero, suc, _≤_, _<_}
 use mathlib.Core.Path.{_≡_, refl, sym, ap, _∙_}
 use mathlib.Core.Bool.{Bool, true, false, _||_, cond}
@@ -15,7 +15,7 @@ use Rattle.model.specs.MagicString.{MagicString}
 use Rattle.model.specs.Limits.{Limits}
 use Rattle.model.specs.WellFormed.{Formed, WellFormed}
 use Rattle.model.specs.Call.{Edit, run, answers, opened, edit-numbers, Outcome, remove, update-with, reset, insert}
-use Rattle.model.specs.Call.{append, prepend, relocate, trim, trim-start, trim-end, trim-lines, indent-with}
+use Rattle.model.specs.Call.{append, prepend, relocate, trim, trim-start, trim-end, trim-lines, indent-with, freeze}
 use Rattle.model.proofs.Lists.{and-left, and-right, or-cases, no-tf}
 use Rattle.model_preservation.specs.Refusals.{among}
 use Rattle.model_preservation.proofs.Refusals.{answer-listed}
@@ -24,7 +24,7 @@ use Rattle.model_preservation.proofs.Calls.{run-keeps}
 use Rattle.model_sheet.specs.Record.{Recorded}
 use Rattle.model_sheet.specs.Sheet.{Sheet, sheet, call-of, calls-of, all-made, refused-by, run-read, run-sheet, sheet-numbers}
 
--- ── an answer is at most 15 ──
+-- ── an answer is at most 20 ──
 any-below : (k n : ℕ) (l : List ℕ) → all (λ x. leb x k) l ≡ true → any (eqb n) l ≡ true → n ≤ k
 any-below k n [] h e = absurd (no-tf (sym e))
 any-below k n (x ∷ l) h e =
@@ -34,9 +34,9 @@ any-below k n (x ∷ l) h e =
       | inr q ↦ any-below k n l (and-right (below x) (all below l) h) q
     ]
 
--- the largest number of document 01's table
+-- the largest number of an edit
 abbrev small : ℕ → Bool
-small n = leb n 15
+small n = leb n 20
 
 numbers-small : (e : Edit) → all small (edit-numbers e) ≡ true
 numbers-small (remove a b) = refl
@@ -51,9 +51,10 @@ numbers-small (trim-start p) = refl
 numbers-small (trim-end p) = refl
 numbers-small trim-lines = refl
 numbers-small (indent-with i l) = refl
+numbers-small (freeze a b) = refl
 
-pub answer-small : (k : Limits) (e : Edit) (m : MagicString) → Formed m → run k e m .number ≤ 15
-answer-small k e m f = any-below 15 (run k e m .number) (0 ∷ edit-numbers e) (numbers-small e) (answer-listed k e m f)
+pub answer-small : (k : Limits) (e : Edit) (m : MagicString) → Formed m → run k e m .number ≤ 20
+answer-small k e m f = any-below 20 (run k e m .number) (0 ∷ edit-numbers e) (numbers-small e) (answer-listed k e m f)
 
 pub answers-small : (k : Limits) (l : List Recorded) (m : MagicString) → WellFormed k m → All (λ x. x < 100) (answers k (calls-of l) m)
 answers-small k [] m w = nil

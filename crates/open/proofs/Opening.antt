@@ -48,9 +48,9 @@ fresh-of a b l m =
     }
 
 -- ── the desk ──
--- a row with no pieces and no replacement
+-- a row with no mark, no pieces and no replacement
 abbrev bareEntry : ℕ → ℕ → Entry
-bareEntry a e = record { start = a; end = e; intro = (0, 0); outro = (0, 0); text = (NONE, 0) }
+bareEntry a e = record { start = a; end = e; frozen = 0; intro = (0, 0); outro = (0, 0); text = (NONE, 0) }
 
 module _ (p s : List ℕ) where
   bare-chunk : (a e : ℕ) → chunkOf p s (bareEntry a e) ≡ new-chunk a e

@@ -21,8 +21,8 @@ deskRow =
       «outro_n» = 0;
       «text_at» = NONE;
       «text_n» = 0;
-      spare0 = 0;
-      spare1 = 0;
+      frozen = 0;
+      spare = 0;
     }
 
 -- row 1: the source's bytes 0 to len, no pieces, no replacement
@@ -39,8 +39,8 @@ chunkRow len =
       «outro_n» = 0;
       «text_at» = NONE;
       «text_n» = 0;
-      spare0 = 0;
-      spare1 = 0;
+      frozen = 0;
+      spare = 0;
     }
 
 -- t′ is t with these two rows

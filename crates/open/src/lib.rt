@@ -30,8 +30,8 @@ pub fn fresh(chunks: &mut [u32], len: u32)
             outro_n: 0,
             text_at: memory_layout::NONE,
             text_n: 0,
-            spare0: 0,
-            spare1: 0,
+            frozen: 0,
+            spare: 0,
         },
     );
     memory_table::put_row(
@@ -48,8 +48,8 @@ pub fn fresh(chunks: &mut [u32], len: u32)
             outro_n: 0,
             text_at: memory_layout::NONE,
             text_n: 0,
-            spare0: 0,
-            spare1: 0,
+            frozen: 0,
+            spare: 0,
         },
     );
 }

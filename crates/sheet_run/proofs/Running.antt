@@ -70,7 +70,7 @@ module _ {r source t₀ p₀ s₀ a₀ : List ℕ} {n at i : ℕ} {t p s a : Lis
 
   module _ {t′ p′ s′ : List ℕ} {k : Made} (x : Stepped r at source t p s t′ p′ s′ k) where
     -- a call's number is a byte
-    pub running-byte : k .outcome .number ≤ 15
+    pub running-byte : k .outcome .number ≤ 20
     running-byte =
         let q = x .left .ran .number-is in
         omega (arith, answer-small (limitsOf t p s) (call-of (x .one)) (magicStringOf source t p s) (w .desk .well-formed .desk .formed))

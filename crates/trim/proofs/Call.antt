@@ -1,45 +1,58 @@
--- The trims as calls: 15, and what is done past it.
-use mathlib.Core.Path.{refl}
-use mathlib.Core.Bool.{true, false}
+-- Laws of what `Asks` in specs/ defines: a trim that is refused, one past its tests, and the four calls.
+use mathlib.Core.Path.{_≡_, refl, sym, _∙_}
+use mathlib.Core.Bool.{Bool, true, false}
 use mathlib.Core.List.{List}
-use Prim.Native.Nat.{ℕ, _≤_, _<_}
+use Prim.Native.Nat.{ℕ, suc, _-_, _≤_, _<_}
+use native.Mathlib.Omega.{arith}
 use borrow.Author.Tests.{le-leb, lt-leb}
-use Rattle.model.specs.Call.{trim, trim-start, trim-end, trim-lines}
+use Rattle.model.specs.Call.{Edit, trim, trim-start, trim-end, trim-lines, refused-before}
 use Rattle.memory.specs.Layout.{magicStringOf}
 use Rattle.memory_used.specs.declared.Used.{Used}
 use Rattle.memory_used.specs.declared.Outcome.{Outcome}
 use Rattle.memory_used.specs.Above.{Above, Desk, Leaves}
-use Rattle.edit_scratch.proofs.Tables.{refused-15, ran-before, not-refused}
+use Rattle.memory_frozen.specs.Frozen.{frozenIn}
+use Rattle.memory_frozen.proofs.Frozen.{frozen-any}
+use Rattle.edit_scratch.proofs.Tables.{ran-before}
 use Rattle.trim_scratch.specs.Call.{TrimRan}
+use Rattle.trim.specs.Asks.{Asks, refusal}
 
--- ---- 15: the desk stays, and what it uses
+-- ---- the tests
 
-module _ {source t p s : List ℕ} {used : Used} (d : Desk source t p s used) where
-  module _ (n : ℕ) (h : 1 < n) where
-    pub start-refused : Leaves (trim-start n) source t p s t p s (record { number = 15; cuts = 0; used = used })
-    start-refused =
-        record { ran = ran-before (trim-start n) source t p s 14 15 (d .well-formed) (refused-15 (trim-start n) (magicStringOf source t p s) (lt-leb n 1 h)) refl; above = d .above }
+module _ (pattern : ℕ) (marked : Bool) where
+  pub above-last : 1 < pattern → 15 ≡ refusal pattern marked
+  above-last h = rw (lt-leb pattern 1 h)
 
-    pub end-refused : Leaves (trim-end n) source t p s t p s (record { number = 15; cuts = 0; used = used })
-    end-refused =
-        record { ran = ran-before (trim-end n) source t p s 14 15 (d .well-formed) (refused-15 (trim-end n) (magicStringOf source t p s) (lt-leb n 1 h)) refl; above = d .above }
+  pub marked-desk : pattern ≤ 1 → marked ≡ true → 20 ≡ refusal pattern marked
+  marked-desk h e = rw (le-leb pattern 1 h, e)
 
-    pub both-refused : Leaves (trim n) source t p s t p s (record { number = 15; cuts = 0; used = used })
-    both-refused =
-        record { ran = ran-before (trim n) source t p s 14 15 (d .well-formed) (refused-15 (trim n) (magicStringOf source t p s) (lt-leb n 1 h)) refl; above = d .above }
+  pub passed : pattern ≤ 1 → marked ≡ false → 0 ≡ refusal pattern marked
+  passed h e = rw (le-leb pattern 1 h, e)
 
--- ---- past it
+module _ (source t p s : List ℕ) {both front : Bool} {pattern number : ℕ} (h : number ≡ refusal pattern (frozenIn true 0 0 t)) (e : Edit) (a : Asks both front pattern e) where
+  refused-is : refused-before (magicStringOf source t p s) e ≡ number
+  unfolding refused-before
+  refused-is = rw (a .options, a .no-text, a .no-position, a .whole-desk, sym (frozen-any source t p s)) (sym h)
 
-module _ {source t p s t' p' s' : List ℕ} {o : Outcome} where
-  module _ (n : ℕ) (h : n ≤ 1) where
-    pub start-ran : TrimRan false true n source t p s t' p' s' (o .number) (o .cuts) × Above t' p' s' (o .used) → Leaves (trim-start n) source t p s t' p' s' o
-    start-ran f = record { ran = f .0 (trim-start n) (not-refused (trim-start n) source t p s (le-leb n 1 h) refl refl) refl refl; above = f .1 }
+  -- the desk stays, and what it uses
+  pub refused : {used : Used} → Desk source t p s used → (number ≡ 0 → ⊥) → Leaves e source t p s t p s (record { number = number; cuts = 0; used = used })
+  refused d n =
+      let positive : number ≡ suc (number - 1) = omega (arith, n) in
+      record { ran = ran-before e source t p s (number - 1) number (d .well-formed) (refused-is ∙ positive) positive; above = d .above }
 
-    pub end-ran : TrimRan false false n source t p s t' p' s' (o .number) (o .cuts) × Above t' p' s' (o .used) → Leaves (trim-end n) source t p s t' p' s' o
-    end-ran f = record { ran = f .0 (trim-end n) (not-refused (trim-end n) source t p s (le-leb n 1 h) refl refl) refl refl; above = f .1 }
+  pub ran : number ≡ 0 → {t' p' s' : List ℕ} {o : Outcome} → TrimRan both front pattern source t p s t' p' s' (o .number) (o .cuts) × Above t' p' s' (o .used)
+      → Leaves e source t p s t' p' s' o
+  ran z f = record { ran = f .0 e (refused-is ∙ z) (a .does (magicStringOf source t p s)) (a .busy); above = f .1 }
 
-    pub both-ran : TrimRan true true n source t p s t' p' s' (o .number) (o .cuts) × Above t' p' s' (o .used) → Leaves (trim n) source t p s t' p' s' o
-    both-ran f = record { ran = f .0 (trim n) (not-refused (trim n) source t p s (le-leb n 1 h) refl refl) refl refl; above = f .1 }
+-- ---- the calls
 
-  pub lines-ran : TrimRan true true 1 source t p s t' p' s' (o .number) (o .cuts) × Above t' p' s' (o .used) → Leaves trim-lines source t p s t' p' s' o
-  lines-ran f = record { ran = f .0 trim-lines (not-refused trim-lines source t p s refl refl refl) refl refl; above = f .1 }
+pub asks-start : (n : ℕ) → Asks false true n (trim-start n)
+asks-start n = record { options = refl; no-text = refl; no-position = refl; whole-desk = refl; busy = refl; does = λ m. refl }
+
+pub asks-end : (n : ℕ) → Asks false false n (trim-end n)
+asks-end n = record { options = refl; no-text = refl; no-position = refl; whole-desk = refl; busy = refl; does = λ m. refl }
+
+pub asks-both : (n : ℕ) → Asks true true n (trim n)
+asks-both n = record { options = refl; no-text = refl; no-position = refl; whole-desk = refl; busy = refl; does = λ m. refl }
+
+pub asks-lines : Asks true true 1 trim-lines
+asks-lines = record { options = refl; no-text = refl; no-position = refl; whole-desk = refl; busy = refl; does = λ m. refl }

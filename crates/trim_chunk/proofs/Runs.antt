@@ -33,8 +33,8 @@ with-text t r =
       «outro_n» = r .«outro_n»;
       «text_at» = t .0;
       «text_n» = t .1;
-      spare0 = r .spare0;
-      spare1 = r .spare1;
+      frozen = r .frozen;
+      spare = r .spare;
     }
 
 pub sides-written : (front : Bool) (r x q : Row) (n f t : Place) → x ≡ with-side (not front) n r → q ≡ with-side front f x → Rewritten r (with-text t q) (withSides front (entryOf r) n f t)

@@ -31,7 +31,7 @@ sides true n f e = record { intro = n; outro = f; edited-content = e }
 sides false n f e = record { intro = f; outro = n; edited-content = e }
 
 abbrev pub with-sides : Bool → Chunk → List Text → List Text → Option Text → Bool → Trimmed
-with-sides front c n f e k = record { goes-on = k; chunk = record { span = c .span; texts = sides front n f e } }
+with-sides front c n f e k = record { goes-on = k; chunk = record { span = c .span; frozen = c .frozen; texts = sides front n f e } }
 
 -- the turn over what is left of the pieces on the near side (n), of the content s (t) and of the pieces on the far side (f)
 turn : Bool → Chunk → List Text → Text → Text → List Text → Trimmed

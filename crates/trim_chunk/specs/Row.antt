@@ -35,8 +35,8 @@ farOf true e = e .outro
 farOf false e = e .intro
 
 abbrev pub withSides : Bool → Entry → Place → Place → Place → Entry
-withSides true e n f x = record { start = e .start; end = e .end; intro = n; outro = f; text = x }
-withSides false e n f x = record { start = e .start; end = e .end; intro = f; outro = n; text = x }
+withSides true e n f x = record { start = e .start; end = e .end; frozen = e .frozen; intro = n; outro = f; text = x }
+withSides false e n f x = record { start = e .start; end = e .end; frozen = e .frozen; intro = f; outro = n; text = x }
 
 -- the row q is r with the entry e
 pub record Rewritten (r q : Row) (e : Entry) : Type 0 where

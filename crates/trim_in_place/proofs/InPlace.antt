@@ -40,7 +40,7 @@ module _ (p s : List ℕ) (row byte : ℕ) (hr : row * 2 ≤ length p) (hb : byt
   -- the head and the tail, as an entry with no replacement
   own-below : (e : Entry) → RunsLow p row byte e → RunsIn (take (row * 2) p) (take byte s) e
   own-below e h =
-      let own : Entry = record { start = 0; end = 0; intro = e .intro; outro = e .outro; text = (NONE, 0) } in
+      let own : Entry = record { start = 0; end = 0; frozen = 0; intro = e .intro; outro = e .outro; text = (NONE, 0) } in
       let x = entry-below p s byte row hr hb own (record { intro = h .intro; outro = h .outro; text = λ n. absurd (n refl) }) in
       record { intro = x .runs .intro; outro = x .runs .outro }
 

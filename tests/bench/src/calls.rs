@@ -6,7 +6,7 @@ use differential::{
 };
 use oracle::{
   Call::{self, *},
-  Desk, DeskData, Limits, insertions,
+  ChunkData, Desk, DeskData, Limits, insertions,
   random::Random,
   reports,
 };
@@ -20,8 +20,7 @@ pub const ROOM: usize = 50_000;
 pub fn print(core: &mut impl Core, desk: &DeskData) {
   let (source, chunks) = (desk.source.len(), desk.chunks.len());
   println!("\nsource of {source} bytes, {chunks} chunks");
-  print!("{:<30} {:>10} {:>10} {:>8}", "", "Rust ns", "ns", "ratio");
-  println!(" {:>10} {:>8}", "less check", "ratio");
+  heads("Rust ns");
   let rust = Desk::build(Limits::FULL, desk).magic_string().clone();
   let image = image::encode_in(Style::tight(), desk, &mut Random::new(1));
   let source: &'static str = desk.source.clone().leak();
@@ -41,13 +40,19 @@ pub fn print(core: &mut impl Core, desk: &DeskData) {
   println!("{:<30} {:>10} {:>10.0}", "floor: from_utf8 and a copy", "", utf8 + copied);
 }
 
-fn line(name: &str, theirs: f64, ours: f64, less: f64) {
+/// The heads of the columns, of which the first is of the Rust.
+pub fn heads(rust: &str) {
+  print!("{:<30} {rust:>10} {:>10} {:>8}", "", "ns", "ratio");
+  println!(" {:>10} {:>8}", "less check", "ratio");
+}
+
+pub fn line(name: &str, theirs: f64, ours: f64, less: f64) {
   print!("{name:<30} {theirs:>10.0} {ours:>10.0} {:>8.2}", ours / theirs);
   println!(" {:>10.0} {:>8.2}", less.max(0.0), less.max(0.0) / theirs);
 }
 
 /// Nanoseconds of the check alone, which an exported call makes first.
-fn checking(core: &mut impl Core, image: &Image) -> f64 {
+pub fn checking(core: &mut impl Core, image: &Image) -> f64 {
   let mut answer = Answer::ACCEPTED;
   let took = least(|| image.clone(), |image| answer = core.well_formed(&image.lend()));
   assert_eq!(answer, Answer::ACCEPTED, "a desk within the limits");
@@ -69,13 +74,17 @@ pub fn time(core: &mut impl Core, image: &Image, call: &Call) -> f64 {
   took
 }
 
-/// Every call but `open`, in and around a chunk in the middle that is not
-/// replaced.
-fn every(desk: &DeskData) -> Vec<Call> {
+/// A chunk in the middle that is not replaced.
+pub fn middle(desk: &DeskData) -> &ChunkData {
   let mut spans: Vec<_> =
     desk.chunks.iter().filter(|chunk| chunk.edited_content.is_none()).collect();
   spans.sort_by_key(|chunk| chunk.start);
-  let chunk = spans[spans.len() / 2];
+  spans[spans.len() / 2]
+}
+
+/// Every call but `open`, in and around such a chunk.
+fn every(desk: &DeskData) -> Vec<Call> {
+  let chunk = middle(desk);
   let (start, at, end) = (chunk.start, chunk.start + 1, chunk.end);
   let text = b"inserted".to_vec();
   let room = Some(ROOM as u32);

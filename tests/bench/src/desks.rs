@@ -21,6 +21,7 @@ pub fn edited(source: usize, chunks: usize) -> DeskData {
       intro: if index % 2 == 0 { vec!["<i>".to_string()] } else { Vec::new() },
       outro: if index % 5 == 0 { vec!["</i>".to_string()] } else { Vec::new() },
       edited_content: (index % 3 == 0).then(|| "replaced".to_string()),
+      ..Default::default()
     })
     .collect();
   for moved in (4..chunks).step_by(25) {
@@ -56,6 +57,7 @@ pub fn part_of_limits(part: usize, unit: &str) -> DeskData {
     intro: vec![unit.repeat(2)],
     outro: vec![unit.repeat(2)],
     edited_content: Some(unit.repeat(4)),
+    ..Default::default()
   };
   DeskData {
     source: unit.repeat(16_384 / part / unit.len()),

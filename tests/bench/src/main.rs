@@ -1,11 +1,12 @@
 //! `bench`: the time of each call as a ratio to the Rust's, measured in the same
 //! run; whole papers, by exported and by inner calls and as sheets; calls filed and
-//! withdrawn; two lists joined; the check of a desk alone, and that of a text.
+//! withdrawn; parts frozen; two lists joined; the check of a desk alone, and that of a text.
 
 mod calls;
 mod check;
 mod desks;
 mod filed;
+mod frozen;
 #[cfg(feature = "inner")]
 mod inner;
 mod joined;
@@ -44,6 +45,7 @@ fn main() {
   papers::print(&mut core);
   sheets::print(&mut core);
   filed::print(&mut core);
+  frozen::print(&mut core);
   joined::print(&mut core);
   #[cfg(feature = "inner")]
   {

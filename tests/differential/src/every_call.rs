@@ -1,11 +1,14 @@
-//! Every call but the opening: the oracle's, with arguments that many desks take,
-//! and with arguments of which most get a number of their own on every desk.
+//! Every call but the opening: the oracle's and a freezing, with arguments that many desks
+//! take, and with arguments of which most get a number of their own on every desk.
 
-pub use oracle::every_call as accepted;
 use oracle::{
   Call::{self, *},
-  insertions, reports,
+  every_call, insertions, reports,
 };
+
+pub fn accepted() -> Vec<Call> {
+  [every_call(), vec![Freeze { start: 0, end: 1 }]].concat()
+}
 
 pub fn refused() -> Vec<Call> {
   let text = b"\xff".to_vec();
@@ -21,6 +24,7 @@ pub fn refused() -> Vec<Call> {
     TrimEnd { pattern: 3 },
     TrimLines,
     IndentWith { indentor: Some(text.clone()), exclude: vec![2] },
+    Freeze { start: 2, end: 1 },
     Slice { start: 2, end: Some(1), room: Some(0) },
     ToString { room: Some(0) },
     LastLine { room: Some(0) },

@@ -92,6 +92,16 @@ impl Lent<'_> {
   }
 }
 
+/// Frozen parts.
+impl Lent<'_> {
+  pub fn freeze(&mut self, record: &LentRecord, start: u32, end: u32) -> Answer {
+    let LentRecord { words, bytes } = record;
+    let (words, words_len) = (words.as_ptr(), words.len());
+    let (bytes, bytes_len) = (bytes.as_ptr(), bytes.len());
+    unsafe { edit!(self, magic_string_freeze, words, words_len, bytes, bytes_len, start, end) }
+  }
+}
+
 /// Two lists of calls.
 impl Lent<'_> {
   pub fn join(&mut self, first: &[u8], second: &[u8]) -> Answer {

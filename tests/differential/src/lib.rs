@@ -1,7 +1,7 @@
 //! Compares a core (the exported functions, or a stand-in) with the oracle: call
 //! by call on random scripts, and image by image on damaged memory; the orders of
-//! lists of edits with each other; sheets, records of filed calls and joins of two lists
-//! with plain readings of document 02; and the reading of UTF-8 with Rust's own.
+//! lists of edits with each other; sheets, records of filed calls, frozen parts and joins of
+//! two lists with plain readings of document 02; and the reading of UTF-8 with Rust's own.
 
 pub mod any_order;
 pub mod arguments;
@@ -13,6 +13,7 @@ mod drop_rows;
 mod every_call;
 #[cfg(feature = "archive")]
 mod ffi;
+pub mod frozen;
 pub mod image;
 pub mod joins;
 pub mod layout;
@@ -35,7 +36,7 @@ mod well_formed;
 
 pub use cores::{Core, Unseen};
 pub use image::Image;
-pub use lent::{Lent, LentRecord};
+pub use lent::{Lent, LentRecord, NoCalls};
 pub use magic_string_sys::Answer;
 pub use oracle::keeps;
 pub use paper::{Made, Paper, Start};

@@ -1,5 +1,5 @@
-//! A smaller paper that still differs: calls are dropped, then pieces and
-//! replacements of a desk made by hand.
+//! A smaller paper that still differs: calls are dropped, then pieces, replacements
+//! and marks of a desk made by hand.
 
 use oracle::DeskData;
 
@@ -60,17 +60,24 @@ impl<C: Core + Clone> Shrinker<'_, C> {
 
   fn simplify_desk(&mut self) {
     let Start::Desk { desk, seed } = self.paper.start.clone() else { return };
-    for part in 0..4 * desk.chunks.len() + 3 {
-      // The desk as it now is: an earlier part may have been dropped.
-      let Start::Desk { mut desk, .. } = self.paper.start.clone() else { return };
-      if drop_part(&mut desk, part) {
-        self.take(Paper { start: Start::Desk { desk, seed }, ..self.paper.clone() });
-      }
+    simpler(desk, |desk| {
+      let start = Start::Desk { desk: desk.clone(), seed };
+      self.take(Paper { start, ..self.paper.clone() })
+    });
+  }
+}
+
+/// Drops parts of the desk one by one, as long as `take` takes the desk without them.
+pub fn simpler(mut desk: DeskData, mut take: impl FnMut(&DeskData) -> bool) {
+  for part in 0..5 * desk.chunks.len() + 3 {
+    let mut smaller = desk.clone();
+    if drop_part(&mut smaller, part) && take(&smaller) {
+      desk = smaller;
     }
   }
 }
 
-/// Drops a list, or a replacement, or puts the chunks in source order. False
+/// Drops a list, or a replacement, or a mark, or puts the chunks in source order. False
 /// where that changes nothing.
 fn drop_part(desk: &mut DeskData, part: usize) -> bool {
   let before = desk.clone();
@@ -79,11 +86,12 @@ fn drop_part(desk: &mut DeskData, part: usize) -> bool {
     1 => desk.tail.clear(),
     2 => desk.chunks.sort_by_key(|chunk| chunk.start),
     _ => {
-      let chunk = &mut desk.chunks[(part - 3) / 4];
-      match (part - 3) % 4 {
+      let chunk = &mut desk.chunks[(part - 3) / 5];
+      match (part - 3) % 5 {
         0 => chunk.intro.clear(),
         1 => chunk.outro.clear(),
         2 => chunk.edited_content = None,
+        3 => chunk.frozen = false,
         _ => {
           chunk.intro.pop();
           chunk.outro.pop();
@@ -98,8 +106,10 @@ fn drop_part(desk: &mut DeskData, part: usize) -> bool {
 fn size(start: &Start) -> usize {
   let Start::Desk { desk, .. } = start else { return 0 };
   let chunks = desk.chunks.iter();
-  let chunks = chunks
-    .map(|chunk| chunk.intro.len() + chunk.outro.len() + chunk.edited_content.is_some() as usize);
+  let chunks = chunks.map(|chunk| {
+    let [replaced, frozen] = [chunk.edited_content.is_some(), chunk.frozen].map(usize::from);
+    chunk.intro.len() + chunk.outro.len() + replaced + frozen
+  });
   let turns = desk.chunks.windows(2).filter(|pair| pair[0].start > pair[1].start).count();
   desk.head.len() + desk.tail.len() + chunks.sum::<usize>() + turns
 }

@@ -10,7 +10,7 @@ use differential::{
     Action, Compared, Memory, Sitting, chosen, compare,
     due::{FILING, WITHDRAWAL, filings, withdrawals},
     random,
-    reading::{self, Entry},
+    reading::{self, Record},
   },
 };
 use oracle::{
@@ -20,16 +20,16 @@ use oracle::{
   random::Random,
 };
 
-/// A fresh desk and an empty record.
+/// A desk that was fresh and a record that was empty.
 struct Seat {
   desk: Desk,
-  record: Vec<Entry>,
+  record: Record,
 }
 
 impl Seat {
   fn new(source: &str) -> Self {
     let desk = Desk::open(Limits::FULL, source.as_bytes()).expect("a source within the limits");
-    Self { desk, record: Vec::new() }
+    Self { desk, record: Record::default() }
   }
 
   /// The number and the value.
@@ -49,7 +49,7 @@ impl Seat {
   }
 
   fn answers(&self) -> Vec<u8> {
-    self.record.iter().map(|entry| entry.answer).collect()
+    self.record.entries.iter().map(|entry| entry.answer).collect()
   }
 }
 
@@ -90,6 +90,26 @@ fn written_answers() {
   assert_eq!(seat.withdraw(1), [17, 0]);
 }
 
+/// What was done before the first filing is kept, what was done between filings is lost.
+#[test]
+fn edits_before_the_first_filing_stay() {
+  let mut seat = Seat::new("abcdef");
+  apply(&mut seat.desk, &Append { text: b"!".to_vec() });
+  apply(&mut seat.desk, &Freeze { start: 1, end: 2 });
+  let before = seat.desk.data();
+  assert_eq!(seat.file(&update(4, 5, "E")), [0, 2]);
+  apply(&mut seat.desk, &Append { text: b"lost".to_vec() });
+  assert_eq!(seat.file(&Remove { start: 0, end: 3 }), [20, 1]);
+  assert_eq!((seat.text().as_str(), seat.answers()), ("abcdEf!lost", vec![0, 20]));
+  assert_eq!(reading::freeze(Some(&mut seat.desk), Some(&seat.record), 0, 0).number, 20);
+  assert_eq!(seat.withdraw(1), [0, 0]);
+  assert_eq!((seat.text().as_str(), seat.answers()), ("abcdef!", vec![20]));
+  assert_eq!(seat.withdraw(1), [0, 0]);
+  assert_eq!(seat.desk.data(), before);
+  assert!(seat.record.kept.is_none());
+  assert_eq!(reading::freeze(Some(&mut seat.desk), Some(&seat.record), 0, 6).number, 0);
+}
+
 /// A desk that is changed by filing and withdrawing alone, from a fresh one, is what its
 /// record gives when its calls are made, and so are the answers.
 #[test]
@@ -103,10 +123,11 @@ fn the_record_gives_the_desk() {
       match action {
         Action::File(call) => _ = reading::file(desk, record, call),
         Action::Withdraw(k) => _ = reading::withdraw(desk, record, *k),
-        Action::Make(_) => {}
+        Action::Make(_) | Action::Freeze { .. } => {}
       }
       let mut fresh = Seat::new(seat.desk.magic_string().source());
-      let given = seat.record.iter().map(|entry| apply(&mut fresh.desk, &entry.call).number as u8);
+      let entries = seat.record.entries.iter();
+      let given = entries.map(|entry| apply(&mut fresh.desk, &entry.call).number as u8);
       assert_eq!(given.collect::<Vec<_>>(), seat.answers(), "{sitting}");
       assert_eq!(fresh.desk.data(), seat.desk.data(), "{sitting}");
       done += 1;
@@ -122,7 +143,7 @@ fn number(sitting: &Sitting) -> u32 {
     let source = &image.source;
     Desk::open(Limits::FULL, source).expect("a source within the limits")
   });
-  let mut record = reading::read(memory.words.lent(), memory.bytes.lent());
+  let mut record = reading::read(&image.source, memory.words.lent(), memory.bytes.lent());
   match &sitting.actions[..] {
     [Action::File(call)] => reading::file(desk.as_mut(), record.as_mut(), call).number,
     [Action::Withdraw(k)] => reading::withdraw(desk.as_mut(), record.as_mut(), *k).number,
@@ -146,13 +167,18 @@ fn refusals_come_in_their_order() {
 fn records_are_read_back() {
   let mut well_formed = 0;
   for sitting in chosen(&mut Random::new(1)) {
-    let (_, memory) = sitting.memory(&mut Random::new(2));
-    if let Some(record) = reading::read(memory.words.lent(), memory.bytes.lent()) {
+    let (image, memory) = sitting.memory(&mut Random::new(2));
+    let read = |memory: &Memory| {
+      let record = reading::read(&image.source, memory.words.lent(), memory.bytes.lent());
+      record.map(|Record { entries, kept }| (entries, kept.map(|kept| kept.data())))
+    };
+    if let Some((entries, kept)) = read(&memory) {
       let mut written = Memory::empty(&mut Random::new(3));
-      written.lend().write(&record);
-      assert_eq!(reading::read(written.words.lent(), written.bytes.lent()), Some(record.clone()));
+      written.lend().write(&entries);
+      written.lend().keep(&memory.kept(&image.source));
+      assert_eq!(read(&written), Some((entries.clone(), kept)));
       let mut again = memory.clone();
-      again.lend().write(&record);
+      again.lend().write(&entries);
       assert_eq!(again, memory);
       well_formed += 1;
     }

@@ -7,13 +7,7 @@ use crate::{Answer, Call, Setting};
 
 /// One line of a table: a call with its answer.
 pub fn step(call: &Call, answer: &Answer) -> String {
-  format!(
-    "gives ({}) {} {} {}",
-    call_term(call),
-    answer.number,
-    answer.value,
-    text(&answer.bytes)
-  )
+  format!("gives ({}) {} {} {}", call_term(call), answer.number, answer.value, text(&answer.bytes))
 }
 
 /// One line of a table: the desk as it then stands.
@@ -31,9 +25,10 @@ pub fn desk(desk: &DeskData) -> String {
 fn chunk(chunk: &ChunkData) -> String {
   let replacement = chunk.edited_content.as_ref().map(|content| text(content.as_bytes()));
   format!(
-    "chunk-of {} {} (record {{ intro = {}; outro = {}; edited-content = {} }})",
+    "chunk-of {} {} {} (record {{ intro = {}; outro = {}; edited-content = {} }})",
     chunk.start,
     chunk.end,
+    chunk.frozen,
     pieces(&chunk.intro),
     pieces(&chunk.outro),
     option(replacement)
@@ -74,7 +69,9 @@ fn desk_call_term(call: &Call) -> String {
   let name = call.to_string();
   let name = name.split(' ').next().unwrap_or_default().replace('_', "-");
   match call {
-    Remove { start, end } | Reset { start, end } => format!("change ({name} {start} {end})"),
+    Remove { start, end } | Reset { start, end } | Freeze { start, end } => {
+      format!("change ({name} {start} {end})")
+    }
     UpdateWith { start, end, overwrite, text: content } => {
       format!("change ({name} {start} {end} {} {})", text(content), *overwrite != 0)
     }

@@ -5,7 +5,7 @@ use std::fmt;
 use crate::{Setting, hex};
 
 /// One call. Texts are any bytes. `room` is the length of the lent buffer, long
-/// enough if `None`. `Dump` is not a call of document 01: it shows the desk itself.
+/// enough if `None`. `Freeze` is document 02's, with no call filed. `Dump` is not a call of document 01: it shows the desk itself.
 #[derive(Debug, Clone, PartialEq, Eq)]
 pub enum Call {
   Open { source: Vec<u8> },
@@ -21,6 +21,7 @@ pub enum Call {
   TrimEnd { pattern: u32 },
   TrimLines,
   IndentWith { indentor: Option<Vec<u8>>, exclude: Vec<u32> },
+  Freeze { start: u32, end: u32 },
   Slice { start: u32, end: Option<u32>, room: Option<u32> },
   ToString { room: Option<u32> },
   LastLine { room: Option<u32> },
@@ -43,6 +44,7 @@ impl Call {
       Open { .. } | Remove { .. } | UpdateWith { .. } | Reset { .. } => true,
       Insert { .. } | Append { .. } | Prepend { .. } | Relocate { .. } => true,
       Trim { .. } | TrimStart { .. } | TrimEnd { .. } | TrimLines | IndentWith { .. } => true,
+      Freeze { .. } => true,
       Slice { .. } | ToString { .. } | LastLine { .. } | GetIndentString { .. } => false,
       Len | LenUtf16 | LineCount | IsEmpty | HasChanged | LastChar => false,
       IsRangeWithinEditedChunk { .. } | Dump => false,
@@ -79,6 +81,7 @@ impl Call {
       Remove { start, end } | UpdateWith { start, end, .. } | Reset { start, end } => {
         vec![start, end]
       }
+      Freeze { start, end } => vec![start, end],
       Insert { at, .. } => vec![at],
       Relocate { start, end, to } => vec![start, end, to],
       IndentWith { ref exclude, .. } => exclude.clone(),
@@ -125,6 +128,7 @@ impl fmt::Display for Call {
         write!(out, "indent_with {indentor}")?;
         exclude.iter().try_for_each(|position| write!(out, " {position}"))
       }
+      Freeze { start, end } => write!(out, "freeze {start} {end}"),
       Slice { start, end, room } => {
         let end = end.map_or("none".to_string(), |end| end.to_string());
         write!(out, "slice {start} {end}{}", Room(*room))

@@ -1,7 +1,7 @@
 //! What holds of every desk and of every call, whatever the Rust does: checked
 //! at each step of a script.
 
-use crate::{Answer, Call, Desk, DeskData, Script, cuts, keeps, number::*};
+use crate::{Answer, Call, Desk, DeskData, Script, cuts, frozen::Marks, keeps, number::*};
 
 /// Makes the call as the script does, and checks the step and the desk after it.
 pub fn call(script: &mut Script, call: &Call) -> Result<Option<Answer>, String> {
@@ -90,18 +90,33 @@ pub fn step(
     let made = if kept { 0 } else { cuts::made(before, call) };
     let growth = after.chunks.len() - before.chunks.len();
     ensure(answer.value as usize == growth, "not the growth in chunks")?;
+    ensure(frozen_stays(before, after), "what is frozen is no more, or is shown otherwise")?;
+    let marks = [before, after].map(Marks::of);
+    let sets = matches!(call, Call::Freeze { .. });
+    ensure(sets || marks[0] == marks[1], "a mark is set without freezing")?;
     return ensure(growth == made, "not the cuts that make two chunks");
   }
   let silent = answer.value == 0 && answer.bytes.is_empty();
   ensure(silent || number == ACCEPTED, "a refusal reports")
 }
 
-/// The refusals that document 01 has for the call.
+/// The bytes of each marked chunk have the mark, and the replacement or none, that they had.
+fn frozen_stays(before: &DeskData, after: &DeskData) -> bool {
+  let chunk = |desk: &DeskData, at: u32| {
+    let chunk = desk.chunks.iter().find(|chunk| chunk.start <= at && at < chunk.end);
+    chunk.map(|chunk| (chunk.frozen, chunk.edited_content.clone()))
+  };
+  let marked = before.chunks.iter().filter(|chunk| chunk.frozen);
+  let mut bytes = marked.flat_map(|chunk| chunk.start..chunk.end);
+  bytes.all(|at| chunk(before, at) == chunk(after, at))
+}
+
+/// The refusals that the documents have for the call; of freezing, with no call filed.
 fn numbers(call: &Call) -> &'static [u32] {
   use Call::*;
   match call {
     Open { .. } => &[NOT_UTF8, LIMIT],
-    Remove { .. } => &[INSIDE_CHARACTER, END_BEFORE_START, CUT_IN_REPLACEMENT, LIMIT],
+    Remove { .. } => &[INSIDE_CHARACTER, END_BEFORE_START, CUT_IN_REPLACEMENT, FROZEN, LIMIT],
     UpdateWith { .. } => &[
       NOT_UTF8,
       INSIDE_CHARACTER,
@@ -110,9 +125,13 @@ fn numbers(call: &Call) -> &'static [u32] {
       CUT_IN_REPLACEMENT,
       ACROSS_MOVED_EDGE,
       PAST_SOURCE,
+      FROZEN,
       LIMIT,
     ],
-    Reset { .. } => &[INSIDE_CHARACTER, END_BEFORE_START, CUT_IN_REPLACEMENT, PAST_SOURCE, LIMIT],
+    Reset { .. } => {
+      &[INSIDE_CHARACTER, END_BEFORE_START, CUT_IN_REPLACEMENT, PAST_SOURCE, FROZEN, LIMIT]
+    }
+    Freeze { .. } => &[INSIDE_CHARACTER, END_BEFORE_START, CUT_IN_REPLACEMENT, PAST_SOURCE, LIMIT],
     Insert { .. } => &[NOT_UTF8, INSIDE_CHARACTER, CUT_IN_REPLACEMENT, LIMIT],
     Append { .. } | Prepend { .. } => &[NOT_UTF8, LIMIT],
     Relocate { .. } => &[
@@ -124,9 +143,9 @@ fn numbers(call: &Call) -> &'static [u32] {
       PAST_SOURCE,
       LIMIT,
     ],
-    Trim { .. } | TrimStart { .. } | TrimEnd { .. } => &[BAD_OPTION, LIMIT],
-    TrimLines => &[LIMIT],
-    IndentWith { .. } => &[BAD_OPTION, NOT_UTF8, INSIDE_CHARACTER, LIMIT],
+    Trim { .. } | TrimStart { .. } | TrimEnd { .. } => &[BAD_OPTION, FROZEN, LIMIT],
+    TrimLines => &[FROZEN, LIMIT],
+    IndentWith { .. } => &[BAD_OPTION, NOT_UTF8, INSIDE_CHARACTER, FROZEN, LIMIT],
     Slice { .. } => &[INSIDE_CHARACTER, SLICE_START, SLICE_END, SHORT_BUFFER],
     ToString { .. } | LastLine { .. } | GetIndentString { .. } => &[SHORT_BUFFER],
     Len | LenUtf16 | LineCount | IsEmpty | HasChanged | LastChar => &[],

@@ -1,10 +1,14 @@
 //! A desk: the unchanged `MagicString` with document 01's limits and order of
-//! numbers around it.
+//! numbers around it, and document 02's marks beside it.
 
 use desk_data::{Counts, DeskData};
 use string_wizard::{IndentOptions, MagicString, UpdateOptions};
 
-use crate::{Answer, Call, number};
+use crate::{
+  Answer, Call,
+  frozen::{self, Marks},
+  number,
+};
 
 /// The desk limits: source bytes, chunks, pieces, and bytes in pieces and
 /// replacements.
@@ -34,6 +38,7 @@ impl Limits {
 pub struct Desk {
   limits: Limits,
   magic_string: MagicString<'static>,
+  marks: Marks,
 }
 
 impl Desk {
@@ -43,17 +48,20 @@ impl Desk {
       return Err(number::LIMIT);
     }
     let source = str::from_utf8(source).map_err(|_| number::NOT_UTF8)?;
-    Ok(Self { limits, magic_string: MagicString::new(source.to_string()) })
+    let (magic_string, marks) = (MagicString::new(source.to_string()), Marks::clear(source));
+    Ok(Self { limits, magic_string, marks })
   }
 
   /// The desk that `data` describes. Its spans must cover the source.
   pub fn build(limits: Limits, data: &DeskData) -> Self {
-    Self { limits, magic_string: MagicString::build(data) }
+    Self { limits, magic_string: MagicString::build(data), marks: Marks::of(data) }
   }
 
   /// The desk as data.
   pub fn data(&self) -> DeskData {
-    self.magic_string.dump()
+    let mut data = self.magic_string.dump();
+    data.chunks.iter_mut().for_each(|chunk| chunk.frozen = self.marks.at(chunk.start));
+    data
   }
 
   pub fn counts(&self) -> Counts {
@@ -66,6 +74,10 @@ impl Desk {
 
   pub fn magic_string(&self) -> &MagicString<'static> {
     &self.magic_string
+  }
+
+  pub fn marks(&self) -> &Marks {
+    &self.marks
   }
 }
 
@@ -83,19 +95,22 @@ pub fn apply(desk: &mut Desk, call: &Call) -> Answer {
   if let Err(number) = arguments(desk.magic_string.source(), call) {
     return Answer::number(number);
   }
+  if frozen::is_of_whole_desk(call) && desk.marks.any() {
+    return Answer::number(number::FROZEN);
+  }
   if !call.is_edit() {
     return report(desk, call).unwrap_or_else(Answer::number);
   }
   // The Rust works on a copy: 13 is judged on the desk that it leaves, accepted
   // or refused, and keeps the desk as it was.
-  let mut left = desk.magic_string.clone();
+  let mut left = desk.clone();
   let number = edit(&mut left, call).err().unwrap_or(number::ACCEPTED);
   if !desk.limits.hold(left.counts()) {
     return Answer::number(number::LIMIT);
   }
   // Document 02, L4: the cuts that remain are the chunks that have come in.
   let cuts = left.counts().chunks - desk.counts().chunks;
-  desk.magic_string = left;
+  *desk = left;
   Answer::edit(number, cuts)
 }
 
@@ -120,8 +135,21 @@ fn arguments(source: &str, call: &Call) -> Result<(), u32> {
   }
 }
 
-/// The Rust's own part of an edit whose arguments are in order.
-fn edit(desk: &mut MagicString<'static>, call: &Call) -> Result<(), u32> {
+/// An edit whose arguments are in order: document 02's freezing and its 20, then the Rust.
+fn edit(desk: &mut Desk, call: &Call) -> Result<(), u32> {
+  let Desk { magic_string, marks, .. } = desk;
+  if let Call::Freeze { start, end } = *call {
+    return frozen::freeze(magic_string, marks, start, end);
+  }
+  if let Some(left) = frozen::refused(magic_string, marks, call) {
+    *magic_string = left;
+    return Err(number::FROZEN);
+  }
+  rust_edit(magic_string, call)
+}
+
+/// The Rust's own part of it.
+fn rust_edit(desk: &mut MagicString<'static>, call: &Call) -> Result<(), u32> {
   let text = || str::from_utf8(call.text().unwrap_or_default()).unwrap().to_string();
   let done = match *call {
     // The Rust never ends here.

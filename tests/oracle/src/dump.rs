@@ -1,11 +1,11 @@
 //! A desk on one line:
 //!
 //! ```text
-//! source HEX head LIST tail LIST chunk START END LIST LIST HEX|none chunk ...
+//! source HEX head LIST tail LIST chunk START END LIST LIST HEX|none [frozen] chunk ...
 //! ```
 //!
-//! with the chunks in list order, each with its span, intro, outro and
-//! replacement. A LIST is its pieces in order, `[61,-,62]`; `[]` has none.
+//! with the chunks in list order, each with its span, intro, outro, replacement and mark. A
+//! LIST is its pieces in order, `[61,-,62]`; `[]` has none.
 
 use desk_data::DeskData;
 
@@ -18,7 +18,8 @@ pub fn print(desk: &DeskData) -> String {
     let text = chunk.edited_content.as_ref();
     let text = text.map_or("none".to_string(), |text| hex::encode(text.as_bytes()));
     let (intro, outro) = (list(&chunk.intro), list(&chunk.outro));
-    line += &format!(" chunk {} {} {intro} {outro} {text}", chunk.start, chunk.end);
+    let mark = if chunk.frozen { " frozen" } else { "" };
+    line += &format!(" chunk {} {} {intro} {outro} {text}{mark}", chunk.start, chunk.end);
   }
   line
 }

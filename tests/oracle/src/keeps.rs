@@ -16,8 +16,9 @@ pub fn every_byte(call: &Call, number: u32) -> bool {
 /// insertion's 6 is none of them, as its one cut is the one that is refused.
 fn stays_after(call: &Call) -> &'static [u32] {
   match call {
-    Call::Remove { .. } | Call::Reset { .. } => &[CUT_IN_REPLACEMENT],
-    Call::UpdateWith { .. } => &[CUT_IN_REPLACEMENT, PAST_SOURCE, ACROSS_MOVED_EDGE],
+    Call::Remove { .. } | Call::Reset { .. } => &[CUT_IN_REPLACEMENT, FROZEN],
+    Call::UpdateWith { .. } => &[CUT_IN_REPLACEMENT, PAST_SOURCE, FROZEN, ACROSS_MOVED_EDGE],
+    Call::Freeze { .. } => &[CUT_IN_REPLACEMENT],
     Call::Relocate { .. } => &[CUT_IN_REPLACEMENT, NOT_TOGETHER],
     _ => &[],
   }
@@ -28,7 +29,7 @@ fn stays_after(call: &Call) -> &'static [u32] {
 fn does_nothing(call: &Call) -> bool {
   match call {
     Call::Remove { start, end } | Call::Reset { start, end } => start == end,
-    Call::Relocate { start, end, .. } => start == end,
+    Call::Relocate { start, end, .. } | Call::Freeze { start, end } => start == end,
     Call::IndentWith { indentor, .. } => indentor.as_ref().is_some_and(Vec::is_empty),
     _ => false,
   }

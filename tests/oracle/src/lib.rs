@@ -12,6 +12,7 @@ pub mod cuts;
 pub mod desk;
 pub mod dump;
 pub mod every_call;
+pub mod frozen;
 pub mod generate;
 pub mod hex;
 pub mod keeps;

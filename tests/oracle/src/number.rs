@@ -1,5 +1,5 @@
-//! Document 01's numbers and those that document 02's L1 and L5 add, and which message
-//! of the Rust is which.
+//! Document 01's numbers and those that document 02 adds, and which message of the Rust is
+//! which.
 
 pub const ACCEPTED: u32 = 0;
 pub const NOT_UTF8: u32 = 1;
@@ -27,6 +27,9 @@ pub const NO_SUCH_CALL: u32 = 17;
 pub const NOT_APART: u32 = 18;
 /// A call to be joined is refused alone: no answer of the Rust's.
 pub const REFUSED_ALONE: u32 = 19;
+/// A frozen chunk in the range, or on the desk; or freezing with calls filed: no answer of
+/// the Rust's.
+pub const FROZEN: u32 = 20;
 
 /// Each message by a part that no other has.
 const MESSAGES: [(&str, u32); 10] = [

@@ -51,6 +51,7 @@ impl Words<'_> {
         indentor: self.or_none(Self::text)?,
         exclude: std::iter::from_fn(|| self.last_number().transpose()).collect::<Result<_, _>>()?,
       },
+      "freeze" => Call::Freeze { start: self.number()?, end: self.number()? },
       "slice" => Call::Slice {
         start: self.number()?,
         end: self.or_none(Self::number)?,

@@ -186,12 +186,14 @@ fn cuts_in_two_orders() {
 fn what_stays_after_a_refusal() {
   let after = |line: &str| -> Vec<u32> {
     let call = parse(line).unwrap().unwrap();
-    (NOT_UTF8..=BAD_OPTION).filter(|&number| !keeps::every_byte(&call, number)).collect()
+    (NOT_UTF8..=FROZEN).filter(|&number| !keeps::every_byte(&call, number)).collect()
   };
-  assert_eq!(after("remove 0 1"), [CUT_IN_REPLACEMENT]);
-  assert_eq!(after("reset 0 1"), [CUT_IN_REPLACEMENT]);
-  assert_eq!(after("update_with 0 1 0 -"), [CUT_IN_REPLACEMENT, ACROSS_MOVED_EDGE, PAST_SOURCE]);
+  assert_eq!(after("remove 0 1"), [CUT_IN_REPLACEMENT, FROZEN]);
+  assert_eq!(after("reset 0 1"), [CUT_IN_REPLACEMENT, FROZEN]);
+  let update = [CUT_IN_REPLACEMENT, ACROSS_MOVED_EDGE, PAST_SOURCE, FROZEN];
+  assert_eq!(after("update_with 0 1 0 -"), update);
   assert_eq!(after("relocate 0 1 2"), [CUT_IN_REPLACEMENT, NOT_TOGETHER]);
+  assert_eq!(after("freeze 0 1"), [CUT_IN_REPLACEMENT]);
   for line in ["append_left 1 -", "prepend_right 1 -", "append -", "trim 0", "indent_with none"] {
     assert_eq!(after(line), [0; 0], "{line}");
   }

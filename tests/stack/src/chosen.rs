@@ -1,6 +1,7 @@
 //! Every call on desks that lead it each way: with room, and at each limit, so that
 //! it works on tables of its own; texts at the front of the store, and at its top. Calls
-//! of a sheet's kinds are filed there too, and withdrawn; and they are joined.
+//! of a sheet's kinds are filed there too, and withdrawn; they are joined; and ranges are
+//! frozen beside a record.
 
 use std::slice;
 
@@ -37,7 +38,8 @@ pub fn all(core: &mut impl Core, seed: u64) -> Result<(), String> {
         met.map_err(|what| format!("{aim:?}, {}: {what}", made.call))?;
       }
       joined(core, &desk, &start, &mut random).map_err(|what| format!("{aim:?}, {what}"))?;
-      filed(core, &desk, image, &mut random).map_err(|what| format!("{aim:?}, {what}"))?;
+      filed(core, &desk, image.clone(), &mut random).map_err(|what| format!("{aim:?}, {what}"))?;
+      frozen(core, &desk, image, &mut random).map_err(|what| format!("{aim:?}, {what}"))?;
     }
   }
   Ok(())
@@ -61,6 +63,39 @@ fn filed(
     done.map_err(|what| format!("file or withdraw {call}: {what}"))?;
   }
   all.withdraw(core, 1).map(|_| ()).map_err(|what| format!("withdraw the first: {what}"))
+}
+
+/// Ranges are frozen on this memory, each alone, beside an empty record and beside one with a
+/// call; then the same calls are filed on the frozen desk, and the first is withdrawn.
+fn frozen(
+  core: &mut impl Core,
+  desk: &DeskData,
+  image: Image,
+  random: &mut Random,
+) -> Result<(), String> {
+  let (at, end) = (middle(desk), desk.source.len() as u32);
+  let start = Sides::of(image, Memory::empty(random));
+  for (from, to) in [(0, at), (at, end), (0, end), (0, 1), (at, at), (end, 0)] {
+    let mut sides = start.clone();
+    let mut freeze = |sides: &mut Sides| {
+      sides.freeze(core, from, to).map_err(|what| format!("freeze {from} {to}: {what}"))
+    };
+    freeze(&mut sides)?;
+    freeze(&mut sides)?;
+    for call in calls(desk).into_iter().filter(|call| kind(call).is_some()) {
+      let done = sides.file(core, &call_bytes(&call), random);
+      done.map_err(|what| format!("file {call}, frozen: {what}"))?;
+    }
+    sides.freeze(core, from, to)?;
+    sides.withdraw(core, 1).map_err(|what| format!("withdraw the first, frozen: {what}"))?;
+  }
+  Ok(())
+}
+
+/// A place between characters, in the middle.
+fn middle(desk: &DeskData) -> u32 {
+  let places = desk.source.len() / 2..;
+  places.into_iter().find(|&at| desk.source.is_char_boundary(at)).unwrap_or(0) as u32
 }
 
 /// The same calls are joined on this desk, each with no other: where it is refused alone, or
@@ -93,8 +128,7 @@ const AIMS: [Aim; 6] = [
 /// long ones.
 fn calls(desk: &DeskData) -> Vec<Call> {
   let mut calls = every_call();
-  let at = (desk.source.len() / 2..).find(|&at| desk.source.is_char_boundary(at)).unwrap_or(0);
-  let at = at as u32;
+  let at = middle(desk);
   let end = desk.source.len() as u32;
   for text in [b"X".to_vec(), vec![b'x'; 8_000]] {
     calls.extend(insertions(at, &text));
@@ -111,6 +145,8 @@ fn calls(desk: &DeskData) -> Vec<Call> {
     Remove { start: 0, end: at },
     Remove { start: at, end },
     Reset { start: 0, end },
+    Freeze { start: 0, end: at },
+    Freeze { start: at, end },
     Relocate { start: 0, end: at, to: end },
     Relocate { start: at, end, to: 0 },
     IndentWith { indentor: None, exclude: vec![0, at] },

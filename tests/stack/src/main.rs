@@ -1,7 +1,7 @@
 //! `stack [SEED [COUNT]]`: the most stack that the calls of each group used, on
-//! chosen desks, on random papers of COUNT calls, on sheets, in sittings and in joins. It fails
-//! where a call used more than include/magic_string.h says of its kind, or did not answer
-//! as the oracle.
+//! chosen desks, on random papers of COUNT calls, on sheets, in sittings, in sittings with
+//! frozen parts, and in joins. It fails where a call used more than include/magic_string.h
+//! says of its kind, or did not answer as the oracle.
 
 mod chosen;
 mod measured;
@@ -9,7 +9,12 @@ mod painted;
 
 use std::process::ExitCode;
 
-use differential::{Core, Paper, Tally, cores, joins, papers, run::run, sheets, sittings};
+use differential::{
+  Core, Paper, Tally, cores, frozen, joins, papers,
+  run::run,
+  sheets,
+  sittings::{self, Sitting},
+};
 use measured::{GROUPS, Measured};
 use oracle::random::Random;
 
@@ -33,7 +38,8 @@ fn main() -> ExitCode {
     .and_then(|()| random(&mut core, papers::paper, seed, count))
     .and_then(|()| random(&mut core, papers::blanks::paper, seed, count / 4))
     .and_then(|()| random_sheets(&mut core, seed, count / 10))
-    .and_then(|()| random_sittings(&mut core, seed, count / 20))
+    .and_then(|()| random_sittings(&mut core, sittings::random, seed, count / 20))
+    .and_then(|()| random_sittings(&mut core, frozen::random, seed, count / 20))
     .and_then(|()| all_joins(&mut core, seed, count / 20));
   if let Err(what) = made {
     println!("{what}");
@@ -100,13 +106,18 @@ fn random_sheets(core: &mut impl Core, seed: u64, count: u64) -> Result<(), Stri
   })
 }
 
-/// Random sittings: some of them lead the calls that are filed, and those that a
+/// Random sittings of one kind: some of them lead the calls that are filed, and those that a
 /// withdrawal makes anew, to each limit.
-fn random_sittings(core: &mut impl Core, seed: u64, count: u64) -> Result<(), String> {
+fn random_sittings(
+  core: &mut impl Core,
+  sitting: fn(u64) -> Sitting,
+  seed: u64,
+  count: u64,
+) -> Result<(), String> {
   let mut seeds = Random::new(seed);
   let mut tally = sittings::Tally::default();
   (0..count).try_for_each(|_| {
-    let sitting = sittings::random(seeds.number());
+    let sitting = sitting(seeds.number());
     let ran = sittings::run::run(core, &sitting, &mut tally);
     ran.map_err(|found| format!("{sitting}\n{}", found.what))
   })

@@ -9,7 +9,7 @@ use oracle::Call;
 use crate::painted::Painted;
 
 /// The groups, in the order in which they are printed, each with its kind.
-pub const GROUPS: [(&str, usize); 13] = [
+pub const GROUPS: [(&str, usize); 14] = [
   ("open", REPORT),
   ("well_formed", REPORT),
   ("remove, reset", EDIT),
@@ -20,6 +20,7 @@ pub const GROUPS: [(&str, usize); 13] = [
   ("indent_with", EDIT),
   ("run_sheet", EDIT),
   ("file, withdraw", EDIT),
+  ("freeze", EDIT),
   ("join", JOIN),
   ("slice, to_string, last_line, get_indent_string", REPORT),
   (
@@ -113,6 +114,16 @@ impl<C: Core> Core for Measured<C> {
 
   fn withdraw(&mut self, lent: &mut Lent, record: &mut LentRecord, k: u32) -> Option<Answer> {
     self.measured("withdraw", |core| core.withdraw(lent, record, k))
+  }
+
+  fn freeze(
+    &mut self,
+    lent: &mut Lent,
+    record: &LentRecord,
+    start: u32,
+    end: u32,
+  ) -> Option<Answer> {
+    self.measured("freeze", |core| core.freeze(lent, record, start, end))
   }
 
   fn join(&mut self, lent: &mut Lent, first: &[u8], second: &[u8]) -> Option<Answer> {

@@ -65,6 +65,7 @@ fn answer(desk: &mut MagicString, call: &Call) -> Option<Answer> {
       let indentor = indentor.as_deref();
       edited(desk.indent_with(IndentOptions { indentor, exclude: &exclude }))
     }
+    Freeze { start, end } => edited(desk.freeze(start, end)),
     Slice { start, end, room: None } => written(desk.slice(start, end)),
     ToString { room: None } => written(Ok(desk.to_string())),
     ToString { room: Some(room) } => {
@@ -115,6 +116,7 @@ pub fn data(desk: &MagicString) -> DeskData {
   let chunks = desk.chunks().map(|chunk| ChunkData {
     start: chunk.start(),
     end: chunk.end(),
+    frozen: chunk.frozen,
     intro: owned(chunk.intro),
     outro: owned(chunk.outro),
     edited_content: chunk.edited_content.map(String::from),

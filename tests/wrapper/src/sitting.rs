@@ -1,23 +1,37 @@
-//! Sittings: document 02's L5 read plainly, with the Rust for the calls, and random calls
-//! to be filed.
+//! Sittings: document 02's L5, with what L8 adds to it, read plainly, with the oracle for the
+//! calls; and random calls to be filed.
 
 use magic_string::{End, Entry, FilingError, Refusal, Side, Sitting, layout::*};
 use oracle::{
   Answer, Call, Desk, Limits, SETTINGS, Setting, apply,
-  number::{LIMIT, NO_SUCH_CALL},
+  number::{FROZEN, LIMIT, NO_SUCH_CALL},
   random::Random,
 };
 
-/// A desk, and the filed calls with their numbers.
+/// A desk, the filed calls with their numbers, and the desk before the first of them.
 pub struct Plain {
-  source: Vec<u8>,
+  kept: Desk,
   pub desk: Desk,
   pub entries: Vec<(Call, u32)>,
 }
 
 impl Plain {
   pub fn open(source: &str) -> Self {
-    Self { source: source.into(), desk: fresh(source.as_bytes()), entries: Vec::new() }
+    let desk = Desk::open(Limits::FULL, source.as_bytes()).expect("a source within the limits");
+    Self { kept: desk.clone(), desk, entries: Vec::new() }
+  }
+
+  /// The desk from which a withdrawal starts.
+  pub fn start(&self) -> &Desk {
+    if self.entries.is_empty() { &self.desk } else { &self.kept }
+  }
+
+  /// Freezes the bytes from start up to end, with no call filed.
+  pub fn freeze(&mut self, start: u32, end: u32) -> Answer {
+    match self.entries.is_empty() {
+      true => apply(&mut self.desk, &Call::Freeze { start, end }),
+      false => Answer::number(FROZEN),
+    }
   }
 
   /// Makes a call and files it; none where it is not filed.
@@ -27,27 +41,24 @@ impl Plain {
     if self.entries.len() == RECORD_CALLS || texts > RECORD_TEXT {
       return None;
     }
+    self.kept = self.start().clone();
     let answer = apply(&mut self.desk, call);
     self.entries.push((call.clone(), answer.number));
     Some(answer)
   }
 
-  /// Takes the k-th call out, and makes the others on a fresh desk.
+  /// Takes the k-th call out, and makes the others on the kept desk.
   pub fn withdraw(&mut self, k: usize) -> u32 {
     if k == 0 || k > self.entries.len() {
       return NO_SUCH_CALL;
     }
     self.entries.remove(k - 1);
-    self.desk = fresh(&self.source);
+    self.desk = self.kept.clone();
     for (call, number) in &mut self.entries {
       *number = apply(&mut self.desk, call).number;
     }
     0
   }
-}
-
-fn fresh(source: &[u8]) -> Desk {
-  Desk::open(Limits::FULL, source).expect("a source within the limits")
 }
 
 /// The number and the cuts of a call that the wrapper files; none where it is not filed.
@@ -61,6 +72,12 @@ pub fn file(sitting: &mut Sitting, call: &Call) -> Option<Answer> {
     }
   };
   Some(Answer::edit(number, sitting.desk().cuts()))
+}
+
+/// The number and the cuts of a freezing by the wrapper.
+pub fn freeze(sitting: &mut Sitting, start: u32, end: u32) -> Answer {
+  let number = sitting.freeze(start, end).map_or_else(Refusal::number, |_| 0);
+  Answer::edit(number, if number == FROZEN { 0 } else { sitting.desk().cuts() })
 }
 
 /// The entries as the wrapper shows them.
@@ -117,6 +134,12 @@ impl Calls<'_> {
       kind @ 5..=8 => Call::Insert { at, text: self.text(), setting: SETTINGS[kind - 5] },
       _ => unreachable!("below 9"),
     }
+  }
+
+  /// A range to be frozen: a few bytes, most often.
+  pub fn range(&mut self) -> (u32, u32) {
+    let (start, end) = (self.position(), self.position());
+    if self.random.one_in(4) { (start, end) } else { (start, start + self.random.below(4) as u32) }
   }
 
   /// A place between characters, most often; any byte, or past the source.

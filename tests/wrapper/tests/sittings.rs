@@ -1,4 +1,4 @@
-//! Random sittings on both sides: calls filed and withdrawn.
+//! Random sittings on both sides: calls filed and withdrawn, and parts frozen.
 
 use std::collections::BTreeSet;
 
@@ -6,7 +6,7 @@ use magic_string::Sitting;
 use oracle::random::Random;
 use wrapper::{
   data,
-  sitting::{Calls, Plain, entries, file},
+  sitting::{Calls, Plain, entries, file, freeze},
 };
 
 /// What was met.
@@ -15,6 +15,7 @@ struct Met {
   filed: BTreeSet<u32>,
   not_filed: usize,
   withdrawn: BTreeSet<u32>,
+  frozen: BTreeSet<u32>,
   /// Later calls that turned from accepted to refused, and the other way.
   to_refused: usize,
   to_accepted: usize,
@@ -38,17 +39,29 @@ fn run(calls: &mut Calls, steps: usize, withdrawals: usize, met: &mut Met) {
         met.to_refused += later.clone().filter(|&(&was, &(_, is))| was == 0 && is != 0).count();
         met.to_accepted += later.filter(|&(&was, &(_, is))| was != 0 && is == 0).count();
       }
+    } else if plain.entries.is_empty() || calls.random.one_in(20) {
+      let (start, end) = calls.range();
+      let answer = plain.freeze(start, end);
+      assert_eq!(freeze(&mut sitting, start, end), answer, "freeze {start} {end}");
+      met.frozen.insert(answer.number);
+      file_any(calls, &mut sitting, &mut plain, met);
     } else {
-      let call = calls.call();
-      let answer = plain.file(&call);
-      assert_eq!(file(&mut sitting, &call), answer, "{call}");
-      met.not_filed += usize::from(answer.is_none());
-      met.filed.extend(answer.map(|answer| answer.number));
+      file_any(calls, &mut sitting, &mut plain, met);
     }
     assert_eq!(sitting.len(), plain.entries.len());
     assert_eq!(sitting.entries(), entries(&plain));
     assert_eq!(data(sitting.desk()), plain.desk.data());
+    assert_eq!(data(&sitting.start()), plain.start().data());
   }
+}
+
+/// A call, filed on both sides.
+fn file_any(calls: &mut Calls, sitting: &mut Sitting, plain: &mut Plain, met: &mut Met) {
+  let call = calls.call();
+  let answer = plain.file(&call);
+  assert_eq!(file(sitting, &call), answer, "{call}");
+  met.not_filed += usize::from(answer.is_none());
+  met.filed.extend(answer.map(|answer| answer.number));
 }
 
 #[test]
@@ -58,9 +71,10 @@ fn short_sittings_are_the_same() {
   for source in ["abcdefgh", "aébc €d😀\nefg", ""].into_iter().cycle().take(1_500) {
     run(&mut Calls { random, source, text: 8, moves: 1 }, 30, 4, &mut met);
   }
-  // Every number of such calls but the limit.
-  assert_eq!(met.filed, BTreeSet::from([0, 3, 4, 5, 6, 7, 8, 9, 10]));
+  // Every number of such calls but the limit. The first freezing finds no replacement.
+  assert_eq!(met.filed, BTreeSet::from([0, 3, 4, 5, 6, 7, 8, 9, 10, 20]));
   assert_eq!(met.withdrawn, BTreeSet::from([0, 17]));
+  assert_eq!(met.frozen, BTreeSet::from([0, 3, 4, 10, 20]));
   let turned = [met.to_refused, met.to_accepted];
   assert!(turned.iter().all(|&calls| calls > 50), "{turned:?}");
 }
@@ -84,7 +98,7 @@ fn full_desks_are_the_same() {
   let (random, source) = (&mut Random::new(3), &"abcdefgh".repeat(1_000));
   let mut met = Met::default();
   for _ in 0..3 {
-    run(&mut Calls { random, source, text: 8, moves: 4 }, 200, 40, &mut met);
+    run(&mut Calls { random, source, text: 8, moves: 4 }, 230, 60, &mut met);
   }
   assert!(met.filed.contains(&13), "{:?}", met.filed);
 }

@@ -82,9 +82,15 @@ exported! {
       words: *mut u32, words_len: usize, bytes: *mut u8, bytes_len: usize,
       call: *const u8, call_len: usize
     );
-    /// Takes the k-th filed call out, and makes the others on a fresh desk.
+    /// Takes the k-th filed call out, and makes the others on the kept desk.
     magic_string_withdraw(
       words: *mut u32, words_len: usize, bytes: *mut u8, bytes_len: usize, k: u32
+    );
+    /// Freezes the bytes from start up to end, if no call is filed in the record, which is
+    /// only read.
+    magic_string_freeze(
+      words: *const u32, words_len: usize, bytes: *const u8, bytes_len: usize,
+      start: u32, end: u32
     );
   }
   reports {

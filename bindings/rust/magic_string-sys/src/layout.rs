@@ -34,10 +34,11 @@ pub const CHUNKS_LEN: usize = (1 + CHUNKS) * ROW;
 pub const PIECES_LEN: usize = 2 * PIECES * PIECE;
 /// Length of the store, in bytes.
 pub const STORE_LEN: usize = STORE_BYTES;
-/// Length of a record's words.
-pub const RECORD_WORDS_LEN: usize = 1;
-/// Length of a record's bytes: room for the filed calls, and an answer for each.
-pub const RECORD_BYTES_LEN: usize = RECORD_ANSWERS + RECORD_CALLS;
+/// Length of a record's words: the first, and the kept desk's chunks and pieces.
+pub const RECORD_WORDS_LEN: usize = KEPT_PIECES + PIECES_LEN;
+/// Length of a record's bytes: room for the filed calls, an answer for each, and the kept
+/// desk's store.
+pub const RECORD_BYTES_LEN: usize = KEPT_STORE + STORE_LEN;
 
 /// Words in a row of chunks.
 pub const ROW: usize = 12;
@@ -64,6 +65,8 @@ pub const OUTRO_N: usize = 7;
 pub const TEXT_AT: usize = 8;
 /// How many bytes the replacement has.
 pub const TEXT_N: usize = 9;
+/// The mark of a frozen chunk: 0 is clear, any other word set.
+pub const MARK: usize = 10;
 
 /// Word of a row of pieces: where its text begins in the store.
 pub const PIECE_AT: usize = 0;
@@ -76,6 +79,13 @@ pub const RECORD_USED: usize = 0;
 /// calls stand one behind the other, each in the form of a sheet's record; the answers
 /// are in their order, a byte each.
 pub const RECORD_ANSWERS: usize = RECORD_CALLS * RECORD_FRONT + RECORD_TEXT;
+/// Where the kept desk's chunks begin in a record's words: those of the desk as it stood
+/// before the first filed call. They are not looked at while no call is filed.
+pub const KEPT_CHUNKS: usize = RECORD_USED + 1;
+/// Where its pieces begin there.
+pub const KEPT_PIECES: usize = KEPT_CHUNKS + CHUNKS_LEN;
+/// Where its store begins in a record's bytes, behind the answers.
+pub const KEPT_STORE: usize = RECORD_ANSWERS + RECORD_CALLS;
 
 /// In [`NEXT`] and [`PREV`]: the list ends. It is row 0, the desk's own, whose
 /// [`NEXT`] and [`PREV`] are the first chunk and the last.

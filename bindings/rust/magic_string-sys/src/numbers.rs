@@ -52,4 +52,7 @@ numbers! {
   NOT_APART = 18;
   /// A call to be joined is refused when it is made alone.
   REFUSED_ALONE = 19;
+  /// A frozen chunk in the range, or on a desk to be trimmed or indented; or freezing while
+  /// calls are filed.
+  FROZEN = 20;
 }

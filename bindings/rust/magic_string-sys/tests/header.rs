@@ -65,7 +65,7 @@ fn value(text: &str, named: fn(&str) -> usize) -> usize {
 }
 
 /// Limits and lengths of a desk and of a record.
-const LENGTHS: [(&str, usize); 16] = [
+const LENGTHS: [(&str, usize); 19] = [
   ("SOURCE_BYTES", SOURCE_BYTES),
   ("CHUNKS", CHUNKS),
   ("PIECES", PIECES),
@@ -75,6 +75,9 @@ const LENGTHS: [(&str, usize); 16] = [
   ("RECORD_FRONT", RECORD_FRONT),
   ("RECORD_USED", RECORD_USED),
   ("RECORD_ANSWERS", RECORD_ANSWERS),
+  ("KEPT_CHUNKS", KEPT_CHUNKS),
+  ("KEPT_PIECES", KEPT_PIECES),
+  ("KEPT_STORE", KEPT_STORE),
   ("CHUNKS_LEN", CHUNKS_LEN),
   ("PIECES_LEN", PIECES_LEN),
   ("STORE_LEN", STORE_LEN),
@@ -126,6 +129,7 @@ fn words_of_a_row() {
     ("OUTRO_N", OUTRO_N),
     ("TEXT_AT", TEXT_AT),
     ("TEXT_N", TEXT_N),
+    ("MARK", MARK),
   ];
   let words = members(1);
   assert_eq!(words.len(), values.len());

@@ -1,115 +1,23 @@
 //! `file` and `withdraw` on lent memory, where the types of the crate magic_string rule a
 //! case out: memory that is no record, bytes that are no call, texts that are not UTF-8,
-//! edits that are not filed; and which bytes of a record are written.
+//! edits that are not filed, a record beside another source; and which bytes of a record
+//! are written.
 
-use magic_string_sys::{Answer, edit, layout::*, numbers::*, report};
+mod lent;
 
-/// All that is lent to the two calls.
-#[derive(Debug, Clone, PartialEq)]
-struct Lent {
-  source: Vec<u8>,
-  chunks: Vec<u32>,
-  pieces: Vec<u32>,
-  store: Vec<u8>,
-  words: Vec<u32>,
-  bytes: Vec<u8>,
-}
+use lent::*;
+use magic_string_sys::{Answer, layout::*, numbers::*};
 
-// Sound: each address comes with the length of its slice, and the slices lie apart.
 impl Lent {
-  /// A fresh desk, and an empty record whose bytes hold this.
-  fn open(source: &str, byte: u8) -> Self {
-    let mut lent = Self {
-      source: source.into(),
-      chunks: vec![0; CHUNKS_LEN],
-      pieces: vec![0; PIECES_LEN],
-      store: vec![0; STORE_LEN],
-      words: vec![0; RECORD_WORDS_LEN],
-      bytes: vec![byte; RECORD_BYTES_LEN],
-    };
-    assert_eq!(lent.open_anew(), Answer::ACCEPTED);
-    lent
-  }
-
-  fn open_anew(&mut self) -> Answer {
-    unsafe { edit!(self, magic_string_open) }
-  }
-
-  fn remove(&mut self, start: u32, end: u32) -> Answer {
-    unsafe { edit!(self, magic_string_remove, start, end) }
-  }
-
-  fn file(&mut self, call: &[u8]) -> Answer {
-    let (words, words_len) = (self.words.as_mut_ptr(), self.words.len());
-    let (bytes, bytes_len) = (self.bytes.as_mut_ptr(), self.bytes.len());
-    let (call, call_len) = (call.as_ptr(), call.len());
-    unsafe { edit!(self, magic_string_file, words, words_len, bytes, bytes_len, call, call_len) }
-  }
-
-  fn withdraw(&mut self, k: u32) -> Answer {
-    let (words, words_len) = (self.words.as_mut_ptr(), self.words.len());
-    let (bytes, bytes_len) = (self.bytes.as_mut_ptr(), self.bytes.len());
-    unsafe { edit!(self, magic_string_withdraw, words, words_len, bytes, bytes_len, k) }
-  }
-
-  fn text(&self) -> String {
-    let mut out = vec![0; self.source.len() + STORE_BYTES];
-    let written = unsafe { report!(self, magic_string_to_string, out.as_mut_ptr(), out.len()) };
-    assert_eq!(written.number, 0);
-    out.truncate(written.value as usize);
-    String::from_utf8(out).unwrap()
-  }
-
-  /// The record's calls as they stand, written without any check.
-  fn put(&mut self, calls: &[u8]) {
-    self.words[RECORD_USED] = calls.len() as u32;
-    self.bytes[..calls.len()].copy_from_slice(calls);
-  }
-
-  fn used(&self) -> &[u8] {
-    &self.bytes[..self.words[RECORD_USED] as usize]
-  }
-
-  fn answers(&self, count: usize) -> &[u8] {
-    &self.bytes[RECORD_ANSWERS..][..count]
-  }
-
-  /// That both calls give this number, and leave every word and byte as it was.
-  fn both_refused(&self, number: u32, call: &[u8], k: u32) {
-    let mut lent = self.clone();
-    assert_eq!(lent.file(call), Answer { number, value: 0 });
-    assert_eq!(lent.withdraw(k), Answer { number, value: 0 });
-    assert_eq!(lent, *self);
-  }
-
   /// That filing gives this number, and leaves every word and byte as it was.
   fn not_filed(&self, number: u32, call: &[u8]) {
     let mut lent = self.clone();
-    assert_eq!(lent.file(call), Answer { number, value: 0 }, "{call:?}");
+    assert_eq!(lent.file(call), edited(number, 0), "{call:?}");
     assert_eq!(lent, *self);
   }
 }
 
-/// A call in bytes.
-fn call(kind: u8, positions: &[u32], text: &[u8]) -> Vec<u8> {
-  let positions: Vec<u8> = positions.iter().flat_map(|at| at.to_be_bytes()).collect();
-  let rest = [&[kind], &positions[..], text].concat();
-  [&(rest.len() as u16).to_be_bytes()[..], &rest].concat()
-}
-
-fn remove(start: u32, end: u32) -> Vec<u8> {
-  call(1, &[start, end], b"")
-}
-
-fn append_left(at: u32, text: &[u8]) -> Vec<u8> {
-  call(4, &[at], text)
-}
-
-fn edited(number: u32, cuts: u32) -> Answer {
-  Answer { number, value: cuts }
-}
-
-/// 0 in its word makes a record empty, whatever its bytes hold.
+/// 0 in its first word makes a record empty, whatever else it holds.
 #[test]
 fn empty_records() {
   for byte in [0, 1, 0xFF] {
@@ -122,22 +30,27 @@ fn empty_records() {
   }
 }
 
+/// One word and 35,968 bytes were a record before it kept a desk.
 #[test]
 fn other_lengths() {
   let lent = Lent::open("abc", 0);
   let resized = |change: &dyn Fn(&mut Lent)| {
     let mut lent = lent.clone();
     change(&mut lent);
-    // 2 comes before 16 and 17.
-    lent.both_refused(NOT_WELL_FORMED, b"", 0);
+    lent.all_refused();
   };
-  for length in [0, RECORD_WORDS_LEN + 1] {
+  for length in [0, 1, KEPT_PIECES, RECORD_WORDS_LEN - 1, RECORD_WORDS_LEN + 1] {
     resized(&|lent| lent.words.resize(length, 0));
   }
-  let lengths = [0, RECORD_ANSWERS, RECORD_BYTES_LEN - 1, RECORD_BYTES_LEN + 1];
+  let lengths = [0, RECORD_ANSWERS, KEPT_STORE, RECORD_BYTES_LEN - 1, RECORD_BYTES_LEN + 1];
   for length in lengths {
     resized(&|lent| lent.bytes.resize(length, 0));
   }
+  assert_eq!(KEPT_STORE, 35_968);
+  resized(&|lent| {
+    lent.words.truncate(1);
+    lent.bytes.truncate(KEPT_STORE);
+  });
   resized(&|lent| lent.chunks.truncate(CHUNKS_LEN - ROW));
   resized(&|lent| lent.pieces.truncate(PIECES_LEN - PIECE));
   resized(&|lent| lent.store.truncate(STORE_LEN - 1));
@@ -172,11 +85,11 @@ fn records_that_are_not_well_formed() {
   ];
   for calls in broken {
     lent.put(&calls);
-    lent.both_refused(NOT_WELL_FORMED, &remove(0, 1), 1);
+    lent.all_refused();
   }
   for used in [RECORD_ANSWERS as u32 + 1, RECORD_BYTES_LEN as u32 + 1, u32::MAX] {
     lent.words[RECORD_USED] = used;
-    lent.both_refused(NOT_WELL_FORMED, &remove(0, 1), 1);
+    lent.all_refused();
   }
 }
 
@@ -238,7 +151,7 @@ fn limits_before_the_call() {
   assert_eq!((lent.answers(2), lent.text()), (&[1, 0][..], "a!bc".to_string()));
 }
 
-/// After the record's 13 its word is as it was, after the desk's it has grown.
+/// After the record's 13 its first word is as it was, after the desk's it has grown.
 #[test]
 fn the_word_tells_the_two_13_apart() {
   let mut lent = Lent::open("abc", 0);
@@ -246,11 +159,7 @@ fn the_word_tells_the_two_13_apart() {
   // The record was not made by these calls: the desk is fresh. Its store is filled beside
   // the record.
   let text = [b'y'; STORE_BYTES];
-  let filled = unsafe {
-    let lent = &mut lent;
-    edit!(lent, magic_string_append, text.as_ptr(), text.len())
-  };
-  assert_eq!(filled, Answer::ACCEPTED);
+  assert_eq!(lent.append(&text), Answer::ACCEPTED);
   let before = lent.words[RECORD_USED];
   lent.not_filed(LIMIT, &append_left(0, b"zz"));
   assert_eq!(lent.file(&append_left(0, b"z")), edited(LIMIT, 0));
@@ -258,26 +167,30 @@ fn the_word_tells_the_two_13_apart() {
   assert_eq!(lent.answers(2)[1], 13);
 }
 
-/// Filing writes the call, its answer and the word alone. What other answers are is not
-/// looked at.
+/// Filing writes the call, its answer and the first word; the first call the kept desk too,
+/// and a later one nothing else. What other answers are is not looked at.
 #[test]
 fn what_filing_writes() {
   let mut lent = Lent::open("abcdef", 0xA5);
   let calls = [remove(1, 3), append_left(5, b"!"), remove(9, 8)];
   for (filed, (call, answer)) in calls.iter().zip([0, 0, 4]).enumerate() {
-    let mut expected = lent.bytes.clone();
+    let mut expected = lent.clone();
     let used = lent.used().len();
-    expected[used..][..call.len()].copy_from_slice(call);
-    expected[RECORD_ANSWERS + filed] = answer;
+    expected.bytes[used..][..call.len()].copy_from_slice(call);
+    expected.bytes[RECORD_ANSWERS + filed] = answer;
     assert_eq!(lent.file(call).number, answer.into());
-    assert_eq!(lent.bytes, expected);
     assert_eq!(lent.used().len(), used + call.len());
+    let compared = if filed == 0 { KEPT_STORE } else { RECORD_BYTES_LEN };
+    assert_eq!(lent.bytes[..compared], expected.bytes[..compared]);
+    if filed > 0 {
+      assert_eq!(lent.words[KEPT_CHUNKS..], expected.words[KEPT_CHUNKS..]);
+    }
     // A wrong answer stays.
     lent.bytes[RECORD_ANSWERS + filed] = 0xEE;
   }
 }
 
-/// A withdrawal leaves what lay behind the calls and behind the answers.
+/// A withdrawal leaves what lay behind the calls and behind the answers, and the kept desk.
 #[test]
 fn what_withdrawing_leaves() {
   let calls = [remove(1, 3), append_left(5, b"!"), remove(4, 2)];
@@ -286,8 +199,9 @@ fn what_withdrawing_leaves() {
     for call in &calls {
       lent.file(call);
     }
-    let (used, before) = (lent.used().len(), lent.bytes.clone());
+    let (used, words, before) = (lent.used().len(), lent.words.clone(), lent.bytes.clone());
     assert_eq!(lent.withdraw(k), Answer::ACCEPTED);
+    assert_eq!(lent.words[KEPT_CHUNKS..], words[KEPT_CHUNKS..]);
     let mut left = calls.to_vec();
     left.remove(k as usize - 1);
     assert_eq!(lent.used(), left.concat());
@@ -309,8 +223,8 @@ fn no_such_call() {
   }
 }
 
-/// A withdrawal loses what was edited without filing, and makes the filed calls anew on a
-/// fresh desk; opening anew leaves the record.
+/// A withdrawal loses what was edited without filing since the first call was filed, and
+/// makes the filed calls anew on the kept desk; opening anew leaves the record.
 #[test]
 fn edits_that_are_not_filed() {
   let mut lent = Lent::open("abcdef", 0);
@@ -331,4 +245,81 @@ fn edits_that_are_not_filed() {
   assert_eq!(lent.file(&remove(5, 6)), edited(0, 0));
   assert_eq!(lent.withdraw(3), Answer::ACCEPTED);
   assert_eq!(lent.text(), "abc2de3f");
+}
+
+/// What was edited before the first call is filed is kept, and only that.
+#[test]
+fn edits_before_the_first_call() {
+  let mut lent = Lent::open("abcdef", 0xA5);
+  assert_eq!(lent.remove(4, 6), edited(0, 1));
+  assert_eq!(lent.append(b"!"), Answer::ACCEPTED);
+  for _ in 0..2 {
+    assert_eq!(lent.file(&append_left(1, b"1")), edited(0, 1));
+    assert_eq!(lent.kept().text(), "abcd!");
+    assert_eq!(lent.append(b"lost"), Answer::ACCEPTED);
+    assert_eq!(lent.file(&append_left(3, b"2")), edited(0, 1));
+    assert_eq!(lent.text(), "a1bc2d!lost");
+    assert_eq!(lent.withdraw(1), Answer::ACCEPTED);
+    assert_eq!(lent.text(), "abc2d!");
+    assert_eq!(lent.withdraw(1), Answer::ACCEPTED);
+    assert_eq!((lent.words[RECORD_USED], lent.text()), (0, "abcd!".to_string()));
+  }
+  // Without calls the next first one keeps the desk anew.
+  assert_eq!(lent.append(b"?"), Answer::ACCEPTED);
+  assert_eq!(lent.file(&remove(2, 1)), edited(END_BEFORE_START, 0));
+  assert_eq!((lent.kept().text(), lent.text()), ("abcd!?".to_string(), "abcd!?".to_string()));
+}
+
+/// The kept desk is looked at if calls are filed, over the source that is lent.
+#[test]
+fn kept_desks_that_are_not_well_formed() {
+  let mut lent = Lent::open("abc", 0);
+  lent.file(&remove(0, 1));
+  let damaged = |change: &dyn Fn(&mut Lent)| {
+    let mut lent = lent.clone();
+    change(&mut lent);
+    lent.all_refused();
+    // Of a record without calls it is not.
+    lent.words[RECORD_USED] = 0;
+    assert_eq!(lent.withdraw(1), edited(NO_SUCH_CALL, 0));
+    assert_eq!(lent.file(&remove(0, 1)).number, 0);
+  };
+  damaged(&|lent| lent.words[KEPT_CHUNKS + START] = 0);
+  damaged(&|lent| lent.words[KEPT_CHUNKS + START] = 2);
+  damaged(&|lent| lent.words[KEPT_CHUNKS + ROW + END] = 2);
+  damaged(&|lent| lent.words[KEPT_CHUNKS..].fill(0));
+  // The head is one piece, whose text lies outside the store, and one that is not UTF-8.
+  damaged(&|lent| {
+    lent.words[KEPT_CHUNKS + INTRO_AT..][..2].copy_from_slice(&[0, 1]);
+    lent.words[KEPT_PIECES..][..PIECE].copy_from_slice(&[STORE_LEN as u32, 1]);
+  });
+  damaged(&|lent| {
+    lent.words[KEPT_CHUNKS + INTRO_AT..][..2].copy_from_slice(&[0, 1]);
+    lent.words[KEPT_PIECES..][..PIECE].copy_from_slice(&[0, 1]);
+    lent.bytes[KEPT_STORE] = 0xFF;
+  });
+}
+
+/// Opened with another source, a record with calls is none where the kept desk is no desk
+/// over that source.
+#[test]
+fn another_source() {
+  let mut lent = Lent::open("abc", 0);
+  lent.file(&remove(0, 1));
+  for source in ["abcd", "ab", ""] {
+    lent.source = source.into();
+    assert_eq!(lent.open_anew(), Answer::ACCEPTED);
+    lent.all_refused();
+  }
+  // One of the same length, with boundaries where the spans end, is no less a desk.
+  lent.source = "xyz".into();
+  assert_eq!(lent.open_anew(), Answer::ACCEPTED);
+  assert_eq!(lent.withdraw(1), Answer::ACCEPTED);
+  assert_eq!(lent.text(), "xyz");
+  // To begin anew.
+  lent.file(&remove(0, 1));
+  lent.source = "abcd".into();
+  assert_eq!(lent.open_anew(), Answer::ACCEPTED);
+  lent.words[RECORD_USED] = 0;
+  assert_eq!(lent.file(&remove(3, 4)), edited(0, 1));
 }

@@ -1,6 +1,6 @@
 //! A paper: a script is opened and edits are made on it, with the cuts that each made
 //! and the running text after it. Then the desk chunk by chunk, its reports, and the
-//! nineteen refusals in words.
+//! twenty refusals in words.
 
 use magic_string::{
   Call, Chunk, End::*, IndentOptions, MagicString, Refusal, Side::*, Sitting, UpdateOptions, layout,
@@ -60,6 +60,7 @@ fn edits(desk: &mut MagicString) -> Result<(), Refusal> {
   edit!(desk.append("73 \t\n\n"));
   edit!(desk.trim_end(Some("\\s")));
   edit!(desk.indent_with(IndentOptions { indentor: Some("> "), exclude: &[(air, start("Good"))] }));
+  edit!(desk.freeze(start("Ålesund"), end("Ålesund")));
   Ok(())
 }
 
@@ -70,19 +71,21 @@ fn show(desk: &MagicString) {
   }
 }
 
-/// The desk: the texts before all chunks, each chunk, and the texts behind all.
+/// The desk: the texts before all chunks, each chunk and whether it is frozen, and the
+/// texts behind all.
 fn draw(desk: &MagicString) {
   println!("\nThe desk, chunk by chunk:");
   list("before all", &desk.intro());
   for chunk in desk.chunks() {
-    let Chunk { span, intro, outro, edited_content } = &chunk;
+    let Chunk { span, intro, outro, edited_content, frozen } = &chunk;
     list("intro", intro);
     print!("  {:>3} to {:<3}  {:?}", span.start(), span.end(), span.text(desk.source()));
     match edited_content {
-      None => println!(),
-      Some("") => println!(" is removed"),
-      Some(text) => println!(" is replaced by {text:?}"),
+      None => {}
+      Some("") => print!(" is removed"),
+      Some(text) => print!(" is replaced by {text:?}"),
     }
+    println!("{}", if *frozen { ", frozen" } else { "" });
     list("outro", outro);
   }
   list("behind all", &desk.outro());
@@ -142,6 +145,7 @@ fn refusals(desk: &mut MagicString) {
   let (word, half) = (removal(night, end("night")), removal(inside, end("Å")));
   refused("join two lists that remove night", desk.join(&word, &word));
   refused("join one that removes half the Å", desk.join(&word, &half));
+  refused("remove a frozen word and Radio", desk.remove(start("Ålesund"), end("Radio")));
 
   println!("\nThe text has {} bytes, as before: {}", text.len(), desk.to_string() == text);
   let more = desk.chunks().count() - chunks;

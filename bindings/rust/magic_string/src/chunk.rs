@@ -13,6 +13,8 @@ pub struct Chunk<'a> {
   pub outro: Vec<&'a str>,
   /// What replaces its part of the source; empty where it was removed.
   pub edited_content: Option<&'a str>,
+  /// Whether it is frozen ([`MagicString::freeze`](crate::MagicString::freeze)).
+  pub frozen: bool,
 }
 
 impl<'a> Chunk<'a> {
@@ -65,6 +67,7 @@ impl<'a> Iterator for Chunks<'a> {
       intro: memory.list(row, INTRO_AT, INTRO_N),
       outro: memory.list(row, OUTRO_AT, OUTRO_N),
       edited_content: memory.replacement(row),
+      frozen: memory.word(row, MARK) != 0,
     })
   }
 }

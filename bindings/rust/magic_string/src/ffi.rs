@@ -140,7 +140,7 @@ impl Memory {
     }
   }
 
-  /// Takes the k-th filed call out, and makes the others on a fresh desk.
+  /// Takes the k-th filed call out, and makes the others on the kept desk.
   pub fn withdraw(&mut self, filed: &mut Filed, k: u32) -> Answer {
     let Filed { words, bytes } = filed;
     unsafe {
@@ -152,6 +152,24 @@ impl Memory {
         bytes.as_mut_ptr(),
         bytes.len(),
         k
+      )
+    }
+  }
+
+  /// Freezes a range, if no call is filed in the record, which is only read. The value, its
+  /// cuts, counts after a refusal too.
+  pub fn freeze(&mut self, filed: &Filed, start: u32, end: u32) -> Answer {
+    let Filed { words, bytes } = filed;
+    unsafe {
+      edit!(
+        self,
+        magic_string_freeze,
+        words.as_ptr(),
+        words.len(),
+        bytes.as_ptr(),
+        bytes.len(),
+        start,
+        end
       )
     }
   }

@@ -2,18 +2,18 @@
 
 use crate::layout::*;
 
-/// What is lent to `file` and `withdraw` behind a desk. `Sitting` holds one that was
-/// empty at first, and both keep it well formed.
+/// What is lent to `file`, `withdraw` and `freeze` behind a desk. `Sitting` holds one that
+/// was empty at first, and these keep it well formed.
 #[derive(Clone)]
 pub struct Filed {
-  pub words: [u32; RECORD_WORDS_LEN],
+  pub words: Box<[u32]>,
   pub bytes: Box<[u8]>,
 }
 
 /// A record without calls.
 impl Default for Filed {
   fn default() -> Self {
-    Self { words: [0; RECORD_WORDS_LEN], bytes: vec![0; RECORD_BYTES_LEN].into() }
+    Self { words: vec![0; RECORD_WORDS_LEN].into(), bytes: vec![0; RECORD_BYTES_LEN].into() }
   }
 }
 
@@ -25,6 +25,13 @@ impl Filed {
 
   /// The answers, the first ones those of the filed calls.
   pub fn answers(&self) -> &[u8] {
-    &self.bytes[RECORD_ANSWERS..]
+    &self.bytes[RECORD_ANSWERS..KEPT_STORE]
+  }
+
+  /// The tables of the desk before the first filed call: chunks, pieces, store. They hold
+  /// one if there are calls.
+  pub fn kept(&self) -> (&[u32], &[u32], &[u8]) {
+    let (chunks, pieces) = self.words[KEPT_CHUNKS..].split_at(CHUNKS_LEN);
+    (chunks, pieces, &self.bytes[KEPT_STORE..])
   }
 }

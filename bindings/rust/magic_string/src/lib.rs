@@ -27,7 +27,7 @@
 //! - [`MagicString`] owns its source and three tables of fixed length, so it has no
 //!   lifetime, and [limits](layout). [`MagicString::new`] and every edit may give
 //!   [`Refusal::Limit`].
-//! - Errors are a [`Refusal`], one of nineteen, and not a `String`.
+//! - Errors are a [`Refusal`], one of twenty, and not a `String`.
 //! - Its `append_left`, `append_right`, `prepend_left` and `prepend_right` are one,
 //!   [`MagicString::insert`], with a [`Side`] and an [`End`].
 //! - A position inside a character is refused, where string_wizard may panic, and
@@ -38,8 +38,9 @@
 //!   way to look at the desk, chunk by chunk ([`MagicString::chunks`]); how many cuts
 //!   the last edit made ([`MagicString::cuts`]); a whole paper in one call
 //!   ([`MagicString::run_sheet`]); two lists of calls joined ([`MagicString::join`]), and
-//!   in words why they cannot be ([`premises::broken`]); and a record of calls, any of
-//!   which can be taken back ([`Sitting`]).
+//!   in words why they cannot be ([`premises::broken`]); parts that no edit takes away
+//!   ([`MagicString::freeze`]); and a record of calls, any of which can be taken back
+//!   ([`Sitting`]).
 //!
 //! Positions are byte offsets into the source.
 

@@ -4,9 +4,9 @@ use magic_string_sys::numbers;
 
 /// Why a call was not done: document 01's numbers, and those that document 02 adds.
 ///
-/// 6, 7, 9 and an update's 10 leave the cuts that were made
-/// ([`MagicString::cuts`](crate::MagicString::cuts) counts them), and 7 the chunks that
-/// were cleared before it; every other refusal changes nothing.
+/// 6, 7, 9, an update's 10 and the 20 of a removal, replacement or reset leave the cuts that
+/// were made ([`MagicString::cuts`](crate::MagicString::cuts) counts them), and 7 the chunks
+/// that were cleared before it; every other refusal changes nothing.
 #[derive(Debug, Clone, Copy, PartialEq, Eq, Hash, PartialOrd, Ord)]
 #[repr(u32)]
 pub enum Refusal {
@@ -50,11 +50,14 @@ pub enum Refusal {
   NotApart = numbers::NOT_APART,
   /// A call to be joined is refused alone.
   RefusedAlone = numbers::REFUSED_ALONE,
+  /// A [frozen](crate::MagicString::freeze) chunk in the range, or on a desk to be trimmed
+  /// or indented; or freezing while calls are filed.
+  Frozen = numbers::FROZEN,
 }
 
 impl Refusal {
   /// All of them, in the order of their numbers.
-  pub const ALL: [Refusal; 19] = [
+  pub const ALL: [Refusal; 20] = [
     Refusal::NotUtf8,
     Refusal::NotWellFormed,
     Refusal::InsideCharacter,
@@ -74,9 +77,10 @@ impl Refusal {
     Refusal::NoSuchCall,
     Refusal::NotApart,
     Refusal::RefusedAlone,
+    Refusal::Frozen,
   ];
 
-  /// Its number, 1 to 19.
+  /// Its number, 1 to 20.
   pub fn number(self) -> u32 {
     self as u32
   }
@@ -118,6 +122,7 @@ impl fmt::Display for Refusal {
       Refusal::NoSuchCall => "no call with that number is filed",
       Refusal::NotApart => "calls to be joined are not apart",
       Refusal::RefusedAlone => "a call to be joined is refused alone",
+      Refusal::Frozen => "a frozen chunk, or freezing with calls already filed",
     })
   }
 }

@@ -49,6 +49,27 @@ fn memory_is_given_and_taken_back() {
   assert_eq!(desk.to_string(), "> zwöone, , three\n[end]");
 }
 
+/// A frozen chunk is shown as one, is not equal to one that is not, and stays frozen where
+/// the desk is given away as memory.
+#[test]
+fn frozen_chunks() {
+  let mut desk = edited();
+  let before = desk.clone();
+  desk.freeze(0, 3).unwrap();
+  assert_ne!(desk, before);
+  assert_eq!(desk.to_string(), before.to_string());
+  let frozen: Vec<(Span, bool)> = desk.chunks().map(|chunk| (chunk.span, chunk.frozen)).collect();
+  let spans = [(5, 9), (0, 3), (3, 5), (9, 16), (16, 17)];
+  assert_eq!(frozen, spans.map(|(start, end)| (Span(start, end), start == 0)));
+  let first = desk.chunks().nth(1).unwrap();
+  assert_eq!(first, Chunk { frozen: true, ..before.chunks().nth(1).unwrap() });
+  assert!(format!("{desk:?}").contains(r#"edited_content: Some("1"), frozen: true }"#));
+
+  let (chunks, pieces, store) = desk.tables();
+  let again = MagicString::from_tables(desk.source(), chunks, pieces, store).unwrap();
+  assert_eq!(again, desk);
+}
+
 /// Equal desks need not lie in memory alike, and equal outputs may be other desks.
 #[test]
 fn equality_is_of_desks() {

@@ -1,13 +1,13 @@
-//! Each of the nineteen refusals through the wrapper: document 01's own examples,
+//! Each of the twenty refusals through the wrapper: document 01's own examples,
 //! what the desk is afterwards, and which calls have them.
 //!
-//! Types rule out some ways to a number, though none of the nineteen. 1: texts of
+//! Types rule out some ways to a number, though none of the twenty. 1: texts of
 //! edits are `str`, so only `from_utf8` and `run_sheet` have it. 2: a `MagicString`
 //! is well formed, so only `from_tables` has it. 14: the wrapper's own buffers are
 //! long enough, so only `write_to` has it. 15: excluded ranges are pairs, so only
 //! trims have it. 16: only `run_sheet` and `join` have it (tests/sheet.rs,
 //! tests/join.rs). 17: only `Sitting::withdraw` has it (tests/sitting.rs). 18 and 19:
-//! only `join` has them (tests/join.rs).
+//! only `join` has them (tests/join.rs). 20: tests/frozen.rs has its places.
 
 use magic_string::{
   Call,
@@ -60,7 +60,7 @@ fn numbers_and_words() {
   }
   assert_eq!(Refusal::ALL.len(), NUMBERS.len());
   assert_eq!(Refusal::from_number(0), None);
-  assert_eq!(Refusal::from_number(20), None);
+  assert_eq!(Refusal::from_number(21), None);
   let error: &dyn std::error::Error = &Refusal::PastSource;
   assert_eq!(error.to_string(), "end past source");
 }
@@ -284,6 +284,15 @@ fn numbers_18_and_19_calls_to_be_joined() {
   let (all, half) = (remove(0, 3), remove(0, 2));
   assert_eq!(untouched(desk, |s| s.join(&all, &half)), Refusal::NotApart);
   assert_eq!(untouched(desk, |s| s.join(&half, b"")), Refusal::RefusedAlone);
+}
+
+#[test]
+fn number_20_frozen() {
+  let desk = &mut open(" abc ");
+  desk.freeze(2, 3).unwrap();
+  assert_eq!(untouched(desk, |s| s.trim(None)), Refusal::Frozen);
+  assert_eq!(refused(desk, |s| s.remove(1, 4)), Refusal::Frozen);
+  assert_eq!(spans(desk), [(0, 1), (1, 2), (2, 3), (3, 4), (4, 5)]);
 }
 
 #[test]

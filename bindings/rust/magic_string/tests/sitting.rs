@@ -18,6 +18,13 @@ fn open(source: &str) -> Sitting {
   Sitting::open(source).unwrap()
 }
 
+/// A sitting that begins on a desk with texts and a frozen chunk.
+fn begun() -> Sitting {
+  let mut desk = MagicString::new("abcdefgh").unwrap();
+  desk.remove(6, 8).unwrap().append("!").unwrap().freeze(2, 4).unwrap();
+  Sitting::from(desk)
+}
+
 /// A call's answer, whether it is filed, and its cuts.
 fn file(sitting: &mut Sitting, call: Call) -> (Result<(), FilingError>, usize) {
   let answer = sitting.file(&call).map(drop);
@@ -120,7 +127,8 @@ fn a_call_is_shown_as_a_line_of_a_script() {
   }
 }
 
-/// Every number that a call through the wrapper can have, each filed.
+/// Every number that a call through the wrapper can have on a desk that began fresh, each
+/// filed.
 #[test]
 fn refused_calls_are_filed() {
   let sitting = &mut open("aébcdefgh");
@@ -188,6 +196,64 @@ fn answers_change_by_a_withdrawal() {
   assert_eq!(sitting.desk().to_string(), "aZef");
 }
 
+/// A withdrawal starts from the desk that the sitting began on, frozen chunks and all.
+#[test]
+fn begun_on_a_desk() {
+  let sitting = &mut begun();
+  let start = sitting.desk().clone();
+  assert_eq!((sitting.start(), sitting.is_empty()), (start.clone(), true));
+  done(sitting, &[insert(1, "x")]);
+  assert_eq!(refused(sitting, Remove { start: 0, end: 3 }), Refusal::Frozen);
+  assert_eq!(sitting.desk().cuts(), 1);
+  done(sitting, &[Relocate { start: 2, end: 4, to: 0 }, Reset { start: 6, end: 8 }]);
+  assert_eq!((sitting.desk().to_string(), sitting.start()), ("cdaxbefgh!".into(), start.clone()));
+
+  sitting.withdraw(1).unwrap();
+  assert_eq!(sitting.desk().to_string(), "cdabefgh!");
+  assert_eq!(answers(sitting), [Err(Refusal::Frozen), Ok(()), Ok(())]);
+  for left in (0..3).rev() {
+    sitting.withdraw(1).unwrap();
+    assert_eq!((sitting.len(), sitting.start()), (left, start.clone()));
+  }
+  assert_eq!(*sitting.desk(), start);
+  assert_eq!(*sitting, begun());
+}
+
+/// Freezing is free while no call is filed, and only then.
+#[test]
+fn freezing() {
+  let sitting = &mut open("aébcd");
+  assert_eq!(sitting.freeze(3, 4).unwrap().desk().cuts(), 2);
+  assert_eq!(sitting.freeze(1, 2).err(), Some(Refusal::InsideCharacter));
+  done(sitting, &[insert(1, "x")]);
+  let before = sitting.clone();
+  for (start, end) in [(0, 1), (3, 4), (2, 2), (1, 2), (3, 0), (0, 9), (4, 4)] {
+    assert_eq!(sitting.freeze(start, end).err(), Some(Refusal::Frozen), "{start} {end}");
+    assert_eq!(sitting.desk().cuts(), 0);
+    assert_eq!(*sitting, before);
+    assert_eq!(sitting.desk().tables(), before.desk().tables());
+  }
+  sitting.withdraw(1).unwrap().freeze(0, 1).unwrap();
+  let frozen = sitting.desk().chunks().filter(|chunk| chunk.frozen).map(|chunk| chunk.start());
+  assert_eq!(frozen.collect::<Vec<_>>(), [0, 3]);
+}
+
+/// The same desk and the same calls, begun on another desk, are another sitting: the same
+/// withdrawal leaves something else.
+#[test]
+fn equality_is_of_what_it_began_on() {
+  let removal = Remove { start: 0, end: 1 };
+  let mut removed = MagicString::new("abc").unwrap();
+  removed.remove(0, 1).unwrap();
+  let (mut one, mut other) = (open("abc"), Sitting::from(removed));
+  done(&mut one, &[removal]);
+  done(&mut other, &[removal]);
+  assert_eq!((one.desk(), one.entries()), (other.desk(), other.entries()));
+  assert_ne!(one, other);
+  let texts = [one, other].map(|mut sitting| sitting.withdraw(1).unwrap().desk().to_string());
+  assert_eq!(texts, ["abc", "bc"]);
+}
+
 /// Each of some calls taken out of a sitting leaves one to which the others alone were
 /// filed.
 #[test]
@@ -201,25 +267,27 @@ fn without_any_one() {
     Update { start: 2, end: 5, text: "" },
     insert(0, "head"),
   ];
-  let filed = |calls: &mut dyn Iterator<Item = &Call>| {
-    let mut sitting = open("abcdefgh");
-    calls.for_each(|call| drop(sitting.file(call)));
-    sitting
-  };
-  let all = filed(&mut calls.iter());
-  for k in 1..=calls.len() {
-    let mut sitting = all.clone();
-    sitting.withdraw(k).unwrap();
-    assert_eq!(sitting, filed(&mut calls[..k - 1].iter().chain(&calls[k..])), "{k}");
-  }
-  // All of them, from the front and from the back.
-  for last in [false, true] {
-    let mut sitting = all.clone();
-    for left in (1..=calls.len()).rev() {
-      sitting.withdraw(if last { left } else { 1 }).unwrap();
-      assert_eq!(sitting.len(), left - 1);
+  for begun in [open("abcdefgh"), begun()] {
+    let filed = |calls: &mut dyn Iterator<Item = &Call>| {
+      let mut sitting = begun.clone();
+      calls.for_each(|call| drop(sitting.file(call)));
+      sitting
+    };
+    let all = filed(&mut calls.iter());
+    for k in 1..=calls.len() {
+      let mut sitting = all.clone();
+      sitting.withdraw(k).unwrap();
+      assert_eq!(sitting, filed(&mut calls[..k - 1].iter().chain(&calls[k..])), "{k}");
     }
-    assert_eq!(sitting, open("abcdefgh"));
+    // All of them, from the front and from the back.
+    for last in [false, true] {
+      let mut sitting = all.clone();
+      for left in (1..=calls.len()).rev() {
+        sitting.withdraw(if last { left } else { 1 }).unwrap();
+        assert_eq!(sitting.len(), left - 1);
+      }
+      assert_eq!(sitting, begun);
+    }
   }
 }
 

@@ -28,8 +28,8 @@ returns-2 c =
     let if3 = c .if3 in
     record { ran = remove-reversed _ _ (start .pre .well-formed) (sym (between-both .ensures) ∙ if1 .taken) (if3 .taken); above = start .pre .above }
 
-clear-range-either-requires : tie.Need-clear-range-either-requires
-clear-range-either-requires c κs =
+change-range-either-requires : tie.Need-change-range-either-requires
+change-range-either-requires c κs =
     let start = c .before .before .before .before .before .before .before .before .before .before .before in
     let if2 = c .before .before .before .before .if2 in
     let if3 = c .before .before .before .if3 in
@@ -51,7 +51,7 @@ returns-3 c =
     let if1 = c .before .before .before .before .before .before .before .before .before .before .before .before .if1 in
     let if2 = c .before .before .before .before .before .before .before .before .before .before .before .if2 in
     let if3 = c .before .before .before .before .before .before .before .before .before .before .if3 in
-    let range-with = c .before .before .before .before .before .before .clear-range-either in
+    let range-with = c .before .before .before .before .before .before .change-range-either in
     let ran =
     remove-range _ _ (start .pre .well-formed) (sym (between-both .ensures) ∙ if1 .taken) (omega (arith, if2 .left, if3 .left)) (range-with .ensures .0) in
     record { ran = ran; above = range-with .ensures .1 }
@@ -70,7 +70,7 @@ remove-spec =
     between-both-requires
     returns
     returns-2
-    clear-range-either-requires
+    change-range-either-requires
     same-length
     same-length-2
     same-length-3

@@ -2,8 +2,10 @@
 use mathlib.Core.Path.{subst}
 use native.Mathlib.Omega.{arith}
 use denote.Ref.{now}
+use Rattle.memory.specs.WellFormed.{Taken}
 use Rattle.filed_record.specs.Judged.{FilesCall, JudgesCall}
 use Rattle.filed_entries.proofs.Put.{call-room}
+use Rattle.filed_kept.proofs.First.{first-holds}
 use Rattle.filed.proofs.Files.{files-refused, answer-byte, files-call}
 use borrow.Author.Needs.{needs}
 use Rattle.filed.proofs.file.Statement.{statement}
@@ -23,11 +25,14 @@ judge-call-requires c κs = search needs
 enum-known-kind : tie.Need-enum-known-kind
 enum-known-kind c = search needs
 
+keep-first-requires : tie.Need-keep-first-requires
+keep-first-requires c κs = search needs
+
 sub-text : tie.Need-sub-text
-sub-text c = let g = here (c .before) in omega (arith, g .text)
+sub-text c = let g = here (c .before .before .before .before .before .before .before .before .before .before .before) in omega (arith, g .text)
 
 part-text-start : tie.Need-part-text-start
-part-text-start c = let g = here (c .before) in omega (arith, g .text)
+part-text-start c = let g = here (c .before .before .before .before .before .before .before .before .before .before .before) in omega (arith, g .text)
 
 part-text-end : tie.Need-part-text-end
 part-text-end c = search needs
@@ -38,16 +43,19 @@ core-call-requires c κs = search needs
 cast-put-entry : tie.Need-cast-put-entry
 cast-put-entry c =
     let core = c .before .before .before .before .before .before .before .before .before in
-    let kind = core .before .before .before .before .before .before in
+    let kind = core .before .before .before .before .before .before .before .before .before .before .before .before .before .before .before .before in
     let start = kind .before .before .before .before .before .before .before .before .before .before in
-    let low = answer-byte (start .pre .1) (here kind) (start .pre .0 .well-formed) (core .core-call .ensures) in
+    let low = answer-byte (start .pre .1 .1) (here kind) (start .pre .0 .well-formed) (core .core-call .ensures) in
     omega arith
 
 put-entry-requires : tie.Need-put-entry-requires
 put-entry-requires c κs =
-    let kind = c .before .before .before .before .before .before .before .before .before .before .before .before .before .before .before in
+    let keep = c .before .before .before .before .before .before .before .before .before .before .before .before .before .before .before .before .before .before in
+    let kind = keep .before .before .before .before .before .before .before in
     let start = kind .before .before .before .before .before .before .before .before .before .before in
-    (start .pre .1, (call-room (start .pre .1) (here kind), here kind .calls))
+    let kept = keep .keep-first .kept .1 .1 .1 in
+    let holds = first-holds (start .pre .1 .1) (keep .keep-first .ensures) (kept .0) (kept .1 .0) in
+    (holds, (call-room holds (here kind), here kind .calls))
 
 enum-known-number : tie.Need-enum-known-number
 enum-known-number c = search needs
@@ -71,15 +79,18 @@ returns : tie.Need-returns
 returns c =
     let put = c .before .before .before .before in
     let core = put .before .before .before .before .before .before .before .before .before .before in
-    let kind = core .before .before .before .before .before .before in
+    let keep = core .before .before .before .before .before .before .before .before .before in
+    let kind = keep .before .before .before .before .before .before .before in
     let start = kind .before .before .before .before .before .before .before .before .before .before in
-    files-call (start .pre .1) (here kind) (core .core-call .ensures) (put .put-entry .ensures) (put .put-entry .kept .0)
+    let kept = keep .keep-first .kept .1 .1 .1 in
+    let desk : Taken (start .args .source .now) (start .args .chunks .now) (start .args .pieces .now) (start .args .store .now) = record { full = start .pre .1 .0; well-formed = start .pre .0 .well-formed } in
+    files-call (start .pre .1 .1) (here kind) desk (keep .keep-first .ensures) (kept .0) (kept .1 .0) (core .core-call .ensures) (put .put-entry .ensures) (put .put-entry .kept .0)
 
 returns-2 : tie.Need-returns-2
 returns-2 c =
     let judged = c .before .before .before in
     let start = judged .before .before .before .before .before .before .before .before in
-    files-refused (start .pre .1) (start .pre .0 .well-formed)
+    files-refused (start .pre .1 .1) (start .pre .0 .well-formed)
     (subst (JudgesCall (now (start .args .call)) (start .args .size)) (c .before .number .given .1) (judged .judge-call .ensures))
 
 pub file-spec : {M : Type 1} → statement M
@@ -88,6 +99,7 @@ file-spec =
     (tie.spec
     judge-call-requires
     enum-known-kind
+    keep-first-requires
     sub-text
     part-text-start
     part-text-end

@@ -1,5 +1,6 @@
+-- `filed_checked::file` meets its contract.
 use Rattle.check_well_formed.proofs.Told.{seen-none, seen-taken, seen-desk}
-use Rattle.filed_checked.proofs.Checked.{held-none, held-record, sitting-no-desk, sitting-no-record, sitting-yes}
+use Rattle.filed_checked.proofs.Checked.{beside-none, beside-record, sitting-no-desk, sitting-no-record, sitting-yes}
 use borrow.Author.Needs.{needs}
 use Rattle.filed_checked.proofs.file.Statement.{statement}
 use Rattle.filed_checked.proofs.file.Tie as tie
@@ -13,8 +14,8 @@ enum-known-used c = search needs
 enum-told : tie.Need-enum-told
 enum-told c = search needs
 
-not-well-formed-requires : tie.Need-not-well-formed-requires
-not-well-formed-requires c κs = search needs
+refused-requires : tie.Need-refused-requires
+refused-requires c κs = search needs
 
 same-length : tie.Need-same-length
 same-length c = search needs
@@ -30,10 +31,10 @@ returns c =
     let told = c .before in
     let seen = told .before .before in
     let a = seen .before .before .before .before .before .before .before .before .before .before .before .args in
-    sitting-no-desk (seen-none (a .source .now) (a .chunks .now) (a .pieces .now) (a .store .now) (told .enum-told .given .1) (seen .taken .ensures)) (c .not-well-formed .ensures)
+    sitting-no-desk (seen-none (a .source .now) (a .chunks .now) (a .pieces .now) (a .store .now) (told .enum-told .given .1) (seen .taken .ensures)) (c .refused .ensures)
 
-judge-record-requires : tie.Need-judge-record-requires
-judge-record-requires c κs = search needs
+record-taken-requires : tie.Need-record-taken-requires
+record-taken-requires c κs = search needs
 
 enum-known-size : tie.Need-enum-known-size
 enum-known-size c = search needs
@@ -41,8 +42,8 @@ enum-known-size c = search needs
 enum-told-2 : tie.Need-enum-told-2
 enum-told-2 c = search needs
 
-not-well-formed-requires-2 : tie.Need-not-well-formed-requires-2
-not-well-formed-requires-2 c κs = search needs
+refused-requires-2 : tie.Need-refused-requires-2
+refused-requires-2 c κs = search needs
 
 same-length-4 : tie.Need-same-length-4
 same-length-4 c = search needs
@@ -62,19 +63,19 @@ same-length-8 c = search needs
 returns-2 : tie.Need-returns-2
 returns-2 c =
     let told = c .before in
-    let held = told .before .before in
-    let a = held .before .before .before .before .before .before .before .before .before .before .before .before .before .before .before .before .before .args in
-    sitting-no-record (held-none (a .words .now) (a .bytes .now) (told .enum-told2 .given .1) (held .judge-record .ensures)) (c .not-well-formed2 .ensures)
+    let rec = told .before .before in
+    let a = rec .before .before .before .before .before .before .before .before .before .before .before .before .before .before .before .before .before .args in
+    sitting-no-record (beside-none (a .source .now) (a .words .now) (a .bytes .now) (told .enum-told2 .given .1) (rec .record-taken .ensures)) (c .refused2 .ensures)
 
 file-requires : tie.Need-file-requires
 file-requires c κs =
     let size = c .before .before .before .before .before .before in
-    let held = size .before .before in
-    let used = held .before .before .before .before in
+    let rec = size .before .before in
+    let used = rec .before .before .before .before in
     let seen = used .before .before in
     let a = seen .before .before .before .before .before .before .before .before .before .before .before .args in (
       seen-desk (a .source .now) (a .chunks .now) (a .pieces .now) (a .store .now) (used .used .given .0 .0) (used .used .given .1) (seen .taken .ensures),
-      held-record (a .words .now) (a .bytes .now) (size .size .given .0 .0) (size .size .given .1) (held .judge-record .ensures),
+      (seen-taken (a .source .now) (a .chunks .now) (a .pieces .now) (a .store .now) (used .used .given .0 .0) (used .used .given .1) (seen .taken .ensures) .full, beside-record (a .source .now) (a .words .now) (a .bytes .now) (size .size .given .0 .0) (size .size .given .0 .1 .0) (size .size .given .1) (rec .record-taken .ensures) .holds),
     )
 
 same-length-9 : tie.Need-same-length-9
@@ -96,12 +97,12 @@ returns-3 : tie.Need-returns-3
 returns-3 c =
     let done = c .before .before .before .before .before .before .before .before .before .before in
     let size = done .before .before .before .before .before .before .before in
-    let held = size .before .before in
-    let used = held .before .before .before .before in
+    let rec = size .before .before in
+    let used = rec .before .before .before .before in
     let seen = used .before .before in
     let a = seen .before .before .before .before .before .before .before .before .before .before .before .args in
     sitting-yes (seen-taken (a .source .now) (a .chunks .now) (a .pieces .now) (a .store .now) (used .used .given .0 .0) (used .used .given .1) (seen .taken .ensures))
-    (held-record (a .words .now) (a .bytes .now) (size .size .given .0 .0) (size .size .given .1) (held .judge-record .ensures)) (done .file .ensures)
+    (beside-record (a .source .now) (a .words .now) (a .bytes .now) (size .size .given .0 .0) (size .size .given .0 .1 .0) (size .size .given .1) (rec .record-taken .ensures)) (done .file .ensures)
 
 pub file-spec : {M : Type 1} → statement M
 file-spec =
@@ -110,15 +111,15 @@ file-spec =
     taken-requires
     enum-known-used
     enum-told
-    not-well-formed-requires
+    refused-requires
     same-length
     same-length-2
     same-length-3
     returns
-    judge-record-requires
+    record-taken-requires
     enum-known-size
     enum-told-2
-    not-well-formed-requires-2
+    refused-requires-2
     same-length-4
     same-length-5
     same-length-6

@@ -1,4 +1,6 @@
-use Rattle.filed_checked.proofs.Checked.{held-none, held-record, sitting-no-desk, sitting-no-record, sitting-yes}
+-- `filed_checked::withdraw` meets its contract.
+use Rattle.filed_taken.proofs.Judging.{kept-desk-of}
+use Rattle.filed_checked.proofs.Checked.{beside-none, beside-record, sitting-no-desk, sitting-no-record, sitting-yes}
 use borrow.Author.Needs.{needs}
 use Rattle.filed_checked.proofs.withdraw.Statement.{statement}
 use Rattle.filed_checked.proofs.withdraw.Tie as tie
@@ -6,8 +8,8 @@ use Rattle.filed_checked.proofs.withdraw.Tie as tie
 well-formed-requires : tie.Need-well-formed-requires
 well-formed-requires c κs = search needs
 
-judge-record-requires : tie.Need-judge-record-requires
-judge-record-requires c κs = search needs
+record-taken-requires : tie.Need-record-taken-requires
+record-taken-requires c κs = search needs
 
 enum-known-size : tie.Need-enum-known-size
 enum-known-size c = search needs
@@ -15,8 +17,8 @@ enum-known-size c = search needs
 enum-told : tie.Need-enum-told
 enum-told c = search needs
 
-not-well-formed-requires : tie.Need-not-well-formed-requires
-not-well-formed-requires c κs = search needs
+refused-requires : tie.Need-refused-requires
+refused-requires c κs = search needs
 
 same-length : tie.Need-same-length
 same-length c = search needs
@@ -36,19 +38,18 @@ same-length-5 c = search needs
 returns : tie.Need-returns
 returns c =
     let told = c .before in
-    let held = told .before .before in
-    let a = held .before .before .before .before .before .before .before .before .before .before .before .before .before .before .args in
-    sitting-no-record (held-none (a .words .now) (a .bytes .now) (told .enum-told .given .1) (held .judge-record .ensures)) (c .not-well-formed .ensures)
+    let rec = told .before .before in
+    let a = rec .before .before .before .before .before .before .before .before .before .before .before .before .before .before .args in
+    sitting-no-record (beside-none (a .source .now) (a .words .now) (a .bytes .now) (told .enum-told .given .1) (rec .record-taken .ensures)) (c .refused .ensures)
 
 withdraw-requires : tie.Need-withdraw-requires
 withdraw-requires c κs =
     let size = c .before .before .before .before .before .before in
-    let held = size .before .before in
-    let seen = held .before .before .before in
-    let a = seen .before .before .before .before .before .before .before .before .before .before .before .args in (
-      seen .before .well-formed .ensures .yes (seen .if1 .taken) .well-formed,
-      held-record (a .words .now) (a .bytes .now) (size .size .given .0 .0) (size .size .given .1) (held .judge-record .ensures),
-    )
+    let rec = size .before .before in
+    let seen = rec .before .before .before in
+    let a = seen .before .before .before .before .before .before .before .before .before .before .before .args in
+    let beside = beside-record (a .source .now) (a .words .now) (a .bytes .now) (size .size .given .0 .0) (size .size .given .0 .1 .0) (size .size .given .1) (rec .record-taken .ensures) in
+    (seen .before .well-formed .ensures .yes (seen .if1 .taken), (beside .holds, kept-desk-of beside))
 
 same-length-6 : tie.Need-same-length-6
 same-length-6 c = search needs
@@ -69,14 +70,14 @@ returns-2 : tie.Need-returns-2
 returns-2 c =
     let done = c .before .before .before .before .before .before .before .before .before .before in
     let size = done .before .before .before .before .before .before .before in
-    let held = size .before .before in
-    let seen = held .before .before .before in
+    let rec = size .before .before in
+    let seen = rec .before .before .before in
     let a = seen .before .before .before .before .before .before .before .before .before .before .before .args in
     sitting-yes (seen .before .well-formed .ensures .yes (seen .if1 .taken))
-    (held-record (a .words .now) (a .bytes .now) (size .size .given .0 .0) (size .size .given .1) (held .judge-record .ensures)) (done .withdraw .ensures)
+    (beside-record (a .source .now) (a .words .now) (a .bytes .now) (size .size .given .0 .0) (size .size .given .0 .1 .0) (size .size .given .1) (rec .record-taken .ensures)) (done .withdraw .ensures)
 
-not-well-formed-requires-2 : tie.Need-not-well-formed-requires-2
-not-well-formed-requires-2 c κs = search needs
+refused-requires-2 : tie.Need-refused-requires-2
+refused-requires-2 c κs = search needs
 
 same-length-11 : tie.Need-same-length-11
 same-length-11 c = search needs
@@ -89,17 +90,17 @@ same-length-13 c = search needs
 
 returns-3 : tie.Need-returns-3
 returns-3 c =
-    sitting-no-desk (c .before .before .well-formed .ensures .no (c .before .if1 .left)) (c .not-well-formed2 .ensures)
+    sitting-no-desk (c .before .before .well-formed .ensures .no (c .before .if1 .left)) (c .refused2 .ensures)
 
 pub withdraw-spec : {M : Type 1} → statement M
 withdraw-spec =
     tie.close
     (tie.spec
     well-formed-requires
-    judge-record-requires
+    record-taken-requires
     enum-known-size
     enum-told
-    not-well-formed-requires
+    refused-requires
     same-length
     same-length-2
     same-length-3
@@ -113,7 +114,7 @@ withdraw-spec =
     same-length-9
     same-length-10
     returns-2
-    not-well-formed-requires-2
+    refused-requires-2
     same-length-11
     same-length-12
     same-length-13

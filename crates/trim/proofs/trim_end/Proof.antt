@@ -1,16 +1,11 @@
-use native.Mathlib.Omega.{arith}
-use Rattle.trim.proofs.Call.{end-refused, end-ran}
+use Rattle.model.specs.Call.{trim-end}
+use Rattle.trim.proofs.Call.{asks-end}
 use borrow.Author.Needs.{needs}
 use Rattle.trim.proofs.trim_end.Statement.{statement}
 use Rattle.trim.proofs.trim_end.Tie as tie
 
-returns : tie.Need-returns
-returns c =
-    let start = c .before .before .before .before .before in
-    end-refused (start .pre) (start .args .pattern) (omega (arith, c .if1 .taken))
-
-trim-either-requires : tie.Need-trim-either-requires
-trim-either-requires c κs = search needs
+trim-sides-requires : tie.Need-trim-sides-requires
+trim-sides-requires c κs = search needs
 
 same-length : tie.Need-same-length
 same-length c = search needs
@@ -21,14 +16,11 @@ same-length-2 c = search needs
 same-length-3 : tie.Need-same-length-3
 same-length-3 c = search needs
 
-returns-2 : tie.Need-returns-2
-returns-2 c =
+returns : tie.Need-returns
+returns c =
     let call = c .before .before .before .before .before .before in
-    let test = call .before .before .before .before in
-    let start = test .before .before .before .before .before in
-    end-ran (start .args .pattern) (omega (arith, test .if1 .left)) (call .trim-either .ensures)
+    let n = call .before .before .before .before .before .before .before .before .args .pattern in
+    call .trim-sides .ensures (trim-end n) (asks-end n)
 
 pub trim-end-spec : {M : Type 1} → statement M
-trim-end-spec =
-    tie.close
-    (tie.spec returns trim-either-requires same-length same-length-2 same-length-3 returns-2)
+trim-end-spec = tie.close (tie.spec trim-sides-requires same-length same-length-2 same-length-3 returns)

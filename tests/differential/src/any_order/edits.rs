@@ -24,7 +24,7 @@ impl<'a> Edits<'a> {
   pub fn any(&mut self) -> Call {
     let (start, end) = self.range();
     let (at, text) = (self.place(), self.text());
-    match self.random.below(40) {
+    match self.random.below(41) {
       0 => Call::Trim { pattern: self.random.below(2) as u32 },
       1 => Call::TrimLines,
       2 => Call::IndentWith { indentor: Some(text), exclude: Vec::new() },
@@ -37,6 +37,7 @@ impl<'a> Edits<'a> {
       choice @ 19..=32 => Call::Insert { at, text, setting: SETTINGS[choice % 4] },
       33 => Call::Append { text },
       34 => Call::Prepend { text },
+      35 => Call::Freeze { start, end },
       _ => self.relocate(),
     }
   }

@@ -12,7 +12,7 @@ use super::{
 use crate::{
   joins,
   layout::*,
-  made::{self, Aim, make},
+  made::{self, Aim, make, marked},
   papers::Caller,
 };
 
@@ -104,18 +104,24 @@ impl Plan {
     let start = match which {
       // A store that a list fills needs no desk made by hand.
       4 if random.one_in(2) => start(source, random),
-      _ => Start::Made(make(Aim { source, chunks, pieces, bytes }, random)),
+      _ => Start::Made(by_hand(Aim { source, chunks, pieces, bytes }, random)),
     };
     let (insertions, uses_up_bytes) = (Some(insertions), which & 4 != 0);
     Self { start, edits, insertions, exact: true, uses_up_bytes, one_more }
   }
 }
 
+/// A desk made by hand, with marks or without.
+fn by_hand(aim: Aim, random: &mut Random) -> DeskData {
+  let desk = make(aim, random);
+  if random.one_in(3) { marked(desk, random) } else { desk }
+}
+
 /// A desk over a source of so many bytes: fresh, in use, or made by hand.
 pub fn start(source: usize, random: &mut Random) -> Start {
   let kind = random.below(4);
   if kind == 0 {
-    return Start::Made(make(Aim { source, ..Aim::small(random) }, random));
+    return Start::Made(by_hand(Aim { source, ..Aim::small(random) }, random));
   }
   let source = made::text(source, random).into_bytes();
   let fresh = Start::Opened { source: source.clone(), calls: Vec::new() };
@@ -123,7 +129,12 @@ pub fn start(source: usize, random: &mut Random) -> Start {
     return fresh;
   }
   let mut caller = Caller::new(fresh.desk(), random.number());
-  let calls = (0..random.between(1, 8)).map(|_| caller.call_on_desk().call).collect::<Vec<_>>();
+  let frozen = if random.one_in(3) { random.between(1, 4) } else { usize::MAX };
+  let call = |place: usize| match place % frozen {
+    0 if place > 0 => caller.freeze().call,
+    _ => caller.call_on_desk().call,
+  };
+  let calls = (0..random.between(1, 8)).map(call).collect::<Vec<_>>();
   Start::Opened { source, calls: calls.into_iter().filter(Call::is_edit).collect() }
 }
 
@@ -166,8 +177,9 @@ fn add_bytes(list: &mut [Call], bytes: usize, random: &mut Random) -> Option<()>
   Some(())
 }
 
-/// One later call in so many is a join.
+/// One later call in so many is a join, and one a freezing.
 const JOINS: usize = 12;
+const FREEZINGS: usize = 12;
 
 /// Calls on what the list leaves, by the oracle.
 fn later(desk: &DeskData, list: &[Call], random: &mut Random) -> Vec<Later> {
@@ -180,6 +192,8 @@ fn later(desk: &DeskData, list: &[Call], random: &mut Random) -> Vec<Later> {
   let mut later = |_| {
     let later = if random.one_in(JOINS) {
       Later::join(joins::lists_on(&desk.data(), random), random.number())
+    } else if random.one_in(FREEZINGS) {
+      Later::new(caller.freeze(), &desk)
     } else {
       Later::new(caller.call_on_desk(), &desk)
     };

@@ -23,13 +23,13 @@ pub struct Tally {
   /// How many had an edit that made more cuts in one order than in another.
   pub cut_otherwise: u64,
   /// The numbers of later calls, once for each list.
-  pub numbers: [u64; 20],
+  pub numbers: [u64; 21],
 }
 
 /// What a list may have, on its desk.
 type Kind = fn(&Sitting, Left) -> bool;
 
-const KINDS: [(&str, Kind); 12] = [
+const KINDS: [(&str, Kind); 13] = [
   (
     "a fresh desk",
     |sitting, _| matches!(&sitting.start, Start::Opened { calls, .. } if calls.is_empty()),
@@ -39,6 +39,7 @@ const KINDS: [(&str, Kind); 12] = [
     |sitting, _| matches!(&sitting.start, Start::Opened { calls, .. } if !calls.is_empty()),
   ),
   ("a desk made by hand", |sitting, _| matches!(sitting.start, Start::Made(_))),
+  ("a desk with marks", |sitting, _| sitting.start.desk().chunks.iter().any(|chunk| chunk.frozen)),
   ("all orders of 4 edits", |sitting, _| sitting.list.len() == 4 && sitting.orders.len() == 24),
   ("more than 4 edits", |sitting, _| sitting.list.len() > 4),
   ("insertions alone", |sitting, _| sitting.list.iter().all(inserts)),

@@ -3,7 +3,7 @@
 use oracle::Call;
 
 use super::{Core, Unseen};
-use crate::{Answer, Lent, LentRecord, missing};
+use crate::{Answer, Lent, LentRecord, NoCalls, missing};
 
 #[derive(Debug, Clone, Copy)]
 pub struct Archive;
@@ -36,6 +36,9 @@ impl Core for Archive {
         lent.indent_with(unseen.yes[0], indentor, exclude)
       }
       Call::IndentWith { indentor: None, ref exclude } => lent.indent_with(0, unseen.text, exclude),
+      Call::Freeze { start, end } => {
+        lent.freeze(&NoCalls::among(unseen.position).lend(), start, end)
+      }
       Call::Slice { start, end: Some(end), .. } => lent.slice(start, unseen.yes[0], end, out),
       Call::Slice { start, end: None, .. } => lent.slice(start, 0, unseen.position, out),
       Call::ToString { .. } => lent.to_string(out),
@@ -72,6 +75,16 @@ impl Core for Archive {
 
   fn withdraw(&mut self, lent: &mut Lent, record: &mut LentRecord, k: u32) -> Option<Answer> {
     missing::has_function("withdraw").then(|| lent.withdraw(record, k))
+  }
+
+  fn freeze(
+    &mut self,
+    lent: &mut Lent,
+    record: &LentRecord,
+    start: u32,
+    end: u32,
+  ) -> Option<Answer> {
+    missing::has_function("freeze").then(|| lent.freeze(record, start, end))
   }
 
   fn join(&mut self, lent: &mut Lent, first: &[u8], second: &[u8]) -> Option<Answer> {

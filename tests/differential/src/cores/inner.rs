@@ -155,9 +155,10 @@ impl Core for Inner {
     }
   }
 
-  /// Every edit, but with no excluded positions.
+  /// Every edit but freezing, and with no excluded positions.
   fn has(&self, call: &Call) -> bool {
     match call {
+      Call::Freeze { .. } => false,
       Call::IndentWith { exclude, .. } => exclude.is_empty(),
       _ => call.is_edit(),
     }

@@ -21,8 +21,8 @@ pub trait Core {
   /// For the printed report.
   fn name(&self) -> &'static str;
 
-  /// Makes the call. An opening's source is the lent one, a buffer is `out`, and
-  /// `Dump`, which is no call of document 01, is never asked for.
+  /// Makes the call. An opening's source is the lent one, a buffer is `out`, a freezing
+  /// gets a record without calls, and `Dump`, which is no exported call, is never asked for.
   fn call(&mut self, lent: &mut Lent, call: &Call, unseen: &Unseen, out: &mut [u8]) -> Answer;
 
   /// Whether there is such a call: a core that is not complete lacks some.
@@ -56,6 +56,17 @@ pub trait Core {
 
   /// Takes the k-th call out of the record. None where the core withdraws no calls.
   fn withdraw(&mut self, _lent: &mut Lent, _record: &mut LentRecord, _k: u32) -> Option<Answer> {
+    None
+  }
+
+  /// Freezes the bytes from start up to end. None where the core freezes nothing.
+  fn freeze(
+    &mut self,
+    _lent: &mut Lent,
+    _record: &LentRecord,
+    _start: u32,
+    _end: u32,
+  ) -> Option<Answer> {
     None
   }
 

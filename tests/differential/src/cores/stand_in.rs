@@ -118,13 +118,16 @@ impl Core for StandIn {
       return None;
     }
     let mut desk = self.desk(lent);
-    let mut entries = sittings::read(record.words, record.bytes);
-    let count = entries.as_ref().map_or(0, Vec::len);
-    let answer = sittings::file(desk.as_mut(), entries.as_mut(), call);
-    if let (Some(desk), Some(entries)) = (desk, entries)
-      && let Some(filed) = entries.get(count)
+    let mut read = sittings::read(lent.source, record.words, record.bytes);
+    let count = read.as_ref().map_or(0, |read| read.entries.len());
+    let answer = sittings::file(desk.as_mut(), read.as_mut(), call);
+    if let (Some(desk), Some(read)) = (desk, read)
+      && let Some(filed) = read.entries.get(count)
     {
-      record.write(&entries);
+      record.write(&read.entries);
+      if let Some(kept) = read.kept.filter(|_| count == 0) {
+        record.keep(&image::encode(&kept.data(), &mut self.random));
+      }
       if !keeps::every_byte(&filed.call, answer.number) {
         self.lay_out(Sizes::FULL, &desk, lent);
       }
@@ -138,13 +141,35 @@ impl Core for StandIn {
       return None;
     }
     let mut desk = self.desk(lent);
-    let mut entries = sittings::read(record.words, record.bytes);
-    let answer = sittings::withdraw(desk.as_mut(), entries.as_mut(), k);
-    if let (Some(desk), Some(entries), number::ACCEPTED) = (desk, entries, answer.number) {
+    let mut read = sittings::read(lent.source, record.words, record.bytes);
+    let answer = sittings::withdraw(desk.as_mut(), read.as_mut(), k);
+    if let (Some(desk), Some(read), number::ACCEPTED) = (desk, read, answer.number) {
       let used = record.words[RECORD_USED] as usize;
       record.bytes[..used].fill(self.random.number() as u8);
-      record.bytes[RECORD_ANSWERS + entries.len()] = self.random.number() as u8;
-      record.write(&entries);
+      record.bytes[RECORD_ANSWERS + read.entries.len()] = self.random.number() as u8;
+      record.write(&read.entries);
+      self.lay_out(Sizes::FULL, &desk, lent);
+    }
+    Some(Answer { number: answer.number, value: answer.value })
+  }
+
+  /// By the plain reading, too.
+  fn freeze(
+    &mut self,
+    lent: &mut Lent,
+    record: &LentRecord,
+    start: u32,
+    end: u32,
+  ) -> Option<Answer> {
+    if self.any_size {
+      return None;
+    }
+    let mut desk = self.desk(lent);
+    let read = sittings::read(lent.source, record.words, record.bytes);
+    let answer = sittings::freeze(desk.as_mut(), read.as_ref(), start, end);
+    if let Some(desk) = desk
+      && !keeps::every_byte(&Call::Freeze { start, end }, answer.number)
+    {
       self.lay_out(Sizes::FULL, &desk, lent);
     }
     Some(Answer { number: answer.number, value: answer.value })

@@ -80,7 +80,8 @@ fn five() -> DeskData {
 
 fn chunk(start: u32, end: u32, intro: &[&str], outro: &[&str], text: Option<&str>) -> ChunkData {
   let edited_content = text.map(str::to_string);
-  ChunkData { start, end, intro: list(intro), outro: list(outro), edited_content }
+  let (intro, outro) = (list(intro), list(outro));
+  ChunkData { start, end, intro, outro, edited_content, ..Default::default() }
 }
 
 fn list(texts: &[&str]) -> Vec<String> {

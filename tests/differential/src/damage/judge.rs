@@ -18,7 +18,7 @@ use crate::{
     fields::{Fields, kind},
     run::run_in,
   },
-  sittings::{Memory, Sides, Written, call_bytes},
+  sittings::{Memory, Sides, Written, call_bytes, fresh},
   step::Both,
 };
 
@@ -52,8 +52,8 @@ pub struct Judge<'a, C> {
   every: [Vec<Call>; 2],
   /// Those of the first that a sheet can have.
   records: Vec<Call>,
-  /// A record of them.
-  filed: Memory,
+  /// A record of them, which keeps a fresh desk over a source.
+  filed: (String, Memory),
   /// Lists that are joined: those that are refused for everything at once, and less.
   joined: Vec<Lists>,
   before: Image,
@@ -68,7 +68,7 @@ impl<'a, C: Core> Judge<'a, C> {
     let mut records = every[0].clone();
     records.retain(|call| kind(call).is_some());
     every.iter_mut().for_each(|calls| calls.retain(|call| core.has(call)));
-    let filed = Memory::of(&Written::calls(&records), &mut random);
+    let filed = (String::new(), Memory::of(&Written::calls(&records), "", &mut random));
     let joined = due::choices(due::Place::Across).into_iter().map(|pair| pair.lists).collect();
     Self { core, random, every, records, filed, joined, before, verdicts: Verdicts::default() }
   }
@@ -155,18 +155,33 @@ impl<'a, C: Core> Judge<'a, C> {
     Ok(())
   }
 
-  /// Where it is no desk, filing and withdrawing give 2 too and leave every byte, beside a
-  /// record that is in order, with arguments that are and with others.
+  /// Where it is no desk, filing, withdrawing and freezing give 2 too and leave every byte,
+  /// beside a record that is in order, with arguments that are and with others.
   fn file_and_withdraw(&mut self, image: &Image) -> Result<(), String> {
-    let mut sides = Sides::of(image.clone(), self.filed.clone());
+    let mut sides = Sides::of(image.clone(), self.filed_over(&image.source));
     let call = self.records.get(self.random.below(self.records.len() + 1));
     let call = call.map_or(Vec::new(), call_bytes);
     let k = self.random.below(3) as u32;
+    let frozen = sides.freeze(self.core, k, 1).map_err(|what| format!("freeze {k} 1: {what}"))?;
     let filed = sides.file(self.core, &call, &mut self.random);
     let filed = filed.map_err(|what| format!("file: {what}"))?;
     let withdrawn = sides.withdraw(self.core, k).map_err(|what| format!("withdraw {k}: {what}"))?;
-    self.verdicts.calls += filed.is_some() as u64 + withdrawn.is_some() as u64;
+    let made = [frozen.is_some(), filed.is_some(), withdrawn.is_some()];
+    self.verdicts.calls += made.map(u64::from).iter().sum::<u64>();
     Ok(())
+  }
+
+  /// A record of the calls. It keeps a fresh desk over this source, if it is one.
+  fn filed_over(&mut self, source: &[u8]) -> Memory {
+    let (over, memory) = &mut self.filed;
+    if let Ok(source) = str::from_utf8(source)
+      && source.len() <= MOST_SOURCE
+      && source != over
+    {
+      *over = source.to_string();
+      memory.lend().keep(&image::encode(&fresh(source), &mut self.random));
+    }
+    memory.clone()
   }
 
   /// So does a join, of lists that are in order and of others: some of them break a rule,

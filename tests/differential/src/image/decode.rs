@@ -27,6 +27,7 @@ pub fn decode(source: &[u8], chunks: &[u32], pieces: &[u32], store: &[u8]) -> De
     desk.chunks.push(ChunkData {
       start: word(row, START) as u32,
       end: word(row, END) as u32,
+      frozen: word(row, MARK) != 0,
       intro: list(row, INTRO_AT, INTRO_N),
       outro: list(row, OUTRO_AT, OUTRO_N),
       edited_content: replaced.then(|| text(word(row, TEXT_AT), word(row, TEXT_N))),

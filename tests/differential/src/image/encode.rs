@@ -1,6 +1,6 @@
 //! A desk as memory, with every freedom that the layout leaves: rows in any
-//! order, runs and texts anywhere apart, empty texts anywhere, junk in all words
-//! and bytes that are not looked at.
+//! order, runs and texts anywhere apart, empty texts anywhere, marks of any number
+//! but 0, junk in all words and bytes that are not looked at.
 
 use oracle::{ChunkData, DeskData, random::Random};
 
@@ -72,6 +72,7 @@ pub fn encode_in(style: Style, desk: &DeskData, random: &mut Random) -> Image {
   encoder.lists(style, desk, &rows, random);
   for (chunk, &row) in desk.chunks.iter().zip(&rows) {
     encoder.chunk(chunk, row);
+    encoder.mark(chunk, row, random);
   }
   encoder.image
 }
@@ -143,6 +144,13 @@ impl Encoder {
         *self.image.word_mut(row, TEXT_N) = text.len() as u32;
       }
     }
+  }
+
+  fn mark(&mut self, chunk: &ChunkData, row: usize, random: &mut Random) {
+    *self.image.word_mut(row, MARK) = match chunk.frozen {
+      false => 0,
+      true => [1, 1, 2, 0x100, 0x1_0000, 0x8000_0000, u32::MAX][random.below(7)],
+    };
   }
 
   /// Writes the text to its place, which it gives.

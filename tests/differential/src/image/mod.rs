@@ -124,7 +124,7 @@ impl Image {
   }
 
   /// The memory is well formed and holds that desk: source, head and tail pieces, and
-  /// chunks in list order with span, intro, outro and replacement.
+  /// chunks in list order with span, mark, intro, outro and replacement.
   pub fn check_desk(&self, expected: &DeskData) -> Result<(), String> {
     let Self { source, chunks, pieces, store } = self;
     if !holds_desk(source, chunks, pieces, store) {

@@ -199,7 +199,7 @@ fn on_desk(tries: &'static str, first: &[Call], second: &[Call]) -> Pair {
 
 /// In one list and, of two calls, across both; the other order of the lists is tried of
 /// every pair.
-fn places(fault: &[Call]) -> Vec<[Vec<Call>; 2]> {
+pub fn places(fault: &[Call]) -> Vec<[Vec<Call>; 2]> {
   let turned: Vec<Call> = fault.iter().rev().cloned().collect();
   let mut places = vec![[fault.to_vec(), Vec::new()]];
   if let [one, other] = fault {

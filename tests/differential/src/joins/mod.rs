@@ -6,6 +6,7 @@ mod bounds;
 mod broken;
 pub mod due;
 mod forms;
+mod frozen;
 mod lists;
 mod pair;
 mod random_pairs;
@@ -57,10 +58,11 @@ pub fn compare_on<C: Core + Clone>(pairs: impl Iterator<Item = Pair>, core: &mut
 }
 
 /// Every choice of refusals, every premise broken in every place and beside each other, calls
-/// that nearly touch, space that is just used up, every rule of a list broken, and the bounds
+/// on desks with frozen chunks, calls that nearly touch, space that is just used up, every rule of a list broken, and the bounds
 /// of lists.
 pub fn chosen(seed: u64) -> impl Iterator<Item = Pair> {
   let mut seeds = Random::new(seed);
-  let all = [due::all, broken::all, touching::all, space::all, forms::all, bounds::all];
+  let all =
+    [due::all, broken::all, frozen::all, touching::all, space::all, forms::all, bounds::all];
   all.into_iter().flat_map(|all| all()).map(move |pair| pair.seeded(&mut seeds))
 }

@@ -25,7 +25,7 @@ pub struct Tally {
 const NUMBERS: [u32; 6] = [ACCEPTED, NOT_WELL_FORMED, LIMIT, BAD_SHEET, NOT_APART, REFUSED_ALONE];
 
 /// The numbers that a call can get alone, whose width and positions keep the checks.
-const ALONE: [u32; 8] = [
+const ALONE: [u32; 9] = [
   NOT_UTF8,
   INSIDE_CHARACTER,
   END_BEFORE_START,
@@ -34,6 +34,7 @@ const ALONE: [u32; 8] = [
   INTO_ITSELF,
   NOT_TOGETHER,
   LIMIT,
+  FROZEN,
 ];
 
 /// The checks whose failure is 18: all but 2, which no record fails, 8 and 9.
@@ -94,6 +95,7 @@ fn accepted(pair: &Pair, answer: &Answer, reasons: &Reasons, add: &mut impl FnMu
     ("on a fresh desk", is_fresh == Some(true)),
     ("on a desk in use", is_fresh == Some(false)),
     ("on a desk made by hand", is_fresh.is_none()),
+    ("on a desk with marks", pair.desk().marks().any()),
     ("of calls in both lists", first > 0 && second > 0),
     ("of the first list alone", first > 0 && second == 0),
     ("of the second list alone", first == 0 && second > 0),

@@ -17,12 +17,27 @@ pub fn desk(random: &mut Random) -> DeskData {
 /// A desk that holds what `aim` says, or less where there is no place for it.
 pub fn make(aim: Aim, random: &mut Random) -> DeskData {
   let source = text(aim.source, random);
+  over(source, aim, random)
+}
+
+/// The same over this source.
+pub fn over(source: String, aim: Aim, random: &mut Random) -> DeskData {
   let mut chunks = cover(&source, aim.chunks, random);
   reorder(&mut chunks, random);
   let mut desk = DeskData { source, head: Vec::new(), tail: Vec::new(), chunks };
   replace(&mut desk, random);
   insert(&mut desk, aim.pieces, random);
   fill(&mut desk, aim.bytes, random);
+  desk
+}
+
+/// The desk with marks: on some chunks or on all, on one at least.
+pub fn marked(mut desk: DeskData, random: &mut Random) -> DeskData {
+  let one_in = [1, 2, 4, 8, usize::MAX][random.below(5)];
+  let one = random.below(desk.chunks.len());
+  for (place, chunk) in desk.chunks.iter_mut().enumerate() {
+    chunk.frozen = random.one_in(one_in) || place == one;
+  }
   desk
 }
 

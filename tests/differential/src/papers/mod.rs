@@ -4,6 +4,7 @@ pub mod blanks;
 mod calls;
 mod cuts;
 pub mod fixed;
+mod frozen;
 pub mod in_sheet;
 pub mod lines;
 mod positions;

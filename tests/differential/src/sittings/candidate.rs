@@ -1,11 +1,11 @@
 //! A candidate chooses actions at random, aimed at the desk as those before them leave it.
 
-use oracle::{Call, DeskData, random::Random};
+use oracle::{Call, Desk, DeskData, Limits, random::Random};
 
 use super::{
-  Action, Sitting, Written,
+  Action, Kept, Sitting, Written,
   memory::call_bytes,
-  reading::{self, Entry},
+  reading::{self, Entry, Record},
 };
 use crate::{Start, made, papers::Caller, sheets::call_changed};
 
@@ -14,22 +14,31 @@ pub struct Candidate {
   start: DeskData,
   written: Written,
   pub caller: Caller,
-  pub record: Vec<Entry>,
+  pub record: Record,
   actions: Vec<Action>,
-  random: Random,
+  pub random: Random,
 }
 
 impl Candidate {
-  /// At this desk, with these calls in the record, which may have any answers.
-  pub fn new(desk: DeskData, calls: Vec<Call>, random: &mut Random) -> Self {
+  /// At this desk, with an empty record.
+  pub fn new(desk: DeskData, random: &mut Random) -> Self {
     Self {
       caller: Caller::new(desk.clone(), random.number()),
       start: desk,
-      written: Written::calls(&calls),
-      record: calls.into_iter().map(|call| Entry { call, answer: 0 }).collect(),
+      written: Written::calls(&[]),
+      record: Record::default(),
       actions: Vec::new(),
       random: Random::new(random.number()),
     }
+  }
+
+  /// With these calls in the record, which may have any answers, and this desk kept, over
+  /// the same source.
+  pub fn with_calls(self, calls: Vec<Call>, kept: DeskData) -> Self {
+    let desk = (!calls.is_empty()).then(|| Desk::build(Limits::FULL, &kept));
+    let written = Written { kept: Kept::Desk(kept), ..Written::calls(&calls) };
+    let entries = calls.into_iter().map(|call| Entry { call, answer: 0 }).collect();
+    Self { written, record: Record { entries, kept: desk }, ..self }
   }
 
   pub fn sitting(mut self, tries: &'static str) -> Sitting {
@@ -46,7 +55,7 @@ impl Candidate {
         0..=10 => self.file_any(),
         11..=14 => self.withdraw_any(),
         15 => {
-          let count = self.record.len() as u32;
+          let count = self.record.entries.len() as u32;
           let k = [0, count + 1, count + 2, count + 0x100, u32::MAX][self.random.below(5)];
           self.withdraw(k);
         }
@@ -81,13 +90,24 @@ impl Candidate {
   }
 
   fn file_bytes(&mut self, bytes: Vec<u8>) {
-    self.caller.change(|desk| reading::file(Some(desk), Some(&mut self.record), &bytes));
+    self.change(|desk, record| reading::file(Some(desk), record, &bytes));
     self.actions.push(Action::File(bytes));
+  }
+
+  /// Changes desk and record by the reading. Over another source than the kept desk's the
+  /// record is none, most often.
+  fn change<T>(&mut self, change: impl FnOnce(&mut Desk, Option<&mut Record>) -> T) -> T {
+    let record = &mut self.record;
+    self.caller.change(|desk| {
+      let source = |desk: &Desk| desk.magic_string().source().to_string();
+      let is_of_desk = record.kept.as_ref().is_none_or(|kept| source(kept) == source(desk));
+      change(desk, is_of_desk.then_some(record))
+    })
   }
 
   /// One of the calls that are filed, often the first or the last.
   pub fn withdraw_any(&mut self) {
-    let count = self.record.len();
+    let count = self.record.entries.len();
     if count > 0 {
       let any = self.random.between(1, count);
       let k = [1, count, any, any][self.random.below(4)];
@@ -95,13 +115,18 @@ impl Candidate {
     }
   }
 
-  fn withdraw(&mut self, k: u32) {
-    self.caller.change(|desk| reading::withdraw(Some(desk), Some(&mut self.record), k));
+  pub fn withdraw(&mut self, k: u32) {
+    self.change(|desk, record| reading::withdraw(Some(desk), record, k));
     self.actions.push(Action::Withdraw(k));
   }
 
+  pub fn freeze(&mut self, start: u32, end: u32) {
+    self.change(|desk, record| reading::freeze(Some(desk), record.as_deref(), start, end));
+    self.actions.push(Action::Freeze { start, end });
+  }
+
   /// A call that is not filed, an edit most often.
-  fn make_any(&mut self) {
+  pub fn make_any(&mut self) {
     let made = self.caller.call_on_desk();
     self.actions.push(Action::Make(made));
   }
@@ -112,7 +137,7 @@ impl Candidate {
   }
 
   /// Opens the same source or another, sometimes one that is refused. The record stays.
-  fn open_anew(&mut self) {
+  pub fn open_anew(&mut self) {
     let source = match self.random.below(3) {
       0 => self.caller.source(),
       1 => made::text(self.random.between(0, 24), &mut self.random).into_bytes(),

@@ -8,7 +8,7 @@ use oracle::{
 };
 
 use super::{
-  Action, HARMS, Sitting, Written,
+  Action, HARMS, KEPT_HARMS, Kept, Sitting, Written,
   memory::call_bytes,
   reading::{MOST_CALLS, MOST_TEXT},
 };
@@ -18,7 +18,7 @@ use crate::{
 };
 
 pub fn all() -> Vec<Sitting> {
-  [calls(), fields(), used(), past_bounds(), lengths(), desks()].concat()
+  [calls(), fields(), used(), past_bounds(), lengths(), kept_desks(), desks()].concat()
 }
 
 const SOURCE: &str = "aé€😀b";
@@ -56,11 +56,11 @@ fn fields() -> Vec<Sitting> {
 }
 
 /// Other counts of used bytes: each up to some more than there are, and around the ends of
-/// the calls' room and of the answers.
+/// the calls' room, of the answers and of the kept store.
 fn used() -> Vec<Sitting> {
   let right = Written::calls(&every_kind());
   let mut counts: Vec<u32> = (0..right.used + 20).collect();
-  for end in [RECORD_ANSWERS, RECORD_BYTES_LEN] {
+  for end in [RECORD_ANSWERS, KEPT_STORE, RECORD_BYTES_LEN] {
     counts.extend((end - 5..=end + 5).map(|count| count as u32));
   }
   counts.extend([0x1_0000, 0x1_0000 + right.used, 0x8000_0000 + right.used, u32::MAX]);
@@ -87,20 +87,23 @@ fn past_bounds() -> Vec<Sitting> {
     let short = vec![text(3); MOST_CALLS - 1];
     all.push(Written::calls(&[short, vec![text(sum - 3 * (MOST_CALLS - 1))]].concat()));
   }
-  // They end where the answers begin, or behind.
+  // They end where the answers begin, or the kept store, or all bytes end, or one behind.
   let front = call_bytes(&text(0)).len();
-  for end in [RECORD_ANSWERS, RECORD_ANSWERS + 1, RECORD_BYTES_LEN, RECORD_BYTES_LEN + 1] {
-    all.push(Written::calls(&[text(end - front)]));
+  for end in
+    [RECORD_ANSWERS, KEPT_STORE, RECORD_BYTES_LEN].into_iter().flat_map(|end| [end, end + 1])
+  {
+    all.push(Written::calls(&[text(end / 2 - front), text(end - end / 2 - front)]));
   }
   all.into_iter().map(|written| record("damaged records, the bounds", written)).collect()
 }
 
-/// Slices of other lengths, each alone and both.
+/// Slices of other lengths, each alone and both: those of a record without a kept desk among
+/// them.
 fn lengths() -> Vec<Sitting> {
   let [words, bytes] = [RECORD_WORDS_LEN, RECORD_BYTES_LEN];
-  let other_words = [0, words + 1, 2 * words + 1, 10_000];
+  let other_words = [0, KEPT_CHUNKS, KEPT_PIECES, words - 1, words + 1, 2 * words];
   let other_bytes =
-    [0, 1, RECORD_ANSWERS - 1, RECORD_ANSWERS, RECORD_ANSWERS + 1, bytes - 1, bytes + 1, 2 * bytes];
+    [0, 1, RECORD_ANSWERS - 1, RECORD_ANSWERS, KEPT_STORE, bytes - 1, bytes + 1, 2 * bytes];
   let mut all = Vec::new();
   for words in other_words.into_iter().chain([words]) {
     for bytes in other_bytes.into_iter().chain([bytes]) {
@@ -111,6 +114,17 @@ fn lengths() -> Vec<Sitting> {
     }
   }
   all
+}
+
+/// Kept desks that are none: beside calls, and without any, where they are not looked at.
+fn kept_desks() -> Vec<Sitting> {
+  let with = |harm| {
+    [&every_kind()[..], &[]].map(|calls| {
+      let written = Written { kept: Kept::Fresh, harm: Some(harm), ..Written::calls(calls) };
+      record("damaged records, the kept desk", written)
+    })
+  };
+  KEPT_HARMS.into_iter().flat_map(with).collect()
 }
 
 /// Memory that is no desk, beside a record that is one and one that is none.

@@ -1,11 +1,11 @@
 //! The memory of a record as it is lent, and cells beside it that are not lent.
 
-use std::ops::Range;
+use std::{fmt, ops::Range};
 
 use oracle::{Call, random::Random};
 
 use super::{Written, reading::Entry};
-use crate::{LentRecord, layout::*, sheets::fields::Record};
+use crate::{Image, LentRecord, layout::*, sheets::fields::Record};
 
 /// Cells that are lent, in the middle of others.
 #[derive(Debug, Clone, PartialEq, Eq)]
@@ -46,9 +46,10 @@ pub struct Memory {
 }
 
 impl Memory {
-  /// What is written, with zeros in all other cells, or with junk.
-  pub fn of(written: &Written, random: &mut Random) -> Self {
-    let Written { used, calls, answers, lengths: [words, bytes] } = written;
+  /// What is written, beside a desk over this source, with zeros in all other cells, or with
+  /// junk.
+  pub fn of(written: &Written, source: &str, random: &mut Random) -> Self {
+    let Written { used, calls, answers, lengths: [words, bytes], .. } = written;
     let mask = if random.one_in(3) { 0 } else { u64::MAX };
     let junk = |random: &mut Random| random.number() & mask;
     let mut memory = Self {
@@ -58,12 +59,15 @@ impl Memory {
     put(memory.words.lend(), RECORD_USED, &[*used]);
     put(memory.bytes.lend(), 0, calls);
     put(memory.bytes.lend(), RECORD_ANSWERS, answers);
+    if let Some(image) = written.kept_tables(source, random) {
+      memory.lend().keep(&image);
+    }
     memory
   }
 
   /// An empty record.
   pub fn empty(random: &mut Random) -> Self {
-    Self::of(&Written::calls(&[]), random)
+    Self::of(&Written::calls(&[]), "", random)
   }
 
   pub fn lend(&mut self) -> LentRecord<'_> {
@@ -83,23 +87,37 @@ impl Memory {
     }
   }
 
+  /// The tables of the kept desk, over this source.
+  pub fn kept(&self, source: &[u8]) -> Image {
+    let (words, bytes) = (self.words.lent(), self.bytes.lent());
+    Image {
+      source: source.to_vec(),
+      chunks: words[KEPT_CHUNKS..KEPT_PIECES].to_vec(),
+      pieces: words[KEPT_PIECES..].to_vec(),
+      store: bytes[KEPT_STORE..].to_vec(),
+    }
+  }
+
   /// What differs from the memory that is expected, if anything does.
   pub fn same_as(&self, expected: &Self) -> Result<(), String> {
     if self == expected {
       return Ok(());
     }
-    let (bytes, others) = (self.bytes.lent(), expected.bytes.lent());
-    let place = bytes.iter().zip(others).position(|(byte, other)| byte != other);
-    let used = expected.words.lent().get(RECORD_USED);
-    Err(match (self.words.lent().get(RECORD_USED), place) {
-      (word, _) if word != used => format!("the used bytes are {word:?}, not {used:?}"),
-      (_, Some(at)) => {
-        let (byte, other) = (bytes[at], others[at]);
-        format!("byte {at} of the record is {byte}, not {other}")
-      }
-      _ => "a cell beside the record changed".to_string(),
-    })
+    let word = other_cell("word", &self.words, &expected.words);
+    let byte = || other_cell("byte", &self.bytes, &expected.bytes);
+    Err(word.or_else(byte).unwrap_or_else(|| "a cell beside the record changed".to_string()))
   }
+}
+
+/// The first lent cell that is another, with what it holds and what it should.
+fn other_cell<T: fmt::Display + Copy + PartialEq>(
+  name: &str,
+  cells: &Cells<T>,
+  expected: &Cells<T>,
+) -> Option<String> {
+  let (cells, expected) = (cells.lent(), expected.lent());
+  let at = cells.iter().zip(expected).position(|(cell, other)| cell != other)?;
+  Some(format!("{name} {at} of the record is {}, not {}", cells[at], expected[at]))
 }
 
 /// Writes as many cells as there is room for.
@@ -110,6 +128,13 @@ fn put<T: Copy>(cells: &mut [T], at: usize, written: &[T]) {
 }
 
 impl LentRecord<'_> {
+  /// Puts these tables in the place of the kept desk.
+  pub fn keep(&mut self, image: &Image) {
+    put(self.words, KEPT_CHUNKS, &image.chunks);
+    put(self.words, KEPT_PIECES, &image.pieces);
+    put(self.bytes, KEPT_STORE, &image.store);
+  }
+
   /// Writes the calls one behind the other, how many bytes they have, and the answers.
   pub fn write(&mut self, record: &[Entry]) {
     let Written { used, calls, answers, .. } = Written::of(record);

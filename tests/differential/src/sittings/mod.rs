@@ -1,12 +1,13 @@
-//! Calls filed and withdrawn (document 02's L5) on a core and by a plain reading of the
-//! request: bounds, broken calls, damaged records and desks, and random sittings.
+//! Calls filed and withdrawn (document 02's L5, with the kept desk of L8) on a core and by a
+//! plain reading of the request: bounds, broken calls, damaged records and desks, and random
+//! sittings.
 
 mod bounds;
-mod candidate;
+pub mod candidate;
 mod damaged;
 pub mod due;
 mod memory;
-mod random_sittings;
+pub mod random_sittings;
 pub mod reading;
 pub mod run;
 mod shrink;
@@ -20,8 +21,10 @@ pub use memory::{Cells, Memory, call_bytes};
 use oracle::random::Random;
 pub use random_sittings::sitting as random;
 pub use sides::{Filing, Sides, Withdrawal};
-pub use sitting::{Action, HARMS, Harm, Sitting, Written};
+pub use sitting::{Action, HARMS, Harm, KEPT_HARMS, Kept, Sitting, Written, fresh};
 pub use tally::Tally;
+
+use run::{Count, run};
 
 use crate::{Core, run::Difference};
 
@@ -40,12 +43,23 @@ pub fn compare<C: Core + Clone>(core: &mut C, seed: u64, count: u64, most: Durat
   let mut tally = Tally::default();
   let chosen = chosen(&mut seeds).into_iter();
   let at_random = (0..count).map(|_| random(seeds.number()));
-  for sitting in chosen.chain(at_random.take_while(|_| began.elapsed() < most)) {
-    if let Err(found) = run::run(core, &sitting, &mut tally) {
-      return Compared { tally, different: Some(shrink::shrink(core, sitting, found)) };
+  let sittings = chosen.chain(at_random.take_while(|_| began.elapsed() < most));
+  let different = compare_on(sittings, core, &mut tally);
+  Compared { tally, different }
+}
+
+/// Compares these sittings. The smallest one found on which the sides differ, if one was.
+pub fn compare_on<C: Core + Clone>(
+  sittings: impl Iterator<Item = Sitting>,
+  core: &mut C,
+  tally: &mut impl Count,
+) -> Option<(Sitting, Difference)> {
+  for sitting in sittings {
+    if let Err(found) = run(core, &sitting, tally) {
+      return Some(shrink::shrink(core, sitting, found));
     }
   }
-  Compared { tally, different: None }
+  None
 }
 
 /// The bounds of a record, every rule broken in every place, and every choice of

@@ -1,9 +1,9 @@
 //! Random sittings, each the same for the same seed.
 
-use oracle::{Call, Desk, DeskData, Limits, random::Random};
+use oracle::{Call, DeskData, random::Random};
 
 use super::{
-  Action, HARMS, Sitting,
+  Action, HARMS, KEPT_HARMS, Sitting,
   candidate::{Candidate, is_short},
   reading::{self, MOST_CALLS, MOST_TEXT},
 };
@@ -28,19 +28,28 @@ pub fn sitting(seed: u64) -> Sitting {
 }
 
 /// A fresh desk over a source of so many bytes.
-fn fresh(source: usize, random: &mut Random) -> DeskData {
-  let source = made::text(source, random);
-  Desk::open(Limits::FULL, source.as_bytes()).expect("a source within the limits").data()
+pub fn fresh(source: usize, random: &mut Random) -> DeskData {
+  super::fresh(&made::text(source, random))
 }
 
 fn short(tries: &'static str, source: usize, random: &mut Random) -> Sitting {
-  let mut candidate = Candidate::new(fresh(source, random), Vec::new(), random);
+  let mut candidate = Candidate::new(fresh(source, random), random);
   candidate.any(random.between(1, 30));
   candidate.sitting(tries)
 }
 
-/// Any desk, and a record of calls that have nothing to do with it.
+/// Any desk, and a record of calls and of a desk that have nothing to do with it.
 fn by_hand(random: &mut Random) -> Sitting {
+  let calls = any_calls(random);
+  let desk = made::desk(random);
+  let kept = made::over(desk.source.clone(), Aim::any(random), random);
+  let mut candidate = Candidate::new(desk, random).with_calls(calls, kept);
+  candidate.any(random.between(1, 12));
+  candidate.sitting("random sittings, made by hand")
+}
+
+/// Calls on another desk, with no more text than a record has.
+pub fn any_calls(random: &mut Random) -> Vec<Call> {
   let mut other = Caller::new(made::desk(random), random.number());
   let count = [0, 1, 3, random.below(12), random.below(40)][random.below(5)];
   let mut calls: Vec<Call> = (0..count).map(|_| other.in_sheet()).collect();
@@ -49,15 +58,13 @@ fn by_hand(random: &mut Random) -> Sitting {
     text.truncate(left);
     left -= text.len();
   }
-  let mut candidate = Candidate::new(made::desk(random), calls, random);
-  candidate.any(random.between(1, 12));
-  candidate.sitting("random sittings, made by hand")
+  calls
 }
 
 /// A desk that holds as much as it may, or nearly, and calls that take it further.
 fn large(random: &mut Random) -> Sitting {
   let aim = Aim::near_limits(random);
-  let mut candidate = Candidate::new(make(aim, random), Vec::new(), random);
+  let mut candidate = Candidate::new(make(aim, random), random);
   for _ in 0..random.between(2, 10) {
     let call = match random.below(2) {
       0 => candidate.caller.to_most_chunks(),
@@ -69,18 +76,21 @@ fn large(random: &mut Random) -> Sitting {
   candidate.sitting("random sittings, large desks")
 }
 
-/// The desk or the record is none, or both: one word or byte of a record is changed.
+/// The desk or the record is none, or both: one word or byte of a record is changed, or the
+/// kept desk is harmed.
 fn damaged(random: &mut Random) -> Sitting {
   let desk = make(Aim::small(random), random);
   let mut caller = Caller::new(desk.clone(), random.number());
   let calls: Vec<Call> =
     (0..random.between(1, 8)).map(|_| caller.in_sheet()).filter(is_short).collect();
-  let mut candidate = Candidate::new(desk, calls, random);
+  let kept = made::over(desk.source.clone(), Aim::small(random), random);
+  let mut candidate = Candidate::new(desk, random).with_calls(calls, kept);
   candidate.any(4);
   let mut sitting = candidate.sitting("random sittings, damaged");
   let record = &mut sitting.record;
-  match random.below(4) {
+  match random.below(5) {
     0 => record.used = random.between(0, record.calls.len() + 20) as u32,
+    3 => record.harm = Some(KEPT_HARMS[random.below(KEPT_HARMS.len())]),
     1 | 2 if !record.calls.is_empty() => {
       let place = random.below(record.calls.len());
       record.calls[place] ^= 1 << random.below(8);
@@ -96,9 +106,9 @@ fn damaged(random: &mut Random) -> Sitting {
 
 /// As many calls as there may be, and some more, with withdrawals between them.
 fn many_calls(random: &mut Random) -> Sitting {
-  let mut candidate = Candidate::new(fresh(random.between(1, 2_000), random), Vec::new(), random);
+  let mut candidate = Candidate::new(fresh(random.between(1, 2_000), random), random);
   let mut once = 0;
-  while candidate.record.len() < MOST_CALLS {
+  while candidate.record.entries.len() < MOST_CALLS {
     candidate.file_any();
     once += 1;
     if once % 50 == 0 {
@@ -112,8 +122,8 @@ fn many_calls(random: &mut Random) -> Sitting {
 /// Up to the most chunks by moves that cut three times, and other calls there.
 fn many_chunks(random: &mut Random) -> Sitting {
   let desk = fresh(random.between(2_000, 6_000), random);
-  let mut candidate = Candidate::new(desk, Vec::new(), random);
-  while candidate.record.len() + 10 < MOST_CALLS {
+  let mut candidate = Candidate::new(desk, random);
+  while candidate.record.entries.len() + 10 < MOST_CALLS {
     let call = candidate.caller.to_most_chunks();
     candidate.file(call);
   }
@@ -124,10 +134,10 @@ fn many_chunks(random: &mut Random) -> Sitting {
 /// Texts that use up the bytes of the record, or one more; the desk's too, by edits that
 /// are not filed.
 fn many_bytes(random: &mut Random) -> Sitting {
-  let mut candidate = Candidate::new(fresh(random.between(1, 40), random), Vec::new(), random);
+  let mut candidate = Candidate::new(fresh(random.between(1, 40), random), random);
   for _ in 0..random.between(4, 30) {
     let left = match random.below(2) {
-      0 => MOST_TEXT - reading::texts(&candidate.record),
+      0 => MOST_TEXT - reading::texts(&candidate.record.entries),
       _ => candidate.caller.bytes_left(),
     };
     let call = candidate.caller.with_text_of(left);

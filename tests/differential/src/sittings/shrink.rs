@@ -1,14 +1,14 @@
 //! A smaller sitting on which the sides still differ: actions are dropped, then calls of
-//! the record at the start; texts are shortened, and the desk is made a fresh one.
+//! the record at the start; texts are shortened, and the desk and the kept one are made fresh,
+//! or simpler.
 
-use oracle::{Desk, Limits};
-
-use super::{Action, Sitting, Tally, Written, run::run};
+use super::{Action, Kept, Sitting, Tally, Written, fresh, run::run};
 use crate::{
   Core, Start,
   drop_rows::drop_rows,
   run::Difference,
   sheets::fields::{DROPS, Drop, Record, join_list, split_list},
+  shrink::simpler,
 };
 
 /// Sittings that are tried at most.
@@ -28,6 +28,7 @@ pub fn shrink<C: Core + Clone>(
     shrinker.drop_actions();
     shrinker.drop_calls();
     shrinker.shorten_texts();
+    shrinker.simplify_desk();
     if size(&shrinker.sitting) == before {
       return (shrinker.sitting, shrinker.found);
     }
@@ -63,9 +64,18 @@ impl<C: Core + Clone> Shrinker<'_, C> {
 
   fn freshen(&mut self) {
     let Start::Desk { desk, seed } = &self.sitting.start else { return };
-    let Ok(fresh) = Desk::open(Limits::FULL, desk.source.as_bytes()) else { return };
-    let start = Start::Desk { desk: fresh.data(), seed: *seed };
+    let start = Start::Desk { desk: fresh(&desk.source), seed: *seed };
     self.take(Sitting { start, ..self.sitting.clone() });
+    let record = Written { kept: Kept::Fresh, ..self.sitting.record.clone() };
+    self.take(Sitting { record, ..self.sitting.clone() });
+  }
+
+  fn simplify_desk(&mut self) {
+    let Start::Desk { desk, seed } = self.sitting.start.clone() else { return };
+    simpler(desk, |desk| {
+      let start = Start::Desk { desk: desk.clone(), seed };
+      self.take(Sitting { start, ..self.sitting.clone() })
+    });
   }
 
   fn drop_actions(&mut self) {
@@ -130,7 +140,8 @@ fn calls(record: &Written) -> Vec<Record> {
 
 /// The record with these calls.
 fn written(record: &Written, calls: &[Record]) -> Written {
-  Written { lengths: record.lengths, ..Written::bytes(join_list(calls)) }
+  let calls = join_list(calls);
+  Written { used: calls.len() as u32, calls, ..record.clone() }
 }
 
 /// The actions with the number of each withdrawal lowered by so much, where it is above.

@@ -1,19 +1,18 @@
-//! A call filed or withdrawn on both sides, and everything that must agree after it.
+//! A call filed or withdrawn, or a freezing beside a record, on both sides, and everything
+//! that must agree after it.
 
-use oracle::{Answer as Expected, random::Random};
+use oracle::{Answer as Expected, Call, Desk, random::Random};
 
 use super::{
   memory::{Cells, Memory},
-  reading::{self, Entry},
+  reading::{self, Entry, Record},
 };
 use crate::{Answer, Core, Image, Made, Met, keeps, step::Both, step::check_answer};
 
-/// The desk and the record, each as the reading has it and as the core's memory.
+/// The desk as the reading has it and as the core's memory, and the record's memory.
 #[derive(Debug, Clone)]
 pub struct Sides {
   desk: Both,
-  /// None where the memory is not well formed.
-  record: Option<Vec<Entry>>,
   memory: Memory,
   /// Whether the answers in the record are what its calls got: of one that was made by
   /// hand they are not.
@@ -29,19 +28,45 @@ pub struct Filing {
 }
 
 /// What is counted of a withdrawal: of the later calls, how many went from accepted to
-/// refused, and back.
+/// refused, and back; whether the kept desk was not fresh, and whether edits were lost, which
+/// neither it nor the filed calls have.
 #[derive(Debug, Clone, Copy, PartialEq, Eq)]
 pub struct Withdrawal {
   pub number: u32,
   pub to_refused: u64,
   pub to_accepted: u64,
+  pub of_desk_in_use: bool,
+  pub loses_edits: bool,
+}
+
+/// What stood in the record's memory, and the record that it was: none where it was not well
+/// formed.
+struct Before {
+  memory: Memory,
+  record: Option<Record>,
 }
 
 impl Sides {
   pub fn of(image: Image, memory: Memory) -> Self {
-    let record = reading::read(memory.words.lent(), memory.bytes.lent());
-    let is_answered = record.as_ref().is_some_and(Vec::is_empty);
-    Self { desk: Both::of_any(image), record, memory, is_answered }
+    let mut sides = Self { desk: Both::of_any(image), memory, is_answered: false };
+    sides.is_answered = sides.record().is_some_and(|record| record.entries.is_empty());
+    sides
+  }
+
+  /// The desk; none where the memory is not well formed.
+  pub fn desk(&self) -> Option<&Desk> {
+    self.desk.desk.as_ref()
+  }
+
+  /// The desk's memory, and the record's.
+  pub fn memory(&self) -> (&Image, &Memory) {
+    (&self.desk.image, &self.memory)
+  }
+
+  /// The record; none where its memory is not well formed beside the lent source.
+  pub fn record(&self) -> Option<Record> {
+    let Self { desk, memory, .. } = self;
+    reading::read(&desk.image.source, memory.words.lent(), memory.bytes.lent())
   }
 
   /// The core takes the desk's memory for what it is.
@@ -62,74 +87,126 @@ impl Sides {
     call: &[u8],
     random: &mut Random,
   ) -> Result<Option<Filing>, String> {
-    let (before, count) = self.begin();
+    let Before { memory, mut record } = self.begin();
+    let count = count(&record);
     let lent = Cells::of(call, random, |random| random.number() as u8);
     let call_before = lent.clone();
     let answer = core.file(&mut self.desk.image.lend(), &mut self.memory.lend(), lent.lent());
     let Some(answer) = answer else { return Ok(None) };
-    let expected = reading::file(self.desk.desk.as_mut(), self.record.as_mut(), call);
+    let expected = reading::file(self.desk.desk.as_mut(), record.as_mut(), call);
 
-    let filed = self.record.iter().flatten().nth(count);
+    let filed = record.as_ref().and_then(|record| record.entries.get(count));
     let kept = filed.is_none_or(|entry| keeps::every_byte(&entry.call, expected.number));
     let is_filed = filed.is_some();
     if lent != call_before {
       return Err("the call changed".to_string());
     }
-    self.end(answer, &expected, kept, before, count)?;
+    self.end(answer, &expected, kept)?;
+    self.check_record(memory, count, record)?;
     Ok(Some(Filing { number: expected.number, is_filed, cuts: expected.value }))
   }
 
   /// Withdraws the k-th call. What is counted of it, none where the core withdraws no
   /// calls; or what differs.
   pub fn withdraw(&mut self, core: &mut impl Core, k: u32) -> Result<Option<Withdrawal>, String> {
-    let (before, count) = self.begin();
-    let old = self.record.clone().unwrap_or_default();
+    let Before { memory, mut record } = self.begin();
+    let old = record.clone().unwrap_or_default();
+    let desk = self.desk.desk.clone();
     let answer = core.withdraw(&mut self.desk.image.lend(), &mut self.memory.lend(), k);
     let Some(answer) = answer else { return Ok(None) };
-    let expected = reading::withdraw(self.desk.desk.as_mut(), self.record.as_mut(), k);
+    let expected = reading::withdraw(self.desk.desk.as_mut(), record.as_mut(), k);
 
     let is_done = expected.number == 0;
-    self.end(answer, &expected, !is_done, before, count)?;
+    let entries = record.as_ref().map_or(Vec::new(), |record| record.entries.clone());
+    self.end(answer, &expected, !is_done)?;
+    self.check_record(memory, old.entries.len(), record)?;
     let later = k as usize;
-    let [to_refused, to_accepted] = match &self.record {
-      Some(new) if is_done && self.is_answered => turned(&old[later..], &new[later - 1..]),
-      _ => [0, 0],
+    let [to_refused, to_accepted] = match is_done && self.is_answered {
+      true => turned(&old.entries[later..], &entries[later - 1..]),
+      false => [0, 0],
     };
     self.is_answered |= is_done;
-    Ok(Some(Withdrawal { number: expected.number, to_refused, to_accepted }))
+    Ok(Some(Withdrawal {
+      number: expected.number,
+      to_refused,
+      to_accepted,
+      of_desk_in_use: is_done && old.kept.as_ref().is_some_and(is_in_use),
+      loses_edits: is_done && desk.is_some_and(|desk| !is_given_by(&old, &desk)),
+    }))
   }
 
-  /// The record's memory and the count of its calls before what follows.
-  fn begin(&mut self) -> (Memory, usize) {
+  /// Freezes the bytes from start up to end. What the reading gives, none where the core
+  /// freezes nothing; or what differs.
+  pub fn freeze(
+    &mut self,
+    core: &mut impl Core,
+    start: u32,
+    end: u32,
+  ) -> Result<Option<Expected>, String> {
+    let Before { memory, record } = self.begin();
+    let answer = core.freeze(&mut self.desk.image.lend(), &self.memory.lend(), start, end);
+    let Some(answer) = answer else { return Ok(None) };
+    let expected = reading::freeze(self.desk.desk.as_mut(), record.as_ref(), start, end);
+    let kept = keeps::every_byte(&Call::Freeze { start, end }, expected.number);
+    self.end(answer, &expected, kept)?;
+    self.memory.same_as(&memory)?;
+    Ok(Some(expected))
+  }
+
+  fn begin(&mut self) -> Before {
     self.desk.begin();
-    (self.memory.clone(), self.record.as_ref().map_or(0, Vec::len))
+    Before { memory: self.memory.clone(), record: self.record() }
   }
 
-  /// The answer is the one expected; the desk is the reading's, or each byte of it as it
-  /// was; and so is the record.
-  fn end(
+  /// The answer is the one expected, and the desk is the reading's, or each byte of it as it
+  /// was.
+  fn end(&self, answer: Answer, expected: &Expected, kept: bool) -> Result<(), String> {
+    check_answer(answer, expected)?;
+    self.desk.end(kept)
+  }
+
+  /// The reading's record stands in the memory, where so many calls were filed before, and
+  /// every other cell is as it was, but those that a withdrawal frees: these hold anything.
+  /// Where the first call was filed, the desk that it found is kept, in rows and bytes of the
+  /// core's choice.
+  fn check_record(
     &self,
-    answer: Answer,
-    expected: &Expected,
-    kept: bool,
     before: Memory,
     count: usize,
+    record: Option<Record>,
   ) -> Result<(), String> {
-    check_answer(answer, expected)?;
-    self.desk.end(kept)?;
-    self.memory.same_as(&self.left(before, count))
-  }
-
-  /// The memory in which the reading's record stands and every other cell is as it was,
-  /// but those that a withdrawal frees: these hold anything.
-  fn left(&self, before: Memory, count: usize) -> Memory {
-    let Some(record) = &self.record else { return before };
     let mut left = before;
-    let used = left.used();
-    left.lend().write(record);
-    left.take_over(&self.memory, left.used()..used, record.len()..count);
-    left
+    if let Some(Record { entries, kept }) = record {
+      let used = left.used();
+      left.lend().write(&entries);
+      left.take_over(&self.memory, left.used()..used, entries.len()..count);
+      if let Some(kept) = kept.filter(|_| count == 0) {
+        let tables = self.memory.kept(&self.desk.image.source);
+        tables.check_desk(&kept.data()).map_err(|what| format!("kept, {what}"))?;
+        left.lend().keep(&tables);
+      }
+    }
+    self.memory.same_as(&left)
   }
+}
+
+/// How many calls are filed.
+fn count(record: &Option<Record>) -> usize {
+  record.as_ref().map_or(0, |record| record.entries.len())
+}
+
+/// Whether anything was done on the desk since it was opened.
+fn is_in_use(desk: &Desk) -> bool {
+  desk.data() != super::sitting::fresh(desk.magic_string().source())
+}
+
+/// Whether the desk is what the filed calls leave of the kept one.
+fn is_given_by(record: &Record, desk: &Desk) -> bool {
+  let mut given = record.kept.clone();
+  for entry in &record.entries {
+    given.as_mut().map(|given| oracle::apply(given, &entry.call));
+  }
+  given.is_some_and(|given| given.data() == desk.data())
 }
 
 /// How many calls were accepted and are refused now, and back.

@@ -2,13 +2,13 @@
 
 use std::fmt;
 
-use oracle::{Call, Desk, Limits, hex, random::Random};
+use oracle::{Call, Desk, DeskData, Limits, dump, hex, random::Random};
 
 use super::{
   memory::{Memory, call_bytes},
   reading::{self, Entry},
 };
-use crate::{Image, Made, Sizes, Start, layout::*, sheets::reading::records};
+use crate::{Image, Made, Sizes, Start, image::encode, layout::*};
 
 #[derive(Debug, Clone)]
 pub struct Sitting {
@@ -31,6 +31,8 @@ pub enum Action {
   Withdraw(u32),
   /// Makes a call that is not filed.
   Make(Made),
+  /// Freezes the bytes from start up to end.
+  Freeze { start: u32, end: u32 },
 }
 
 impl Action {
@@ -40,7 +42,7 @@ impl Action {
 }
 
 /// What a record's memory holds at first.
-#[derive(Debug, Clone, PartialEq, Eq)]
+#[derive(Debug, Clone)]
 pub struct Written {
   /// How many bytes are said to be used.
   pub used: u32,
@@ -48,15 +50,30 @@ pub struct Written {
   pub calls: Vec<u8>,
   /// From the answers' place on.
   pub answers: Vec<u8>,
+  pub kept: Kept,
+  /// What makes the kept desk none, if anything does.
+  pub harm: Option<Harm>,
   /// How many words and bytes are lent.
   pub lengths: [usize; 2],
 }
 
+/// What stands in the place of the kept desk.
+#[derive(Debug, Clone)]
+pub enum Kept {
+  Junk,
+  /// A fresh desk over the source of the sitting's.
+  Fresh,
+  Desk(DeskData),
+}
+
 impl Written {
-  /// These bytes, all of them used, in memory of the right lengths.
+  /// These bytes, all of them used, in memory of the right lengths; beside them a fresh desk,
+  /// or junk where there are none.
   pub fn bytes(calls: Vec<u8>) -> Self {
+    let kept = if calls.is_empty() { Kept::Junk } else { Kept::Fresh };
     let lengths = [RECORD_WORDS_LEN, RECORD_BYTES_LEN];
-    Self { used: calls.len() as u32, calls, answers: Vec::new(), lengths }
+    let used = calls.len() as u32;
+    Self { used, calls, answers: Vec::new(), kept, harm: None, lengths }
   }
 
   /// These calls, with any answers.
@@ -70,6 +87,27 @@ impl Written {
     let answers = record.iter().map(|entry| entry.answer).collect();
     Self { answers, ..Self::bytes(calls.concat()) }
   }
+}
+
+impl Written {
+  /// Memory of the kept desk, beside a desk over this source; none where there is junk.
+  pub fn kept_tables(&self, source: &str, random: &mut Random) -> Option<Image> {
+    let desk = match &self.kept {
+      Kept::Junk => return None,
+      Kept::Fresh => &fresh(source),
+      Kept::Desk(desk) => desk,
+    };
+    let mut image = encode(desk, random);
+    if let Some(Harm { harm, .. }) = self.harm {
+      harm(&mut image);
+    }
+    Some(image)
+  }
+}
+
+/// A fresh desk over the source.
+pub fn fresh(source: &str) -> DeskData {
+  Desk::open(Limits::FULL, source.as_bytes()).expect("a source within the limits").data()
 }
 
 /// A change after which memory is no desk, by its name.
@@ -88,11 +126,38 @@ pub const HARMS: [Harm; 6] = [
   Harm { name: "a longer store", harm: |image| image.store.push(0) },
 ];
 
+/// Those that a kept desk can have, whose tables have their lengths and no source.
+pub const KEPT_HARMS: [Harm; 6] = [
+  HARMS[0],
+  HARMS[1],
+  Harm { name: "a span that ends further", harm: |image| *image.word_mut(1, END) += 1 },
+  Harm { name: "more pieces than rows", harm: |image| *image.word_mut(0, OUTRO_N) = u32::MAX },
+  Harm {
+    name: "an empty replacement outside the store",
+    harm: |image| {
+      *image.word_mut(1, TEXT_AT) = STORE_BYTES as u32 + 1;
+      *image.word_mut(1, TEXT_N) = 0;
+    },
+  },
+  Harm {
+    name: "a replacement that is not UTF-8",
+    harm: |image| {
+      *image.word_mut(1, TEXT_AT) = 0;
+      *image.word_mut(1, TEXT_N) = 1;
+      image.store[0] = 0xff;
+    },
+  },
+];
+
 impl Sitting {
   /// On a fresh desk over this source.
   pub fn fresh(tries: &'static str, source: &str, record: Written, actions: Vec<Action>) -> Self {
-    let desk = Desk::open(Limits::FULL, source.as_bytes()).expect("a source within the limits");
-    let start = Start::Desk { desk: desk.data(), seed: 0 };
+    Self::on(tries, fresh(source), record, actions)
+  }
+
+  /// On this desk.
+  pub fn on(tries: &'static str, desk: DeskData, record: Written, actions: Vec<Action>) -> Self {
+    let start = Start::Desk { desk, seed: 0 };
     Self { tries, start, harm: None, record, actions, seed: 0 }
   }
 
@@ -109,7 +174,11 @@ impl Sitting {
     if let Some(Harm { harm, .. }) = self.harm {
       harm(&mut image);
     }
-    (image, Memory::of(&self.record, random))
+    (image, Memory::of(&self.record, self.source(), random))
+  }
+
+  fn source(&self) -> &str {
+    if let Start::Desk { desk, .. } = &self.start { &desk.source } else { "" }
   }
 }
 
@@ -125,30 +194,38 @@ impl fmt::Display for Sitting {
   }
 }
 
-/// The calls where the record is well formed, else its bytes.
+/// The calls where they are a record's, else its bytes; and the kept desk.
 impl fmt::Display for Written {
   fn fmt(&self, out: &mut fmt::Formatter) -> fmt::Result {
-    let memory = Memory::of(self, &mut Random::new(0));
-    if let Some(record) = reading::read(memory.words.lent(), memory.bytes.lent()) {
-      writeln!(out, "# a record of {} calls", record.len())?;
-      let mut same = record.chunk_by(|one, other| one.call == other.call);
-      return same.try_for_each(|same| writeln!(out, "#   {} times {}", same.len(), same[0].call));
+    let memory = Memory::of(self, "", &mut Random::new(0));
+    if let Some(entries) = reading::entries(memory.words.lent(), memory.bytes.lent()) {
+      writeln!(out, "# a record of {} calls", entries.len())?;
+      let mut same = entries.chunk_by(|one, other| one.call == other.call);
+      same.try_for_each(|same| writeln!(out, "#   {} times {}", same.len(), same[0].call))?;
+    } else {
+      let Written { used, calls, lengths: [words, bytes], .. } = self;
+      writeln!(out, "# no record: {words} words, {bytes} bytes, used {used}")?;
+      writeln!(out, "# {}", hex::encode(calls))?;
     }
-    let Written { used, calls, lengths: [words, bytes], .. } = self;
-    writeln!(out, "# no record: {words} words, {bytes} bytes, used {used}")?;
-    writeln!(out, "# {}", hex::encode(calls))
+    match &self.kept {
+      Kept::Junk => writeln!(out, "# no kept desk")?,
+      Kept::Fresh => writeln!(out, "# kept: a fresh desk")?,
+      Kept::Desk(desk) => writeln!(out, "# kept: {}", dump::print(desk))?,
+    }
+    self.harm.map_or(Ok(()), |Harm { name, .. }| writeln!(out, "# the kept desk is none: {name}"))
   }
 }
 
 impl fmt::Display for Action {
   fn fmt(&self, out: &mut fmt::Formatter) -> fmt::Result {
     match self {
-      Action::File(bytes) => match records(bytes).as_deref() {
-        Some([(_, call)]) => write!(out, "file {call}"),
-        _ => write!(out, "file {} (it breaks the rules)", hex::encode(bytes)),
+      Action::File(bytes) => match reading::one_call(bytes) {
+        Some(call) => write!(out, "file {call}"),
+        None => write!(out, "file {} (it breaks the rules)", hex::encode(bytes)),
       },
       Action::Withdraw(k) => write!(out, "withdraw {k}"),
       Action::Make(Made { call, .. }) => write!(out, "{call}"),
+      Action::Freeze { start, end } => write!(out, "freeze {start} {end}, beside the record"),
     }
   }
 }

@@ -83,6 +83,9 @@ pub const FAULTS: &[Fault] = &[
   ("a move into itself is not a refusal", |rules| {
     rules.alone = |desk, calls| refused_with(desk, &calls.concat(), |number| number != 8);
   }),
+  ("a frozen chunk is not a refusal", |rules| {
+    rules.alone = |desk, calls| refused_with(desk, &calls.concat(), |number| number != 20);
+  }),
   ("a move whose end comes first is not a refusal", |rules| {
     rules.alone = |desk, calls| refused_with(desk, &calls.concat(), |number| number != 4);
   }),

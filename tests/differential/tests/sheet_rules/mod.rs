@@ -9,7 +9,7 @@ use std::array;
 use differential::{
   Answer, Core, Lent, LentRecord, Unseen, cores::StandIn, image, layout::*, well_formed,
 };
-use oracle::{Call, Desk, Limits, SETTINGS, apply, random::Random};
+use oracle::{Call, Desk, DeskData, Limits, SETTINGS, apply, random::Random};
 
 /// The rules of a sheet and of its run.
 #[derive(Clone)]
@@ -70,7 +70,11 @@ pub fn fresh(source: &[u8]) -> Option<Desk> {
 
 /// Lays the desk out in the lent tables.
 pub fn put(desk: &Desk, lent: &mut Lent) {
-  let image = image::encode(&desk.data(), &mut Random::new(1));
+  put_data(&desk.data(), lent);
+}
+
+pub fn put_data(desk: &DeskData, lent: &mut Lent) {
+  let image = image::encode(desk, &mut Random::new(1));
   lent.chunks.copy_from_slice(&image.chunks);
   lent.pieces.copy_from_slice(&image.pieces);
   lent.store.copy_from_slice(&image.store);
@@ -196,9 +200,12 @@ impl Rules {
   }
 }
 
-/// What rules that can be changed make of the calls that the Rust does not have; of the
-/// others nothing.
+/// What rules that can be changed make of calls; of the others nothing.
 pub trait Reading {
+  fn call(&mut self, _lent: &mut Lent, _call: &Call) -> Option<Answer> {
+    None
+  }
+
   fn run_sheet(&mut self, _lent: &mut Lent, _answers: &mut [u8]) -> Option<Answer> {
     None
   }
@@ -208,6 +215,10 @@ pub trait Reading {
   }
 
   fn withdraw(&mut self, _lent: &mut Lent, _record: &mut LentRecord, _k: u32) -> Option<Answer> {
+    None
+  }
+
+  fn freeze(&mut self, _lent: &mut Lent, _record: &LentRecord, _range: [u32; 2]) -> Option<Answer> {
     None
   }
 
@@ -235,7 +246,8 @@ impl<R: Reading> Core for Wrong<R> {
   }
 
   fn call(&mut self, lent: &mut Lent, call: &Call, unseen: &Unseen, out: &mut [u8]) -> Answer {
-    self.right.call(lent, call, unseen, out)
+    let answer = self.rules.call(lent, call);
+    answer.unwrap_or_else(|| self.right.call(lent, call, unseen, out))
   }
 
   fn well_formed(&mut self, lent: &Lent) -> Answer {
@@ -252,6 +264,16 @@ impl<R: Reading> Core for Wrong<R> {
 
   fn withdraw(&mut self, lent: &mut Lent, record: &mut LentRecord, k: u32) -> Option<Answer> {
     self.rules.withdraw(lent, record, k)
+  }
+
+  fn freeze(
+    &mut self,
+    lent: &mut Lent,
+    record: &LentRecord,
+    start: u32,
+    end: u32,
+  ) -> Option<Answer> {
+    self.rules.freeze(lent, record, [start, end])
   }
 
   fn join(&mut self, lent: &mut Lent, first: &[u8], second: &[u8]) -> Option<Answer> {

@@ -4,7 +4,7 @@ use differential::layout::*;
 use oracle::apply;
 
 use super::Fault;
-use crate::sitting_rules::{put_all, put_bytes, put_calls, put_word};
+use crate::sitting_rules::{fresh, put_all, put_bytes, put_calls, put_word};
 
 pub const FAULTS: &[Fault] = &[
   ("a refused call is not filed", |rules| {
@@ -60,6 +60,23 @@ pub const FAULTS: &[Fault] = &[
       let given = apply(desk, call);
       apply(desk, call);
       given
+    };
+  }),
+  ("no desk is kept", |rules| rules.keep = |_, _, _| None),
+  ("the desk behind the call is kept", |rules| {
+    rules.keep = |held, _, behind| held.calls.is_empty().then(|| behind.clone());
+  }),
+  ("a fresh desk is kept", |rules| {
+    rules.keep = |held, before, _| held.calls.is_empty().then(|| fresh(before));
+  }),
+  ("each filing keeps the desk", |rules| rules.keep = |_, before, _| Some(before.clone())),
+  ("each filing lays the kept desk out anew", |rules| {
+    rules.keep = |held, before, _| held.kept.clone().or_else(|| Some(before.clone()));
+  }),
+  ("a word behind the used bytes is written", |rules| {
+    rules.put_filed = |record, before, held| {
+      put_all(record, before, held);
+      record.words[KEPT_PIECES] ^= before.calls.len() as u32;
     };
   }),
   ("the used bytes stay", |rules| {

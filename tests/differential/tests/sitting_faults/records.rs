@@ -3,7 +3,10 @@
 use differential::layout::*;
 
 use super::Fault;
-use crate::sheet_rules;
+use crate::{
+  sheet_rules,
+  sitting_rules::{kept, put_kept},
+};
 
 pub const FAULTS: &[Fault] = &[
   ("199 filed calls at most", |rules| rules.held.calls -= 1),
@@ -14,13 +17,30 @@ pub const FAULTS: &[Fault] = &[
     rules.text = |(bytes, _)| bytes.len();
   }),
   ("more words are taken", |rules| {
-    rules.lengths = |words, bytes| words > 0 && bytes == RECORD_BYTES_LEN;
+    rules.lengths = |words, bytes| words >= RECORD_WORDS_LEN && bytes == RECORD_BYTES_LEN;
   }),
   ("more bytes are taken", |rules| {
-    rules.lengths = |words, bytes| words == 1 && bytes >= RECORD_BYTES_LEN;
+    rules.lengths = |words, bytes| words == RECORD_WORDS_LEN && bytes >= RECORD_BYTES_LEN;
   }),
-  ("room for the calls is enough", |rules| {
-    rules.lengths = |words, bytes| words == 1 && bytes >= RECORD_ANSWERS;
+  ("without calls, room for calls and answers is enough", |rules| {
+    rules.lengths = |words, bytes| words >= KEPT_CHUNKS && bytes >= KEPT_STORE;
+    rules.kept = |source, record| {
+      let is_whole =
+        record.words.len() == RECORD_WORDS_LEN && record.bytes.len() == RECORD_BYTES_LEN;
+      is_whole.then(|| kept(source, record)).flatten()
+    };
+    rules.put_kept = |record, desk| {
+      if record.words.len() >= RECORD_WORDS_LEN && record.bytes.len() >= RECORD_BYTES_LEN {
+        put_kept(record, desk);
+      }
+    };
+  }),
+  ("a kept desk without calls", |rules| rules.must_keep = |_| true),
+  ("a kept desk is not looked at", |rules| {
+    rules.kept = |source, record| kept(source, record).or_else(|| sheet_rules::fresh(source));
+  }),
+  ("a kept desk with one call alone", |rules| {
+    rules.must_keep = |count| count == 1;
   }),
   ("16 bits of the used bytes", |rules| rules.used = |word| usize::from(word as u16)),
   ("a filed text that is not UTF-8", |rules| {

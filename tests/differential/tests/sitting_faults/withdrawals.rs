@@ -4,7 +4,9 @@ use differential::layout::*;
 use oracle::{Call, apply};
 
 use super::Fault;
-use crate::sitting_rules::{Rules, again, put_all, put_bytes, put_calls, put_word};
+use crate::sitting_rules::{
+  Rules, again, fresh, put_all, put_bytes, put_calls, put_kept, put_word,
+};
 
 pub const FAULTS: &[Fault] = &[
   ("calls are counted from 0", |rules| {
@@ -37,8 +39,9 @@ pub const FAULTS: &[Fault] = &[
       answers.to_vec()
     };
   }),
-  ("the calls are made on the desk as it is", |rules| rules.start = |desk| desk.clone()),
-  ("the desk stays fresh", |rules| {
+  ("the calls are made on the desk as it is", |rules| rules.start = |desk, _| desk.clone()),
+  ("the calls are made on a fresh desk", |rules| rules.start = |desk, _| fresh(desk)),
+  ("the desk stays as kept", |rules| {
     rules.again = |desk, calls, _, _| again(&mut desk.clone(), calls);
   }),
   ("calls that were refused are not made", |rules| {
@@ -151,7 +154,7 @@ pub const FAULTS: &[Fault] = &[
     rules.put_withdrawn = |record, before, held| {
       put_all(record, before, held);
       let behind = RECORD_ANSWERS + held.answers.len();
-      record.bytes[behind..].fill(0);
+      record.bytes[behind..KEPT_STORE].fill(0);
     };
   }),
   ("all bytes behind the calls become 0", |rules| {
@@ -166,6 +169,20 @@ pub const FAULTS: &[Fault] = &[
       put_all(record, before, held);
       let used: usize = before.calls.iter().map(|(bytes, _)| bytes.len()).sum();
       record.bytes[used] ^= 1;
+    };
+  }),
+  ("the kept desk is laid out anew", |rules| {
+    rules.put_withdrawn = |record, before, held| {
+      put_all(record, before, held);
+      before.kept.iter().for_each(|kept| put_kept(record, kept));
+    };
+  }),
+  ("the kept store becomes 0 with the last call", |rules| {
+    rules.put_withdrawn = |record, before, held| {
+      put_all(record, before, held);
+      if held.calls.is_empty() {
+        record.bytes[KEPT_STORE..].fill(0);
+      }
     };
   }),
   ("the record is emptied", |rules| {

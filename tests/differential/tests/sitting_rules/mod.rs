@@ -1,8 +1,11 @@
 //! A second reading of records of filed calls, each field at its place, by rules that can
 //! be changed one by one: what a core answers that files and withdraws by it.
 
-use differential::{Answer, Lent, LentRecord, keeps, layout::*};
-use oracle::{Answer as Given, Call, Desk, Limits, apply};
+// Each test uses a part of it.
+#![allow(dead_code)]
+
+use differential::{Answer, Lent, LentRecord, image, keeps, layout::*, well_formed};
+use oracle::{Answer as Given, Call, Desk, Limits, apply, random::Random};
 
 use crate::sheet_rules::{self, Reading, desk, put};
 
@@ -28,11 +31,12 @@ pub struct Bounds {
 /// A call as its bytes and as it reads.
 pub type Filed = (Vec<u8>, Call);
 
-/// A record: its calls, and the answers.
+/// A record: its calls, the answers, and the kept desk, where it is looked at.
 #[derive(Debug, Clone)]
 pub struct Held {
   pub calls: Vec<Filed>,
   pub answers: Vec<u8>,
+  pub kept: Option<Desk>,
 }
 
 #[derive(Clone)]
@@ -51,6 +55,10 @@ pub struct Rules {
   pub text: fn(&Filed) -> usize,
   /// What else is asked of the memory of a record.
   pub also: fn(&LentRecord, &Held) -> bool,
+  /// Whether a record of so many calls must keep a desk.
+  pub must_keep: fn(usize) -> bool,
+  /// The kept desk, over this source; none where it is not well formed.
+  pub kept: fn(&[u8], &LentRecord) -> Option<Desk>,
   /// The call that is to be filed, out of those that were handed in.
   pub one: fn(Vec<Filed>) -> Option<Filed>,
   /// In the order in which it is tested.
@@ -59,6 +67,8 @@ pub struct Rules {
   pub files: fn(u32) -> Option<u32>,
   /// Whether one that has no room is filed all the same.
   pub files_without_room: bool,
+  /// The desk that a filing keeps, by the one before the call and the one behind it.
+  pub keep: fn(&Held, &Desk, &Desk) -> Option<Desk>,
   pub make: fn(&mut Desk, &Call) -> Given,
   /// Whether the desk is laid out anew, by whether each byte must stay.
   pub lays_out: fn(bool) -> bool,
@@ -66,8 +76,8 @@ pub struct Rules {
   pub withdraw_order: [Ground; 3],
   /// The place of the k-th of so many calls.
   pub place: fn(u32, usize) -> Option<usize>,
-  /// The desk on which a withdrawal makes the calls.
-  pub start: fn(&Desk) -> Desk,
+  /// The desk on which a withdrawal makes the calls, by the lent one and the kept one.
+  pub start: fn(&Desk, &Desk) -> Desk,
   /// Makes the calls that are left, of which the first so many stood before the one that
   /// was taken out, with the answers that they had.
   pub again: fn(&mut Desk, &[Call], &[u8], usize) -> Vec<u8>,
@@ -76,6 +86,7 @@ pub struct Rules {
   /// Writes the record that is left, in the place of the one that was there.
   pub put_filed: fn(&mut LentRecord, &Held, &Held),
   pub put_withdrawn: fn(&mut LentRecord, &Held, &Held),
+  pub put_kept: fn(&mut LentRecord, &Desk),
 }
 
 pub fn again(desk: &mut Desk, calls: &[Call]) -> Vec<u8> {
@@ -106,32 +117,48 @@ pub fn put_all(record: &mut LentRecord, _: &Held, held: &Held) {
   put_bytes(record, RECORD_ANSWERS, &held.answers);
 }
 
+pub fn put_kept(record: &mut LentRecord, desk: &Desk) {
+  record.keep(&image::encode(&desk.data(), &mut Random::new(1)));
+}
+
+/// The kept desk, each table at its place.
+pub fn kept(source: &[u8], record: &LentRecord) -> Option<Desk> {
+  let (chunks, pieces) = record.words[1..].split_at(6_156);
+  let store = &record.bytes[35_968..];
+  let holds = well_formed(source, chunks, pieces, store);
+  holds.then(|| Desk::build(Limits::FULL, &image::decode(source, chunks, pieces, store)))
+}
+
 impl Rules {
   pub fn right() -> Self {
     let bounds = Bounds { calls: 200, text: 32_768 };
     Self {
       filed: sheet_rules::Rules::right(),
       call: sheet_rules::Rules::right(),
-      lengths: |words, bytes| words == 1 && bytes == 35_968,
+      lengths: |words, bytes| words == 10_253 && bytes == 68_736,
       used: |word| word as usize,
       held: bounds,
       room: bounds,
       text: |(_, call)| call.text().map_or(0, <[u8]>::len),
       also: |_, _| true,
+      must_keep: |count| count > 0,
+      kept,
       one: |calls| calls.try_into().ok().map(|[call]: [_; 1]| call),
       file_order: [Ground::NoDesk, Ground::NoRecord, Ground::BadCall, Ground::NoRoom, Ground::Call],
       files: Some,
       files_without_room: false,
+      keep: |held, before, _| held.calls.is_empty().then(|| before.clone()),
       make: apply,
       lays_out: |kept| !kept,
       value: |given, _| given.value,
       withdraw_order: [Ground::NoDesk, Ground::NoRecord, Ground::NoSuchCall],
       place: |k, count| (k as usize).checked_sub(1).filter(|&place| place < count),
-      start: fresh,
+      start: |_, kept| kept.clone(),
       again: |desk, calls, _, _| again(desk, calls),
       withdrawn: |_, _| 0,
       put_filed: put_all,
       put_withdrawn: put_all,
+      put_kept,
     }
   }
 
@@ -140,19 +167,24 @@ impl Rules {
     calls.len() <= bounds.calls && calls.iter().map(self.text).sum::<usize>() <= bounds.text
   }
 
-  fn held(&self, record: &LentRecord) -> Option<Held> {
+  /// The record; none where it is not well formed beside a desk over this source.
+  pub fn held(&self, source: &[u8], record: &LentRecord) -> Option<Held> {
     if !(self.lengths)(record.words.len(), record.bytes.len()) {
       return None;
     }
     let used = (self.used)(record.words[RECORD_USED]);
     let calls = self.filed.list(record.bytes.get(..used)?)?;
     let answers = record.bytes.iter().skip(RECORD_ANSWERS).take(calls.len()).copied().collect();
-    let held = Held { calls, answers };
+    let kept = match (self.must_keep)(calls.len()) {
+      true => Some((self.kept)(source, record)?),
+      false => None,
+    };
+    let held = Held { calls, answers, kept };
     (self.keeps(self.held, &held.calls) && (self.also)(record, &held)).then_some(held)
   }
 
   fn file(&self, lent: &mut Lent, record: &mut LentRecord, call: &[u8]) -> Answer {
-    let (desk, held) = (desk(lent), self.held(record));
+    let (desk, held) = (desk(lent), self.held(lent.source, record));
     let call = self.call.list(call).and_then(self.one);
     let own = |(desk, call): (&Desk, &Filed)| {
       let number = (self.make)(&mut desk.clone(), &call.1).number;
@@ -176,12 +208,16 @@ impl Rules {
     let (Some(mut desk), Some(held), Some(call)) = (desk, held, call) else {
       return Answer::NO_DESK;
     };
+    let before = desk.clone();
     let given = (self.make)(&mut desk, &call.1);
     if let Some(answer) = (self.files)(given.number) {
       let mut filed = held.clone();
       filed.calls.push(call.clone());
       filed.answers.push(answer as u8);
       (self.put_filed)(record, &held, &filed);
+      if let Some(kept) = (self.keep)(&held, &before, &desk) {
+        (self.put_kept)(record, &kept);
+      }
     }
     if (self.lays_out)(keeps::every_byte(&call.1, given.number)) {
       put(&desk, lent);
@@ -190,7 +226,7 @@ impl Rules {
   }
 
   fn withdraw(&self, lent: &mut Lent, record: &mut LentRecord, k: u32) -> Answer {
-    let (desk, held) = (desk(lent), self.held(record));
+    let (desk, held) = (desk(lent), self.held(lent.source, record));
     let count = held.as_ref().map_or(usize::MAX, |held| held.calls.len());
     let place = (self.place)(k, count);
     let number = |ground: &Ground| match ground {
@@ -208,7 +244,8 @@ impl Rules {
     left.calls.remove(place);
     left.answers.remove(place);
     let calls: Vec<Call> = left.calls.iter().map(|(_, call)| call.clone()).collect();
-    let mut made = (self.start)(&desk);
+    let kept = held.kept.as_ref().unwrap_or(&desk);
+    let mut made = (self.start)(&desk, kept);
     left.answers = (self.again)(&mut made, &calls, &left.answers, place);
     (self.put_withdrawn)(record, &held, &left);
     put(&made, lent);

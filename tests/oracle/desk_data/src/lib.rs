@@ -11,11 +11,13 @@ pub struct DeskData {
   pub chunks: Vec<ChunkData>,
 }
 
-/// One chunk. `edited_content` is its replacement, if it has one.
+/// One chunk. `frozen` is its mark, which the Rust does not have (document 02, L8);
+/// `edited_content` is its replacement, if it has one.
 #[derive(Debug, Clone, Default, PartialEq, Eq)]
 pub struct ChunkData {
   pub start: u32,
   pub end: u32,
+  pub frozen: bool,
   pub intro: Vec<String>,
   pub outro: Vec<String>,
   pub edited_content: Option<String>,

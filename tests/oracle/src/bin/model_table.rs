@@ -1,17 +1,21 @@
 //! `model_table SEED COUNT`: papers of random calls, at least COUNT calls
-//! together, with the Rust's answers and the desk at the end of each, as
+//! together, with the oracle's answers and the desk at the end of each, as
 //! statements for the checker: each paper with document 01's limits and with tiny
-//! ones, under which 13 takes the place of 0, 6, 7, 9 and an update's 10. Papers
-//! with long texts are passed over: the checker computes with lists. The first line
-//! says how many edits each 13 stands for, the second how many edits report cuts, by
-//! number.
+//! ones, under which 13 takes the place of 0, 6, 7, 9 and an update's 10; some with
+//! freezings between their calls too. Papers with long texts are passed over: the
+//! checker computes with lists. The first line says how many edits each 13 stands for,
+//! the second how many edits report cuts, by number, and the third how many calls are
+//! refused with 20, by name.
 
-use std::{collections::BTreeMap, process::ExitCode};
+use std::{collections::BTreeMap, fmt, process::ExitCode};
 
-use oracle::{Call, Desk, Limits, Script, antt, apply, generate};
+use oracle::{Call, Desk, Limits, Script, antt, apply, generate, number};
 
 /// No text of a paper, and no desk, is longer than this.
 const LONGEST: usize = 160;
+
+/// One paper in so many is played with freezings too.
+const FROZEN: usize = 3;
 
 /// Limits that short papers reach: chunks, pieces, bytes.
 const TINY: [[usize; 3]; 5] = [[3, 4, 12], [1, 2, 40], [2, 1, 1], [4, 40, 6], [6, 3, 0]];
@@ -30,7 +34,7 @@ fn main() -> ExitCode {
 fn table(seed: u64, count: usize) -> String {
   let mut statements = String::new();
   let (mut papers, mut calls) = (0, 0);
-  let (mut by_13, mut with_cuts) = (Vec::new(), Vec::new());
+  let (mut by_13, mut with_cuts, mut frozen) = (Vec::new(), Vec::new(), Vec::new());
   for paper in generate::generate(seed, count * 3).chunk_by(|_, next| !is_open(next)) {
     if calls >= count {
       break;
@@ -46,23 +50,45 @@ fn table(seed: u64, count: usize) -> String {
       by_13.extend(tiny.by_13);
       with_cuts.extend(tiny.with_cuts);
     }
+    if papers % FROZEN == 0
+      && let Some(played) = played(&with_freezings(paper), Limits::FULL)
+    {
+      statements += &statement(&format!("frozen{papers}"), "full", &played.lines);
+      frozen.extend(played.frozen);
+    }
     papers += 1;
     calls += paper.len();
   }
-  let [by_13, with_cuts] = [by_13, with_cuts].map(counted);
+  let [by_13, with_cuts, frozen] = [counted(by_13), counted(with_cuts), counted(frozen)];
   format!(
     "-- {papers} papers, {calls} calls, seed {seed}; with tiny limits 13 in place of {by_13}\n\
-    -- edits that report cuts, by number: {with_cuts}\n{statements}"
+    -- edits that report cuts, by number: {with_cuts}\n\
+    -- calls that are refused with 20, by name: {frozen}\n{statements}"
   )
 }
 
-/// How often each number is there.
-fn counted(numbers: Vec<u32>) -> String {
-  let mut times = BTreeMap::<u32, usize>::new();
-  numbers.into_iter().for_each(|number| *times.entry(number).or_default() += 1);
-  let times: Vec<String> =
-    times.iter().map(|(number, times)| format!("{number}: {times}")).collect();
+/// How often each of them is there.
+fn counted<T: Ord + fmt::Display>(met: Vec<T>) -> String {
+  let mut times = BTreeMap::<T, usize>::new();
+  met.into_iter().for_each(|met| *times.entry(met).or_default() += 1);
+  let times: Vec<String> = times.iter().map(|(met, times)| format!("{met}: {times}")).collect();
   times.join(", ")
+}
+
+/// The paper with a freezing before some calls: of their ranges in turns, and of the front of
+/// these.
+fn with_freezings(paper: &[Call]) -> Vec<Call> {
+  let mut all = Vec::new();
+  for (place, call) in paper.iter().enumerate() {
+    if let [start, end, ..] = call.positions()[..]
+      && place % 3 == 1
+    {
+      let end = if place % 2 == 0 { end } else { end.min(start.saturating_add(1)) };
+      all.push(Call::Freeze { start, end });
+    }
+    all.push(call.clone());
+  }
+  all
 }
 
 fn is_open(call: &Call) -> bool {
@@ -75,18 +101,21 @@ fn statement(name: &str, limits: &str, lines: &[String]) -> String {
 }
 
 /// A paper's calls with their answers, and the desk that they leave.
+#[derive(Default)]
 struct Played {
   lines: Vec<String>,
   /// For each 13 of an edit, the number that document 01's limits give on the same desk.
   by_13: Vec<u32>,
   /// The number of each edit that reports cuts.
   with_cuts: Vec<u32>,
+  /// The name of each call that is refused with 20.
+  frozen: Vec<String>,
 }
 
 /// None for a paper with long texts, or whose opening is refused.
 fn played(paper: &[Call], limits: Limits) -> Option<Played> {
   let mut script = Script::new(limits);
-  let mut played = Played { lines: Vec::new(), by_13: Vec::new(), with_cuts: Vec::new() };
+  let mut played = Played::default();
   for call in paper.iter().filter(|call| **call != Call::Dump) {
     let before = script.desk().map(Desk::data);
     let answer = script.call(call)?;
@@ -99,6 +128,9 @@ fn played(paper: &[Call], limits: Limits) -> Option<Played> {
     }
     if call.is_edit() && answer.value > 0 {
       played.with_cuts.push(answer.number);
+    }
+    if answer.number == number::FROZEN {
+      played.frozen.extend(call.to_string().split(' ').next().map(str::to_string));
     }
     played.lines.push(antt::step(call, &answer));
   }

@@ -32,7 +32,7 @@ impl MagicString {
   /// Indents every line by [`Self::get_indent_string`].
   ///
   /// # Errors
-  /// [`Refusal::Limit`].
+  /// [`Refusal::Frozen`] if any chunk is frozen, then [`Refusal::Limit`].
   ///
   /// # Example
   /// ```
@@ -49,7 +49,8 @@ impl MagicString {
   /// chunks are passed over. An empty indentor does nothing.
   ///
   /// # Errors
-  /// [`Refusal::InsideCharacter`] for the excluded ranges, then [`Refusal::Limit`].
+  /// [`Refusal::InsideCharacter`] for the excluded ranges, then [`Refusal::Frozen`] if any
+  /// chunk is frozen, with an empty indentor too, then [`Refusal::Limit`].
   ///
   /// # Example
   /// ```

@@ -1,4 +1,5 @@
 pub mod append;
+pub mod freeze;
 pub mod indent;
 pub mod insert;
 pub mod join;
@@ -19,8 +20,8 @@ use crate::{Chunks, Refusal, ffi::Answered, layout::*, memory::Memory};
 /// A text and the edits made on it: document 01's desk.
 ///
 /// It owns its source and its tables, some 73 kB on the heap. Two are equal if
-/// they are the same desk: the same source and the same texts at the same places,
-/// wherever they lie in memory.
+/// they are the same desk: the same source, and the same texts at the same places and
+/// the same chunks frozen, wherever they lie in memory.
 #[derive(Clone)]
 pub struct MagicString {
   memory: Memory,
@@ -126,8 +127,8 @@ impl MagicString {
   /// into. It makes none where a chunk ends already, at 0, and at the end of the source or
   /// past it.
   ///
-  /// It is at most 1 for an insertion, 2 for a removal, replacement or reset, 3 for a move,
-  /// and for an indent one for each line that it indents; 0 for any other edit. It is 0
+  /// It is at most 1 for an insertion, 2 for a removal, replacement, reset or freezing, 3 for
+  /// a move, and for an indent one for each line that it indents; 0 for any other edit. It is 0
   /// after a refusal that leaves the desk as it was, and so after [`Refusal::Limit`]. Of
   /// [`Self::join`] it counts the cuts of all calls together.
   ///

@@ -6,8 +6,9 @@ impl MagicString {
   ///
   /// # Errors
   /// In this order [`Refusal::InsideCharacter`], [`Refusal::EndBeforeStart`],
-  /// [`Refusal::CutInReplacement`] (a cut at `start` stays), [`Refusal::Limit`], which
-  /// comes before 6 where the cut that would stay is one too many.
+  /// [`Refusal::CutInReplacement`] (a cut at `start` stays), [`Refusal::Frozen`] (both cuts
+  /// stay), [`Refusal::Limit`], which comes before 6 and 20 where the cuts that would stay
+  /// are too many.
   ///
   /// # Example
   /// ```

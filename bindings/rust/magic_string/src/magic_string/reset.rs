@@ -7,8 +7,8 @@ impl MagicString {
   /// # Errors
   /// In this order [`Refusal::InsideCharacter`], [`Refusal::EndBeforeStart`],
   /// [`Refusal::PastSource`], [`Refusal::CutInReplacement`] (a cut at `start` stays),
-  /// [`Refusal::Limit`], which comes before 6 where the cut that would stay is one too
-  /// many.
+  /// [`Refusal::Frozen`] (both cuts stay), [`Refusal::Limit`], which comes before 6 and 20
+  /// where the cuts that would stay are too many.
   ///
   /// # Example
   /// ```

@@ -5,7 +5,8 @@ impl MagicString {
   /// patterns are `"\\s"`, which `None` means too, and `"[\\r\\n]"`.
   ///
   /// # Errors
-  /// [`Refusal::BadOption`] for any other pattern, then [`Refusal::Limit`].
+  /// [`Refusal::BadOption`] for any other pattern, then [`Refusal::Frozen`] if any chunk is
+  /// frozen, then [`Refusal::Limit`].
   ///
   /// # Example
   /// ```
@@ -40,7 +41,7 @@ impl MagicString {
   /// Takes line ends off both ends.
   ///
   /// # Errors
-  /// [`Refusal::Limit`].
+  /// [`Refusal::Frozen`] if any chunk is frozen, then [`Refusal::Limit`].
   pub fn trim_lines(&mut self) -> Result<&mut Self, Refusal> {
     self.edit(|memory| memory.trim_lines())
   }

@@ -27,10 +27,10 @@ impl MagicString {
   /// # Errors
   /// In this order [`Refusal::InsideCharacter`], [`Refusal::ZeroWidth`],
   /// [`Refusal::EndBeforeStart`], [`Refusal::CutInReplacement`],
-  /// [`Refusal::PastSource`], [`Refusal::AcrossMovedEdge`], [`Refusal::Limit`]. After
-  /// 6, 10 and 7 the cuts that were made stay, and so do the chunks that were cleared
-  /// before 7; the limit comes before these three where the cuts that would stay are
-  /// too many.
+  /// [`Refusal::PastSource`], [`Refusal::Frozen`], [`Refusal::AcrossMovedEdge`],
+  /// [`Refusal::Limit`]. After 6, 10, 20 and 7 the cuts that were made stay, and so do the
+  /// chunks that were cleared before 7; the limit comes before these four where the cuts
+  /// that would stay are too many.
   ///
   /// # Example
   /// ```

@@ -14,14 +14,17 @@ use crate::{MagicString, Refusal, filed::Filed};
 
 /// A desk and a record of the calls that were made on it, any of which can be taken back.
 ///
-/// Only [`Self::file`] and [`Self::withdraw`] change the desk. So it is always what the
-/// filed calls leave when they are made in order on a fresh one, and their answers are
-/// those of that run.
+/// A sitting begins on a fresh desk ([`Self::open`]) or on any other one, edited and frozen
+/// as the examiner wants it (`Sitting::from(desk)`). While no call is filed it can be frozen
+/// further ([`Self::freeze`]). Else only [`Self::file`] and [`Self::withdraw`] change it. So
+/// the desk is always what the filed calls leave when they are made in order on the one
+/// before the first of them ([`Self::start`]), and their answers are those of that run.
 ///
 /// A record has at most 200 calls, and their texts at most 32,768 bytes together
 /// ([`RECORD_CALLS`](crate::layout::RECORD_CALLS),
-/// [`RECORD_TEXT`](crate::layout::RECORD_TEXT)). It takes some 36 kB on the heap beside
-/// those of the desk. Two sittings are equal if their desks and their entries are.
+/// [`RECORD_TEXT`](crate::layout::RECORD_TEXT)). It takes some 110 kB on the heap beside
+/// those of the desk. Two sittings are equal if their desks, those before the first call and
+/// their entries are.
 ///
 /// # Example
 /// A withdrawal makes the later calls anew, so their answers may change:
@@ -54,20 +57,56 @@ pub struct Sitting {
   filed: Filed,
 }
 
+/// The desk as it stands, beside an empty record. What was edited and frozen on it is not
+/// filed, and no withdrawal takes it back.
+///
+/// # Example
+/// ```
+/// use magic_string::{Call, FilingError, MagicString, Refusal, Sitting};
+///
+/// # fn main() -> Result<(), Refusal> {
+/// let mut desk = MagicString::new("timeout 30, wind north")?;
+/// desk.remove(10, 12)?.freeze(0, 10)?;
+///
+/// let mut sitting = Sitting::from(desk);
+/// let refused = sitting.file(&Call::Update { start: 8, end: 10, text: "99" }).err();
+/// assert_eq!(refused, Some(FilingError::Refused(Refusal::Frozen)));
+/// sitting.withdraw(1)?;
+/// assert_eq!(sitting.desk().to_string(), "timeout 30wind north");
+/// # Ok(())
+/// # }
+/// ```
+impl From<MagicString> for Sitting {
+  fn from(desk: MagicString) -> Self {
+    Self { desk, filed: Filed::default() }
+  }
+}
+
 impl Sitting {
   /// A fresh desk over the source, and an empty record.
   ///
   /// # Errors
   /// As [`MagicString::new`].
   pub fn open(source: impl Into<String>) -> Result<Self, Refusal> {
-    Ok(Self { desk: MagicString::new(source)?, filed: Filed::default() })
+    Ok(MagicString::new(source)?.into())
   }
 
   /// The desk, for its reports. It cannot be edited here, since a withdrawal would lose an
   /// edit that is not filed; a clone of it can. Its [`cuts`](MagicString::cuts) are those
-  /// of the last [`Self::file`], and 0 after a [`Self::withdraw`].
+  /// of the last [`Self::file`] or [`Self::freeze`], and 0 after a [`Self::withdraw`].
   pub fn desk(&self) -> &MagicString {
     &self.desk
+  }
+
+  /// The desk as it stood before the first filed call, frozen chunks and all: the one from
+  /// which a withdrawal starts. If no call is filed it is the desk itself.
+  pub fn start(&self) -> MagicString {
+    if self.is_empty() {
+      return self.desk.clone();
+    }
+    let (chunks, pieces, store) = self.filed.kept();
+    let kept = MagicString::from_tables(self.desk.source(), chunks, pieces, store);
+    kept.expect("a record with calls keeps a desk over the source")
   }
 
   /// The filed calls with their answers, in order.
@@ -92,8 +131,33 @@ impl Sitting {
   }
 }
 
-/// The two calls on a record.
+/// The calls on a record.
 impl Sitting {
+  /// Freezes the source bytes from `start` up to `end`, if no call is filed: as
+  /// [`MagicString::freeze`]. `desk().cuts()` tells how many cuts it made that remain.
+  ///
+  /// # Errors
+  /// [`Refusal::Frozen`] if a call is filed, whatever the range; nothing changes then. Else
+  /// as [`MagicString::freeze`].
+  ///
+  /// # Example
+  /// ```
+  /// use magic_string::{Call, FilingError, Refusal, Sitting};
+  ///
+  /// let mut sitting = Sitting::open("abcdef").unwrap();
+  /// sitting.freeze(2, 4).unwrap().file(&Call::Remove { start: 0, end: 1 }).unwrap();
+  /// let refused = sitting.file(&Call::Remove { start: 1, end: 3 }).err();
+  /// assert_eq!(refused, Some(FilingError::Refused(Refusal::Frozen)));
+  ///
+  /// assert_eq!(sitting.freeze(4, 6).err(), Some(Refusal::Frozen));
+  /// sitting.withdraw(2).unwrap().withdraw(1).unwrap().freeze(4, 6).unwrap();
+  /// assert_eq!(sitting.desk().chunks().filter(|chunk| chunk.frozen).count(), 2);
+  /// ```
+  pub fn freeze(&mut self, start: u32, end: u32) -> Result<&mut Self, Refusal> {
+    self.desk.edit(|memory| memory.freeze(&self.filed, start, end))?;
+    Ok(self)
+  }
+
   /// Makes the call and files it behind the others with its answer, whether it was accepted
   /// or refused. `desk().cuts()` tells how many cuts it made that remain.
   ///
@@ -135,8 +199,9 @@ impl Sitting {
   }
 
   /// Takes the k-th filed call out, counted from 1 among those that are filed, and makes
-  /// the others in order on a fresh desk. They get the answers of this run: one that was
-  /// accepted may be refused now, or the other way round.
+  /// the others in order on the desk before the first of them ([`Self::start`]). They get
+  /// the answers of this run: one that was accepted may be refused now, or the other way
+  /// round.
   ///
   /// # Errors
   /// [`Refusal::NoSuchCall`] if k is 0 or above [`Self::len`]. Nothing changes then.
@@ -171,7 +236,7 @@ impl fmt::Debug for Sitting {
 
 impl PartialEq for Sitting {
   fn eq(&self, other: &Self) -> bool {
-    self.desk == other.desk && self.entries() == other.entries()
+    self.desk == other.desk && self.entries() == other.entries() && self.start() == other.start()
   }
 }
 

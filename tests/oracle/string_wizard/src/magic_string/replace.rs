@@ -53,7 +53,7 @@ impl MagicString<'static> {
 }
 
 impl MagicString<'_> {
-  /// The desk as data.
+  /// The desk as data, without marks.
   pub fn dump(&self) -> DeskData {
     DeskData {
       source: self.source.to_string(),
@@ -126,6 +126,7 @@ fn chunk_data(chunk: &Chunk) -> ChunkData {
   ChunkData {
     start: chunk.start(),
     end: chunk.end(),
+    frozen: false,
     intro: texts(&chunk.intro),
     outro: texts(&chunk.outro),
     edited_content: chunk.edited_content.as_ref().map(|text| text.to_string()),

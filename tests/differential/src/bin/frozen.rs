@@ -1,0 +1,24 @@
+//! `frozen SEED COUNT [SECONDS]`: sittings with frozen parts: every range of small desks, 20
+//! beside every other number, records and their kept desks, and COUNT random sittings, or as
+//! many as are run in SECONDS, on the core and by the plain reading. It prints how often each
+//! case was met. At the first difference it prints the smallest sitting that it finds and
+//! fails.
+
+use std::process::ExitCode;
+
+use differential::{
+  arguments::Arguments,
+  frozen::{Compared, compare},
+  program,
+};
+
+fn main() -> ExitCode {
+  program::counted("frozen", |core, Arguments { seed, count, most }| {
+    let Compared { tally, different } = compare(core, seed, count, most);
+    let found = different.map(|(sitting, found)| {
+      let head = "The smallest sitting found, which differs at its last line:";
+      format!("{head}\n\n{sitting}\n{}", found.what)
+    });
+    (Box::new(tally), found)
+  })
+}
