@@ -2,7 +2,7 @@
 ghost use mathlib.Core.Path.{_≡_};
 ghost use mathlib.Core.Bool.{true, false};
 ghost use Rattle.memory_table.specs.Order.{Linked, entryOf};
-ghost use Rattle.memory_frozen.specs.Frozen.{refuses, frozenIn};
+ghost use Rattle.memory_frozen.specs.Frozen.{refuses, frozenIn, Unmarked};
 
 // Whether the chunk of a row is frozen, and starts from a up to b or the whole desk is asked.
 fn refuses_row(c: memory_table::Row, whole: bool, a: u32, b: u32) -> bool
@@ -20,8 +20,25 @@ fn refuses_row(c: memory_table::Row, whole: bool, a: u32, b: u32) -> bool
     c.start < b
 }
 
-// Whether any chunk of the list is so.
-fn has_frozen(t: &[u32], whole: bool, a: u32, b: u32) -> bool
+// Whether some row has a mark: rows by their numbers, so that no row has to be read before the next one is known. Where none has, no walk is needed.
+fn has_mark(t: &[u32]) -> bool
+    requires { ⌜ Linked (now t) ⌝ }
+    ensures { λ r. ⌜ (r ≡ false → Unmarked (now (t .entry))) ⌝ }
+{
+    let z = memory_table::get_row(t, 0);
+    let n = memory_layout::wide(z.start);
+    let mut k: usize = 0;
+    while k < n {
+        k += 1;
+        if t[k * memory_layout::ROW + memory_layout::FROZEN] != 0 {
+            return true;
+        }
+    }
+    false
+}
+
+// Whether any chunk of the list is so, by a walk along it.
+fn find_frozen(t: &[u32], whole: bool, a: u32, b: u32) -> bool
     requires { ⌜ Linked (now t) ⌝ }
     ensures { λ r. ⌜ r ≡ frozenIn whole a b (now (t .entry)) ⌝ }
 {
@@ -36,6 +53,17 @@ fn has_frozen(t: &[u32], whole: bool, a: u32, b: u32) -> bool
         }
         cur = c.next;
         k += 1;
+    }
+    false
+}
+
+// The same, without a walk where no row has a mark.
+fn has_frozen(t: &[u32], whole: bool, a: u32, b: u32) -> bool
+    requires { ⌜ Linked (now t) ⌝ }
+    ensures { λ r. ⌜ r ≡ frozenIn whole a b (now (t .entry)) ⌝ }
+{
+    if has_mark(t) {
+        return find_frozen(t, whole, a, b);
     }
     false
 }
