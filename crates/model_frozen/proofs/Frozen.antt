@@ -39,7 +39,7 @@ use Rattle.model_preservation.proofs.Lists.{of-cond, of-option, of-guard, of-nu
 use Rattle.model_preservation.proofs.Spans.{spans-inside, covered-once}
 use Rattle.model_preservation.proofs.Relocate.{Parts, segment-parts, insert-rearranged}
 use Rattle.model_preservation.proofs.Calls.{not-refused-before, run-formed}
-use Rattle.model_frozen.specs.Frozen.{FrozenAt, Some, here, there, FrozenStays}
+use Rattle.model_frozen.specs.Frozen.{FrozenAt, Some, here, there, FrozenStays, FrozenStaysAfter}
 use Rattle.model_frozen.proofs.Kept.{covers-most, Kept, KeptIn, cuts-kept, unmarked-kept, piece-kept, freeze-kept, Free, walk-kept}
 
 -- the tests that lead to the cuts of a range
@@ -199,3 +199,7 @@ frozen-stays k e m f x replacement s =
     let r = run-formed k e m f in
     let one = covered-once (run k e m .desk .source) (run k e m .desk .chunks) (r .formed .covered) x (rw (r .source-is) (some-inside x replacement m f s)) in
     all-some x replacement (omega (arith, one)) (run-stays x replacement m v (some-all x replacement (cover-once v x) s) k e (some-marked x replacement s))
+
+pub frozen-stays-after : FrozenStaysAfter
+frozen-stays-after k [] m f x replacement s = s
+frozen-stays-after k (e ∷ L) m f x replacement s = frozen-stays-after k L (run k e m .desk) (run-formed k e m f .formed) x replacement (frozen-stays k e m f x replacement s)

@@ -9,7 +9,7 @@ use Rattle.model.specs.Chunk.{Chunk}
 use Rattle.model.specs.MagicString.{MagicString}
 use Rattle.model.specs.Limits.{Limits}
 use Rattle.model.specs.WellFormed.{covers, Formed}
-use Rattle.model.specs.Call.{Edit, run}
+use Rattle.model.specs.Call.{Edit, run, after}
 
 -- the chunk has the byte x of the source, is marked, and shows this replacement, or with none its own part of the source
 pub record FrozenAt (x : ℕ) (replacement : Option Text) (c : Chunk) : Type 0 where
@@ -26,3 +26,9 @@ abbrev pub FrozenStays : Type 0
 FrozenStays =
     (k : Limits) (e : Edit) (m : MagicString) → Formed m → (x : ℕ) (replacement : Option Text)
     → Some (FrozenAt x replacement) (m .chunks) → Some (FrozenAt x replacement) (run k e m .desk .chunks)
+
+-- so under any list of edits, as a sheet, a join or a record's run makes them
+abbrev pub FrozenStaysAfter : Type 0
+FrozenStaysAfter =
+    (k : Limits) (L : List Edit) (m : MagicString) → Formed m → (x : ℕ) (replacement : Option Text)
+    → Some (FrozenAt x replacement) (m .chunks) → Some (FrozenAt x replacement) (after k L m .chunks)
