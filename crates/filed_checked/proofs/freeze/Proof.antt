@@ -1,4 +1,5 @@
 -- `filed_checked::freeze` meets its contract.
+use native.Mathlib.Omega.{arith}
 use Rattle.check_well_formed.proofs.Told.{seen-none, seen-taken, seen-desk}
 use Rattle.filed_checked.proofs.Checked.{beside-none, beside-record, sitting-no-desk, sitting-no-record, sitting-yes, frozen-filed, frozen-edit}
 use borrow.Author.Needs.{needs}
@@ -83,7 +84,7 @@ returns-3 c =
     let a = seen .before .before .before .before .before .before .before .before .before .before .args in
     let beside = beside-record (a .source .now) (a .words .now) (a .bytes .now) (size .size .given .0 .0) (size .size .given .0 .1 .0) (size .size .given .1) (rec .record-taken .ensures) in
     let taken = seen-taken (a .source .now) (a .chunks .now) (a .pieces .now) (a .store .now) (used .used .given .0 .0) (used .used .given .1) (seen .taken .ensures) in
-    sitting-yes taken beside (frozen-filed beside (taken .well-formed) (if1 .if1 .taken) (c .refused3 .ensures))
+    sitting-yes taken beside (frozen-filed beside (taken .well-formed) (λ z. omega (arith, z, if1 .if1 .taken)) (c .refused3 .ensures))
 
 freeze-requires : tie.Need-freeze-requires
 freeze-requires c κs =
@@ -112,7 +113,7 @@ returns-4 c =
     let a = seen .before .before .before .before .before .before .before .before .before .before .args in
     let beside = beside-record (a .source .now) (a .words .now) (a .bytes .now) (size .size .given .0 .0) (size .size .given .0 .1 .0) (size .size .given .1) (rec .record-taken .ensures) in
     sitting-yes (seen-taken (a .source .now) (a .chunks .now) (a .pieces .now) (a .store .now) (used .used .given .0 .0) (used .used .given .1) (seen .taken .ensures)) beside
-    (frozen-edit beside (if1 .if1 .left) (frozen .freeze .ensures))
+    (frozen-edit beside (omega (arith, if1 .if1 .left)) (frozen .freeze .ensures))
 
 pub freeze-spec : {M : Type 1} → statement M
 freeze-spec =

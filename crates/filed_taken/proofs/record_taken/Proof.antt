@@ -1,4 +1,5 @@
 -- `filed_taken::record_taken` meets its contract.
+use native.Mathlib.Omega.{arith}
 use Rattle.check_well_formed.proofs.Told.{seen-none, seen-taken, seen-desk}
 use Rattle.filed_record.specs.Record.{keptChunks, keptPieces, keptStore, Holds}
 use Rattle.filed_taken.proofs.Judging.{held-none, held-record, says-none, says-not-kept, says-empty}
@@ -33,7 +34,7 @@ returns-2 : tie.Need-returns-2
 returns-2 c =
     let size = c .before .before .before in
     let a = size .before .before .before .before .before .before .args in
-    says-empty (a .source .now) (a .words .now) (a .bytes .now) (holds size) _ (c .if1 .taken)
+    says-empty (a .source .now) (a .words .now) (a .bytes .now) (holds size) _ (omega (arith, c .if1 .taken))
 
 kept-desk-requires : tie.Need-kept-desk-requires
 kept-desk-requires c κs = let h = holds (c .before .before .before) in (h .words, h .bytes)
@@ -52,7 +53,7 @@ returns-3 c =
     let size = if1 .before .before .before in
     let a = size .before .before .before .before .before .before .args in
     let none = seen-none (a .source .now) (keptChunks (a .words .now)) (keptPieces (a .words .now)) (keptStore (a .bytes .now)) (told .enum-told2 .given .1) (seen .kept-desk .ensures) in
-    says-not-kept (a .source .now) (a .words .now) (a .bytes .now) (holds size) (if1 .if1 .left) none
+    says-not-kept (a .source .now) (a .words .now) (a .bytes .now) (holds size) (λ z. omega (arith, z, if1 .if1 .left)) none
 
 returns-4 : tie.Need-returns-4
 returns-4 c =

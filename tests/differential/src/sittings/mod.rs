@@ -30,17 +30,29 @@ use crate::{Core, run::Difference};
 
 /// What was compared, and the smallest sitting found on which the sides differ, if one
 /// was.
-pub struct Compared {
-  pub tally: Tally,
+pub struct Compared<T = Tally> {
+  pub tally: T,
   pub different: Option<(Sitting, Difference)>,
 }
 
 /// Compares all sittings of `chosen` and then random ones: until there were so many of
 /// them, time is up, or the sides differ.
 pub fn compare<C: Core + Clone>(core: &mut C, seed: u64, count: u64, most: Duration) -> Compared {
+  compare_all(core, chosen, random, seed, count, most)
+}
+
+/// The same of sittings that are chosen, and of random ones, by these functions.
+pub fn compare_all<C: Core + Clone, T: Count + Default>(
+  core: &mut C,
+  chosen: fn(&mut Random) -> Vec<Sitting>,
+  random: fn(u64) -> Sitting,
+  seed: u64,
+  count: u64,
+  most: Duration,
+) -> Compared<T> {
   let began = Instant::now();
   let mut seeds = Random::new(seed);
-  let mut tally = Tally::default();
+  let mut tally = T::default();
   let chosen = chosen(&mut seeds).into_iter();
   let at_random = (0..count).map(|_| random(seeds.number()));
   let sittings = chosen.chain(at_random.take_while(|_| began.elapsed() < most));
