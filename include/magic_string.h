@@ -3,14 +3,16 @@
  * A desk is four slices that the caller lends: the source, and three tables
  * whose words docs/LAYOUT.md describes. Every function takes them first, each
  * as a pointer and a length in elements, but that run_sheet takes a sheet in
- * the place of the source. It works on any content and any length, always
- * returns, and keeps nothing. Pointers are not null and are valid for their
- * lengths, a slice of length 0 too: pass the address of any object of the
- * element's type. A slice that is written lies apart from the others, and
- * nothing else writes any of them during the call.
+ * the place of the source, and the calls on marks and entries a record in the
+ * place of the tables. It works on any content and any length, always returns,
+ * and keeps nothing. Pointers are not null and are valid for their lengths, a
+ * slice of length 0 too: pass the address of any object of the element's type.
+ * A slice that is written lies apart from the others, and nothing else writes
+ * any of them during the call.
  *
  * A call uses no heap. Its stack, measured: an edit, a sheet, and a call on a
- * record up to 128 kB, a join up to 210 kB, the check and a report up to 20 kB.
+ * desk and a record up to 128 kB, a join up to 210 kB, the check, a report and
+ * the calls on marks and entries up to 20 kB.
  *
  * The tables do not hold the source, and nothing in them tells which it was. A
  * caller lends the same source to every call on a desk: another one of the same
@@ -32,7 +34,8 @@
  *    7 replace across a moved edge     17 no call with that number is filed
  *    8 move into itself                18 calls to be joined are not apart
  *    9 moved range not together        19 one of them is refused alone
- *   10 end past source                20 a frozen chunk, or calls are filed
+ *   10 end past source                 20 a frozen chunk, or calls are filed
+ *                                      21 marks above 100
  *
  * "Numbers" below are those that the call may give, in the order in which they
  * are tested. 13 is given if the desk that the call would leave breaks a limit,
@@ -52,10 +55,10 @@
  *    remove, update_with and reset, by file too): the tables then hold that
  *    desk, well formed, in rows and bytes of the library's choice.
  *  - A report that fills a buffer writes its text to the front of it and leaves
- *    the bytes behind; so does run_sheet with its answers. No refusal writes a
- *    buffer.
- *  - A record is written by file and withdraw alone, as they say; freeze only
- *    reads it.
+ *    the bytes behind; so do run_sheet with its answers and entry and
+ *    marked_entry with an entry. No refusal writes a buffer.
+ *  - A record is written by file, withdraw and set_marks alone, as they say;
+ *    the other calls that take one only read it.
  */
 #ifndef MAGIC_STRING_H
 #define MAGIC_STRING_H
@@ -81,17 +84,21 @@ extern "C" {
 #define MAGIC_STRING_SHEET_RECORDS 200
 #define MAGIC_STRING_SHEET_BYTES 57344
 
-/* A record of filed calls: its limits, the calls and the bytes of their texts
- * together; the most bytes of a filed call before its text; the place of the
- * word that counts the calls' bytes; and where the answers begin in its bytes,
- * behind room for the calls. */
+/* A record of filed calls: its limits, the calls, the bytes of their texts
+ * together and the marks of a call; the most bytes of a filed call before its
+ * text; the place of the word that counts the calls' bytes; and where the
+ * answers begin in its bytes, behind room for the calls, and the marks, behind
+ * room for the answers. */
 #define MAGIC_STRING_RECORD_CALLS 200
 #define MAGIC_STRING_RECORD_TEXT 32768
+#define MAGIC_STRING_HIGHEST_MARKS 100
 #define MAGIC_STRING_RECORD_FRONT 15
 #define MAGIC_STRING_RECORD_USED 0
 #define MAGIC_STRING_RECORD_ANSWERS                                            \
   (MAGIC_STRING_RECORD_CALLS * MAGIC_STRING_RECORD_FRONT +                     \
    MAGIC_STRING_RECORD_TEXT)
+#define MAGIC_STRING_RECORD_MARKS                                              \
+  (MAGIC_STRING_RECORD_ANSWERS + MAGIC_STRING_RECORD_CALLS)
 
 /* Words in a row of chunks, and in a row of pieces. */
 #define MAGIC_STRING_ROW 12
@@ -105,12 +112,12 @@ extern "C" {
 
 /* Where the desk that a record keeps begins: its chunks and its pieces in the
  * record's words, behind the first of them, and its store in the bytes, behind
- * the answers. Each is as long as the table of its name. */
+ * the marks. Each is as long as the table of its name. */
 #define MAGIC_STRING_KEPT_CHUNKS (MAGIC_STRING_RECORD_USED + 1)
 #define MAGIC_STRING_KEPT_PIECES                                               \
   (MAGIC_STRING_KEPT_CHUNKS + MAGIC_STRING_CHUNKS_LEN)
 #define MAGIC_STRING_KEPT_STORE                                                \
-  (MAGIC_STRING_RECORD_ANSWERS + MAGIC_STRING_RECORD_CALLS)
+  (MAGIC_STRING_RECORD_MARKS + MAGIC_STRING_RECORD_CALLS)
 
 /* Lengths of a lent record's words and bytes. */
 #define MAGIC_STRING_RECORD_WORDS_LEN                                          \
@@ -169,7 +176,8 @@ enum {
   MAGIC_STRING_NO_SUCH_CALL = 17,
   MAGIC_STRING_NOT_APART = 18,
   MAGIC_STRING_REFUSED_ALONE = 19,
-  MAGIC_STRING_FROZEN = 20
+  MAGIC_STRING_FROZEN = 20,
+  MAGIC_STRING_MARKS_TOO_HIGH = 21
 };
 
 /* The value is what the call reports, and 0 where it reports nothing. A refused
@@ -189,6 +197,11 @@ typedef struct magic_string_answer {
   const uint8_t *source, size_t source_len, const uint32_t *chunks,            \
       size_t chunks_len, const uint32_t *pieces, size_t pieces_len,            \
       const uint8_t *store, size_t store_len
+
+/* The source and a record, all of it only read. */
+#define MAGIC_STRING_ENTRIES                                                   \
+  const uint8_t *source, size_t source_len, const uint32_t *words,             \
+      size_t words_len, const uint8_t *bytes, size_t bytes_len
 
 /* ---- opening ---- */
 
@@ -421,7 +434,9 @@ magic_string_answer magic_string_join(MAGIC_STRING_DESK, const uint8_t *first,
  *    bytes   from 0 on the filed calls, one behind the other, each in the form
  *            of a sheet's record; from MAGIC_STRING_RECORD_ANSWERS on their
  *            answers in the same order, 0 or a refusal, one byte each; from
- *            MAGIC_STRING_KEPT_STORE on the store of the kept desk
+ *            MAGIC_STRING_RECORD_MARKS on their marks (see "marks") in the same
+ *            order, one byte each; from MAGIC_STRING_KEPT_STORE on the store of
+ *            the kept desk
  *
  * An empty record has 0 in the first word, whatever else it holds: zeroed
  * memory is one. To begin a record anew, write that 0.
@@ -429,12 +444,14 @@ magic_string_answer magic_string_join(MAGIC_STRING_DESK, const uint8_t *first,
  * A record is well formed exactly if it has these lengths, the bytes that the
  * first word counts end at MAGIC_STRING_RECORD_ANSWERS at the latest and are
  * whole records of a sheet, at most MAGIC_STRING_RECORD_CALLS, the texts of
- * these have at most MAGIC_STRING_RECORD_TEXT bytes together, and, if there are
- * any calls, the kept desk is well formed over the source that is lent beside
- * it. The answers are not looked at, nor what stands behind the filed calls,
- * nor whether a text of theirs is UTF-8, nor the kept desk of an empty record.
- * Memory of the lengths that a record had before it kept a desk, 1 word and
- * 35,968 bytes, is too short now: 2.
+ * these have at most MAGIC_STRING_RECORD_TEXT bytes together, the marks of each
+ * are at most MAGIC_STRING_HIGHEST_MARKS, and, if there are any calls, the kept
+ * desk is well formed over the source that is lent beside it. The answers are
+ * not looked at, nor what stands behind the filed calls and behind as many
+ * marks, nor whether a text of theirs is UTF-8, nor the kept desk of an empty
+ * record. Memory of the lengths that a record had before it had marks, 10,253
+ * words and 68,736 bytes, or before it kept a desk, 1 word and 35,968 bytes, is
+ * too short now: 2.
  *
  * Only file files: an edit, a join, open and run_sheet leave the record as it
  * is. What was edited or frozen before the first call is filed is part of the
@@ -447,8 +464,8 @@ magic_string_answer magic_string_join(MAGIC_STRING_DESK, const uint8_t *first,
  * edit or a join, and open or run_sheet, while calls are filed, may leave a
  * desk that is not; the next call that is withdrawn makes it so again.
  *
- * Opening anew leaves the calls filed. With another source file, withdraw and
- * freeze then give 2, where the kept desk is not well formed over it. With the
+ * Opening anew leaves the calls filed. With another source every call on the
+ * record then gives 2, where the kept desk is not well formed over it. With the
  * same one freeze gives 20 until all calls are withdrawn, and a withdrawal
  * starts from the kept desk and not from the one that was opened.
  *
@@ -468,11 +485,11 @@ magic_string_answer magic_string_join(MAGIC_STRING_DESK, const uint8_t *first,
  * tables and of the record is as it was.
  * After 0 and the function's own numbers, its 13 among them: the tables are as
  * the function leaves them, and the call is filed. Its bytes stand behind those
- * of the others, its number behind their answers, and the first word has grown
- * by call_len. With the first call the kept desk is written, in rows and bytes
- * of the library's choice. All else in the record is as it was. So the first
- * word tells the 13 of the record, after which it is as it was, from that of
- * the desk. */
+ * of the others, its number behind their answers, 0 behind their marks, and the
+ * first word has grown by call_len. With the first call the kept desk is
+ * written, in rows and bytes of the library's choice. All else in the record is
+ * as it was. So the first word tells the 13 of the record, after which it is as
+ * it was, from that of the desk. */
 magic_string_answer magic_string_file(MAGIC_STRING_DESK, uint32_t *words,
                                       size_t words_len, uint8_t *bytes,
                                       size_t bytes_len, const uint8_t *call,
@@ -486,10 +503,10 @@ magic_string_answer magic_string_file(MAGIC_STRING_DESK, uint32_t *words,
  * Numbers: 2 for a desk or record that is not well formed, 17 for a k that is 0
  * or above the count of filed calls. Value: 0.
  * After 0: the tables hold the desk that the others leave. The record has the
- * others, one behind the other, with the answers that they got now, the first
- * word counts their bytes, and the kept desk is as it was. The bytes that no
- * call and no answer has any more hold anything; those that none had before are
- * as they were.
+ * others, one behind the other, with the answers that they got now and with
+ * their own marks, the first word counts their bytes, and the kept desk is as
+ * it was. The bytes that no call, no answer and no marks have any more hold
+ * anything; those that none had before are as they were.
  * After 2 and 17: each byte of the tables and of the record is as it was. */
 magic_string_answer magic_string_withdraw(MAGIC_STRING_DESK, uint32_t *words,
                                           size_t words_len, uint8_t *bytes,
@@ -512,6 +529,59 @@ magic_string_answer magic_string_freeze(MAGIC_STRING_DESK,
                                         const uint32_t *words, size_t words_len,
                                         const uint8_t *bytes, size_t bytes_len,
                                         uint32_t start, uint32_t end);
+
+/* ---- marks: the examiner's column of a record ---- */
+
+/* Each filed call has marks, in tenths of a point, from 0 to
+ * MAGIC_STRING_HIGHEST_MARKS: 0 when it is filed, then what the examiner
+ * writes. A withdrawn call takes its marks with it. The other calls keep
+ * theirs, though their answers and their places may change.
+ *
+ * set_marks, marked_entry and total are the examiner's calls. All others here
+ * are a member's, entry among them, and they do not tell the marks. Take two
+ * memories that hold equal desks and well-formed records, with the same calls
+ * and answers and, if there are calls, equal kept desks. Under the same
+ * member's calls, with the same sources and buffers lent, each call gives the
+ * same number and value and leaves the same bytes in its buffer on both,
+ * whatever marks the two records have.
+ *
+ * That is said of the calls. The marks lie in the record's bytes: who may read
+ * that memory sees them, and who may write it can change them. Lend it to calls
+ * that are made for a member, and not to the member.
+ *
+ * The four calls below take the source and a record, and no tables. They give 2
+ * for a record that is not well formed. Of an empty one neither the kept desk
+ * nor the source is looked at. Calls are counted from 1 among those that are
+ * filed. */
+
+/* The examiner's: writes the marks of the k-th filed call, in place of those
+ * that it had.
+ * Numbers: 2, 17 for a k that is 0 or above the count of filed calls, 21 for
+ * marks above MAGIC_STRING_HIGHEST_MARKS. Value: 0.
+ * After 0: the byte at MAGIC_STRING_RECORD_MARKS + k - 1 is the marks, and all
+ * else in the record is as it was.
+ * After a refusal: each byte of the record is as it was. */
+magic_string_answer
+magic_string_set_marks(const uint8_t *source, size_t source_len,
+                       const uint32_t *words, size_t words_len, uint8_t *bytes,
+                       size_t bytes_len, uint32_t k, uint32_t marks);
+
+/* The member's reading of the k-th filed call: writes the call as it was filed,
+ * one record of a sheet, its length included, and behind it the answer, one
+ * byte.
+ * Numbers: 2, 17 for a k that is 0 or above the count of filed calls, 14.
+ * Value: how many bytes were written. */
+magic_string_answer magic_string_entry(MAGIC_STRING_ENTRIES, uint32_t k,
+                                       uint8_t *out, size_t out_len);
+
+/* The examiner's: writes what entry writes, and behind it the marks, one byte.
+ * Numbers: 2, 17, 14. Value: how many bytes were written. */
+magic_string_answer magic_string_marked_entry(MAGIC_STRING_ENTRIES, uint32_t k,
+                                              uint8_t *out, size_t out_len);
+
+/* The examiner's: the total. Value: the sum of the marks of the filed calls.
+ * Numbers: 2. */
+magic_string_answer magic_string_total(MAGIC_STRING_ENTRIES);
 
 /* ---- reports: the value is the number of bytes written ---- */
 
@@ -585,6 +655,7 @@ magic_string_answer magic_string_last_char(MAGIC_STRING_READ);
 
 #undef MAGIC_STRING_DESK
 #undef MAGIC_STRING_READ
+#undef MAGIC_STRING_ENTRIES
 
 #ifdef __cplusplus
 }

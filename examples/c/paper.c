@@ -55,7 +55,8 @@ static const char *const words[] = {
     [MAGIC_STRING_NO_SUCH_CALL] = "no call with that number is filed",
     [MAGIC_STRING_NOT_APART] = "calls to be joined are not apart",
     [MAGIC_STRING_REFUSED_ALONE] = "a call to be joined is refused alone",
-    [MAGIC_STRING_FROZEN] = "a frozen chunk, or calls are filed"};
+    [MAGIC_STRING_FROZEN] = "a frozen chunk, or calls are filed",
+    [MAGIC_STRING_MARKS_TOO_HIGH] = "marks above 100"};
 
 /* The place of a text in the script: its first byte, and the first behind. */
 static uint32_t start(const char *text) {

@@ -210,6 +210,7 @@ static uint8_t *bytes;
 
 #define RECORD                                                                 \
   words, MAGIC_STRING_RECORD_WORDS_LEN, bytes, MAGIC_STRING_RECORD_BYTES_LEN
+#define ENTRIES source, source_len, RECORD
 #define CALL(c) (const uint8_t *)(c), sizeof(c) - 1
 
 #define REMOVE_3_7 "\0\x09\x01\0\0\0\x03\0\0\0\x07"
@@ -249,16 +250,30 @@ static void lengths(const char *what, size_t words_len, size_t bytes_len) {
            magic_string_withdraw(DESK, words, words_len, bytes, bytes_len, 1));
   reported("  freeze 0,1",
            magic_string_freeze(DESK, words, words_len, bytes, bytes_len, 0, 1));
+  reported("  set_marks 1,101",
+           magic_string_set_marks(source, source_len, words, words_len, bytes,
+                                  bytes_len, 1, 101));
+  reported("  entry 1", magic_string_entry(source, source_len, words, words_len,
+                                           bytes, bytes_len, 1, OUT));
+  reported("  marked_entry 0",
+           magic_string_marked_entry(source, source_len, words, words_len,
+                                     bytes, bytes_len, 0, OUT));
+  reported("  total", magic_string_total(source, source_len, words, words_len,
+                                         bytes, bytes_len));
 }
 
-/* Tells whether all bytes behind these of the calls, and behind as many
- * answers, are still 99. */
+/* What lies in an empty record before: no marks are so high. */
+#define ANY 199
+
+/* Tells whether all bytes behind these of the calls, and behind as many answers
+ * and marks, still are so. */
 static void behind(size_t used, size_t count) {
   int same = 1;
   for (size_t i = used; i < MAGIC_STRING_RECORD_ANSWERS; i++)
-    same = same && bytes[i] == 99;
+    same = same && bytes[i] == ANY;
   for (size_t i = count; i < MAGIC_STRING_RECORD_CALLS; i++)
-    same = same && bytes[MAGIC_STRING_RECORD_ANSWERS + i] == 99;
+    same = same && bytes[MAGIC_STRING_RECORD_ANSWERS + i] == ANY &&
+           bytes[MAGIC_STRING_RECORD_MARKS + i] == ANY;
   printf("  the bytes behind %s\n", same ? "as before" : "written");
 }
 
@@ -268,7 +283,7 @@ static void records(void) {
   if (!words || !bytes)
     exit(1);
   /* An empty record: its first word is 0, whatever else it holds. */
-  memset(bytes, 99, MAGIC_STRING_RECORD_BYTES_LEN);
+  memset(bytes, ANY, MAGIC_STRING_RECORD_BYTES_LEN);
   magic_string_open(DESK);
   kept("withdraw 1 of none", magic_string_withdraw(DESK, RECORD, 1));
   kept("file remove 3,7", magic_string_file(DESK, RECORD, CALL(REMOVE_3_7)));
@@ -290,8 +305,10 @@ static void records(void) {
   lengths("file, no word", 0, MAGIC_STRING_RECORD_BYTES_LEN);
   lengths("file, a byte too few", MAGIC_STRING_RECORD_WORDS_LEN,
           MAGIC_STRING_RECORD_BYTES_LEN - 1);
-  /* A record before it kept a desk. */
-  lengths("file, without a kept desk", 1, MAGIC_STRING_KEPT_STORE);
+  /* A record before it kept a desk, and one before it had marks. */
+  lengths("file, without a kept desk", 1, MAGIC_STRING_RECORD_MARKS);
+  lengths("file, without marks", MAGIC_STRING_RECORD_WORDS_LEN,
+          MAGIC_STRING_RECORD_BYTES_LEN - MAGIC_STRING_RECORD_CALLS);
   /* An edit that is not filed, and is lost. */
   edit("append", magic_string_append(DESK, TEXT("lost")));
   kept("withdraw 1", magic_string_withdraw(DESK, RECORD, 1));
@@ -351,6 +368,76 @@ static void freezes(void) {
   kept("withdraw 1", magic_string_withdraw(DESK, RECORD, 1));
   edit("trim 0", magic_string_trim(DESK, 0));
   edit("freeze 0,1, cut at 1", magic_string_freeze(DESK, RECORD, 0, 1));
+}
+
+/* Reads the k-th entry, the examiner's way or the member's, into memory of
+ * exactly this length, which holds EE all over. Prints the answer and the
+ * memory. */
+static void read_entry(const char *call, int marked, uint32_t k,
+                       size_t length) {
+  uint8_t *read = malloc(length + !length);
+  if (!read)
+    exit(1);
+  memset(read, 0xEE, length);
+  magic_string_answer answer =
+      marked ? magic_string_marked_entry(ENTRIES, k, read, length)
+             : magic_string_entry(ENTRIES, k, read, length);
+  printf("%-28s %2u %u", call, (unsigned)answer.number, (unsigned)answer.value);
+  for (size_t i = 0; i < length; i++)
+    printf("%s%02X", i ? " " : "  ", (unsigned)read[i]);
+  putchar('\n');
+  free(read);
+}
+
+/* Every number of the examiner's calls and of the member's reading, what they
+ * write, and where marks go with withdrawals. */
+static void marks(void) {
+  words[MAGIC_STRING_RECORD_USED] = 0;
+  memset(bytes, ANY, MAGIC_STRING_RECORD_BYTES_LEN);
+  magic_string_open(DESK);
+  reported("total of none", magic_string_total(ENTRIES));
+  reported("set_marks 1,0 of none", magic_string_set_marks(ENTRIES, 1, 0));
+  magic_string_file(DESK, RECORD, CALL(REMOVE_3_7));
+  magic_string_file(DESK, RECORD, CALL(APPEND_LEFT_5));
+  magic_string_file(DESK, RECORD, CALL(REMOVE_7_3));
+  reported("total of three", magic_string_total(ENTRIES));
+  reported("set_marks 1,100", magic_string_set_marks(ENTRIES, 1, 100));
+  reported("set_marks 2,30", magic_string_set_marks(ENTRIES, 2, 30));
+  reported("set_marks 3,7", magic_string_set_marks(ENTRIES, 3, 7));
+  reported("set_marks 3,101", magic_string_set_marks(ENTRIES, 3, 101));
+  reported("set_marks 3,2^32-1",
+           magic_string_set_marks(ENTRIES, 3, UINT32_MAX));
+  reported("set_marks 0,101", magic_string_set_marks(ENTRIES, 0, 101));
+  reported("set_marks 4,101", magic_string_set_marks(ENTRIES, 4, 101));
+  behind(words[MAGIC_STRING_RECORD_USED], 3);
+  reported("total", magic_string_total(ENTRIES));
+  read_entry("entry 1", 0, 1, 12);
+  read_entry("entry 1, a byte too few", 0, 1, 11);
+  read_entry("entry 2, and 2 bytes more", 0, 2, 11);
+  read_entry("entry 0 into no byte", 0, 0, 0);
+  read_entry("marked_entry 1", 1, 1, 13);
+  read_entry("marked_entry 2", 1, 2, 10);
+  read_entry("the same, a byte too few", 1, 2, 9);
+  read_entry("marked_entry 4", 1, 4, 1);
+  kept("withdraw 2", magic_string_withdraw(DESK, RECORD, 2));
+  reported("total", magic_string_total(ENTRIES));
+  read_entry("marked_entry 2", 1, 2, 13);
+  kept("file append_left 5",
+       magic_string_file(DESK, RECORD, CALL(APPEND_LEFT_5)));
+  read_entry("marked_entry 3", 1, 3, 10);
+  bytes[MAGIC_STRING_RECORD_MARKS + 2] = 101;
+  lengths("file, marks above 100", MAGIC_STRING_RECORD_WORDS_LEN,
+          MAGIC_STRING_RECORD_BYTES_LEN);
+  bytes[MAGIC_STRING_RECORD_MARKS + 2] = 100;
+  /* Marks behind the filed calls are not looked at. */
+  bytes[MAGIC_STRING_RECORD_MARKS + 3] = 101;
+  reported("total", magic_string_total(ENTRIES));
+  /* Nor is the desk, and of an empty record the source. */
+  chunks[0] = 0;
+  reported("total beside no desk", magic_string_total(ENTRIES));
+  reported("total over 8 bytes", magic_string_total(source, 8, RECORD));
+  words[MAGIC_STRING_RECORD_USED] = 0;
+  reported("total of none", magic_string_total(source, 8, RECORD));
 }
 
 /* 13 for the record, which does not grow, and 13 for the desk. */
@@ -468,6 +555,7 @@ int main(void) {
   out_len = source_len + 16;
   records();
   freezes();
+  marks();
   limits();
   joins();
   free(source);

@@ -9,7 +9,7 @@ use Rattle.model.proofs.Lists.{sum-snoc}
 use Rattle.model_sheet.specs.Record.{Recorded, parsed}
 use Rattle.model_sheet.specs.Sheet.{call-of}
 use Rattle.model_sheet.proofs.Runs.{answer-small}
-use Rattle.model_filed.specs.Filed.{Entry, calls, with-answers, Sitting, Answered, unchanged, refused-filing, filed, file}
+use Rattle.model_filed.specs.Filed.{Entry, calls, entries-with, Sitting, Answered, unchanged, refused-filing, filed, file}
 use Rattle.model_filed.proofs.Filing.{calls-with, with-length, true-bounds, refused-0, file-refused, file-filed}
 use Rattle.memory.specs.Layout.{magicStringOf}
 use Rattle.memory.specs.WellFormed.{limitsOf, WellFormed, Taken}
@@ -20,7 +20,7 @@ use Rattle.memory_used.specs.declared.Outcome.{Outcome}
 use Rattle.memory_used.specs.Above.{Leaves}
 use Rattle.sheet_records.specs.Found.{recorded}
 use Rattle.filed_record.specs.declared.Size.{Size}
-use Rattle.filed_record.specs.Record.{answersOf, KeptTaken, Holds}
+use Rattle.filed_record.specs.Record.{answersOf, marksOf, KeptTaken, Holds}
 use Rattle.filed_record.specs.Judged.{FilesCall, RefusesCall}
 use Rattle.filed_record.specs.Promises.{Unchanged, sittingOf, KeptBehind, SameKept, Becomes, FiledOn}
 use Rattle.filed_record.proofs.Holding.{holds-entries, entries-are}
@@ -39,13 +39,13 @@ unchanged-all t p s w b = record { desk = all-same t p s; slices = record { word
 module _ {w b : List ℕ} {z : Size} (h : Holds w b z) where
   -- the entries of the record
   abbrev pub held : List Entry
-  held = with-answers (h .list) (answersOf b)
+  held = entries-with (h .list) (answersOf b) (marksOf b)
 
   pub held-calls : calls held ≡ h .list
-  held-calls = calls-with (h .list) (answersOf b)
+  held-calls = calls-with (h .list) (answersOf b) (marksOf b)
 
   pub held-count : length held ≡ z .count
-  held-count = with-length (h .list) (answersOf b) ∙ h .count
+  held-count = with-length (h .list) (answersOf b) (marksOf b) ∙ h .count
 
   -- an answer that leaves everything as it was
   pub becomes-same : {source t p s : List ℕ} → WellFormed source t p s → KeptTaken source w b held → (o : Answered) (n : ℕ) {r : Answer}
@@ -60,7 +60,7 @@ module _ {w b : List ℕ} {z : Size} (h : Holds w b z) where
         well-formed = wf;
         kept-taken = subst (KeptTaken source w b) (sym (ap (λ (a : Answered). a .left .entries) e)) kt;
         lengths = record { chunks = refl; pieces = refl; store = refl };
-        kept = record { calls = λ i _ _ _. refl; answers = λ i _ _ _. refl };
+        kept = record { calls = λ i _ _ _. refl; answers = λ i _ _ _. refl; marks = λ i _ _ _. refl };
       }
 
   pub files-refused : {source t p s call : List ℕ} {n : ℕ} → WellFormed source t p s → RefusesCall call z n → Files call source t p s w b t p s w b (record { number = n; value = 0 })
@@ -132,7 +132,7 @@ module _ {w b : List ℕ} {z : Size} (h : Holds w b z) where
               desk-is = ran .desk-is ∙ sym (ap (λ (a : Answered). a .left .desk) is);
               record-is =
                   put-entries h₁ g e same
-                  ∙ ap {B = Option (List Entry)} some (ap₂ (λ l n. l ++ (record { call = parsed call; answer = n } ∷ [])) (first-entries h f) (ran .number-is)
+                  ∙ ap {B = Option (List Entry)} some (ap₂ (λ l n. l ++ (record { call = parsed call; answer = n; marks = 0 } ∷ [])) (first-entries h f) (ran .number-is)
                   ∙ sym (ap (λ (a : Answered). a .left .entries) is));
               kept-is = same-kept-desk stays source ∙ first-desk h f source ∙ sym (ap (λ (a : Answered). a .left .kept) is);
               well-formed = ran .well-formed;

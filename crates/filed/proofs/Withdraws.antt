@@ -4,9 +4,9 @@ use mathlib.Core.Path.{_≡_, refl, sym, ap, ap₂, subst, _∙_}
 use mathlib.Core.List.{List, [], _∷_}
 use mathlib.Core.Option.{Option, some}
 use native.Mathlib.Omega.{arith}
-use lib.ListN.{length, take, drop}
+use lib.ListN.{length, take, drop, length-drop}
 use lib.Seq.{take-at}
-use Rattle.memory_layout.specs.Layout.{RECORD-ANSWERS}
+use Rattle.memory_layout.specs.Layout.{RECORD-ANSWERS, RECORD-MARKS}
 use Rattle.memory_texts.specs.Over.{over}
 use Rattle.model.specs.MagicString.{MagicString}
 use Rattle.model.specs.Limits.{Limits}
@@ -14,21 +14,21 @@ use Rattle.model.specs.Call.{after, answers}
 use Rattle.model_sheet.specs.Record.{Recorded, records}
 use Rattle.model_sheet.specs.Sheet.{calls-of}
 use Rattle.model_sheet.proofs.Runs.{answers-length}
-use Rattle.model_filed.specs.Filed.{Entry, calls, with-answers, Sitting, Answered, MOST-CALLS, without, run-anew, refused-withdrawal, withdraw}
-use Rattle.model_filed.proofs.Filing.{with-length, withdrawal-range, withdraw-refused, withdraw-done}
+use Rattle.model_filed.specs.Filed.{Entry, calls, marks-of, entries-with, Sitting, Answered, MOST-CALLS, without, run-anew, no-such-call, withdraw}
+use Rattle.model_filed.proofs.Filing.{with-length, marks-taken, found-range, withdraw-refused, withdraw-done}
 use Rattle.memory.specs.Layout.{magicStringOf}
 use Rattle.memory.specs.WellFormed.{limitsOf, Lengths, WellFormed, Taken}
 use Rattle.memory.proofs.Desks.{limits-as}
 use Rattle.sheet_records.specs.Found.{Counted}
 use Rattle.sheet_run.specs.RanAll.{RanRecords}
 use Rattle.filed_record.specs.declared.Size.{Size}
-use Rattle.filed_record.specs.Record.{keptChunks, keptPieces, keptStore, keptOf, entriesOf, KeptTaken, Holds}
-use Rattle.filed_record.specs.Judged.{RefusesWithdrawal}
+use Rattle.filed_record.specs.Record.{answersOf, marksOf, keptChunks, keptPieces, keptStore, keptOf, entriesOf, KeptTaken, Holds}
+use Rattle.filed_record.specs.Judged.{NoSuchCall}
 use Rattle.filed_record.specs.Promises.{sittingOf, KeptBehind, SameKept, WithdrawnOn}
 use Rattle.filed_record.proofs.Holding.{entries-are}
 use Rattle.filed_record.proofs.Kept.{same-kept-desk, same-kept-tables, kept-any}
 use Rattle.filed_entries.specs.Entries.{EntryOut}
-use Rattle.filed_entries.proofs.Out.{others, out-calls, out-same-kept, new-entries, new-kept, new-same-kept}
+use Rattle.filed_entries.proofs.Out.{others, marks-left, out-calls, out-same-kept, new-entries, new-kept, new-same-kept}
 use Rattle.filed_kept.specs.Kept.{PutBack}
 use Rattle.filed.specs.Done.{RunAnew, RunsAnew, Withdraws}
 use Rattle.filed.proofs.Files.{unchanged-all, held, held-calls, held-count, becomes-same}
@@ -51,8 +51,8 @@ runs-anew {source} {t} {p} {s} {a = a} {n = n} b u c x e list q =
       well-formed = y .well-formed;
     }
 
-module _ {w b : List ℕ} {z : Size} (h : Holds w b z) (k : ℕ) {n : ℕ} (j : RefusesWithdrawal k (z .count) n) where
-  refuses : refused-withdrawal k (held h) ≡ n
+module _ {w b : List ℕ} {z : Size} (h : Holds w b z) (k : ℕ) {n : ℕ} (j : NoSuchCall k (z .count) n) where
+  refuses : no-such-call k (held h) ≡ n
   refuses = j (held h) (held-count h)
 
   pub withdraws-refused : {source t p s : List ℕ} → WellFormed source t p s → (n ≡ 0 → ⊥) → Withdraws k source t p s w b t p s w b (record { number = n; value = 0 })
@@ -72,7 +72,7 @@ module _ {w b : List ℕ} {z : Size} (h : Holds w b z) (k : ℕ) {n : ℕ} (j : 
 
   module _ (done : n ≡ 0) where
     pub withdraw-range : (0 < k) × (k ≤ z .count)
-    withdraw-range = let r = withdrawal-range k (held h) (refuses ∙ done) in (r .0, omega (arith, r .1, held-count h))
+    withdraw-range = let r = found-range k (held h) (refuses ∙ done) in (r .0, omega (arith, r .1, held-count h))
 
     -- the place of the k-th call is behind k - 1 others
     pub withdraw-place : {i : ℕ} → i + 1 ≡ k → i < z .count
@@ -88,6 +88,16 @@ module _ {w b : List ℕ} {z : Size} (h : Holds w b z) (k : ℕ) {n : ℕ} (j : 
 
       others-as : others h few e ≡ left
       others-as = ap₂ (λ m l. without m l) place (sym (held-calls h))
+
+      -- and their marks
+      abbrev left-marks : List ℕ
+      left-marks = without k (marks-of (held h))
+
+      marks-as : marks-left h few e ≡ left-marks
+      marks-as =
+          ap₂ (λ m l. without m l) place
+          (ap (λ n. take n (marksOf b)) (sym (h .count))
+          ∙ sym (marks-taken (h .list) (answersOf b) (marksOf b) (omega (arith, h .count, h .few, h .bytes, length-drop RECORD-MARKS b))))
 
       -- the tables that are put back are those that were kept
       pub back-tables : {t₁ p₁ s₁ : List ℕ} → PutBack w₁ b₁ t₁ p₁ s₁ → (P : List ℕ → List ℕ → List ℕ → Type 0) → P (keptChunks w) (keptPieces w) (keptStore b) → P t₁ p₁ s₁
@@ -123,8 +133,9 @@ module _ {w b : List ℕ} {z : Size} (h : Holds w b z) (k : ℕ) {n : ℕ} (j : 
         long-answers : length (answers (limitsOf t₁ p₁ s₁) (calls-of (others h few e)) (magicStringOf source t₁ p₁ s₁)) ≡ length (others h few e)
         long-answers = answers-length (limitsOf t₁ p₁ s₁) (others h few e) (magicStringOf source t₁ p₁ s₁)
 
-        entries : entriesOf w₁ b₂ ≡ some (run-anew m start left .entries)
-        entries = new-entries h few e _ (ran .bytes-are) long-answers same ∙ ap {B = Option (List Entry)} some (ap₂ with-answers others-as numbers)
+        entries : entriesOf w₁ b₂ ≡ some (run-anew m start left left-marks .entries)
+        entries = new-entries h few e _ (ran .bytes-are) long-answers same ∙ ap {B = Option (List Entry)} some
+            (ap₂ (λ l ns. entries-with l ns (marks-left h few e)) others-as numbers ∙ ap (entries-with left (answers m (calls-of left) start)) marks-as)
 
         stays : SameKept w b w₁ b₂
         stays = new-same-kept h few e _ (ran .bytes-are) long-answers same
@@ -132,7 +143,7 @@ module _ {w b : List ℕ} {z : Size} (h : Holds w b z) (k : ℕ) {n : ℕ} (j : 
         abbrev x₀ : Sitting
         x₀ = sittingOf source t p s w b (held h)
 
-        is : withdraw m k x₀ ≡ record { number = 0; value = 0; left = run-anew m start left }
+        is : withdraw m k x₀ ≡ record { number = 0; value = 0; left = run-anew m start left left-marks }
         is = withdraw-done m k x₀ (refuses ∙ done)
 
         on : Taken source (keptChunks w) (keptPieces w) (keptStore b) → WithdrawnOn k source t p s w b t′ p′ s′ w₁ b₂ (held h) (record { number = 0; value = 0 })
@@ -149,7 +160,7 @@ module _ {w b : List ℕ} {z : Size} (h : Holds w b z) (k : ℕ) {n : ℕ} (j : 
                 lengths = lengths;
                 kept = subst (λ i. KeptBehind i (length (withdraw m k x₀ .left .entries)) w b w₁ b₂) (sym (held-count h))
                     (new-kept h few e _ (ran .bytes-are) long-answers same _
-                    (ap (λ (a : Answered). length (a .left .entries)) is ∙ with-length left (answers m (calls-of left) start) ∙ ap length (sym others-as)));
+                    (ap (λ (a : Answered). length (a .left .entries)) is ∙ with-length left (answers m (calls-of left) start) left-marks ∙ ap length (sym others-as)));
               };
               refused = λ no. absurd (no (refuses ∙ done));
               same-kept = stays;

@@ -115,7 +115,7 @@ pub fn withdraw(
     ensures { λ r. ⌜ Withdraws k (now (source .entry)) (now (chunks .entry)) (now (pieces .entry)) (now (store .entry)) (now (words .entry)) (now (bytes .entry))
         (now (chunks .exit)) (now (pieces .exit)) (now (store .exit)) (now (words .exit)) (now (bytes .exit)) r ⌝ }
 {
-    let number = filed_record::call::withdrawal_number(k, size.count);
+    let number = filed_record::call::no_such_call(k, size.count);
     if number != 0 {
         return Answer { number, value: 0 };
     }

@@ -18,19 +18,9 @@ use Rattle.filed_record.specs.declared.Size.{Size}
 use Rattle.filed_record.specs.Record.{entriesOf, KeptTaken}
 use Rattle.filed_record.specs.Promises.{Unchanged, sittingOf, Becomes, FrozenOn, OnSitting}
 use Rattle.filed_record.proofs.Holding.{entries-are, holds-some}
-use Rattle.filed_taken.specs.declared.Beside.{Beside}
-use Rattle.filed_taken.specs.declared.Beside.the-variants.{NoRecord, Record}
-use Rattle.filed_taken.specs.Beside.{RecordTaken, BesideSays}
+use Rattle.filed_taken.specs.Beside.{RecordTaken}
 use Rattle.filed_taken.proofs.Judging.{count-is, kept-for}
 use Rattle.filed.proofs.Files.{unchanged-all, becomes-same, held}
-
--- what the record's check has seen: no record, or one, its size and what its kept desk uses
-module _ (source w b : List ℕ) {r : Beside} where
-  pub beside-none : r ≡ NoRecord → BesideSays source w b r → (l : List Entry) → entriesOf w b ≡ some l → KeptTaken source w b l → ⊥
-  beside-none e h = subst (BesideSays source w b) e h
-
-  pub beside-record : (z : Size) (u : Used) → r ≡ Record z u → BesideSays source w b r → RecordTaken source w b z u
-  beside-record z u e h = subst (BesideSays source w b) e h
 
 -- a call on a desk and a record: no desk, no record, or both
 module _ {P : List Entry → Type 0} {source t p s w b : List ℕ} where
@@ -98,7 +88,7 @@ module _ {from to : ℕ} {source t p s w b : List ℕ} {z : Size} {u : Used} (h 
               well-formed = ran .well-formed;
               kept-taken = subst (KeptTaken source w b) (sym (ap (λ (a : Answered). a .left .entries) is)) tt;
               lengths = ran .lengths;
-              kept = record { calls = λ i _ _ _. refl; answers = λ i _ _ _. refl };
+              kept = record { calls = λ i _ _ _. refl; answers = λ i _ _ _. refl; marks = λ i _ _ _. refl };
             };
             filed = λ f. absurd (f refl);
             same = ran .same;

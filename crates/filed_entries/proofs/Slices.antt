@@ -5,7 +5,7 @@ use mathlib.Core.List.{List, [], _∷_, _++_}
 use native.Mathlib.Omega.{arith}
 use lib.ListN.{length, set, take, drop}
 use lib.Seq.{getD-set-same}
-use Rattle.memory_layout.specs.Layout.{RECORD-ANSWERS, RECORD-USED, KEPT-CHUNKS}
+use Rattle.memory_layout.specs.Layout.{RECORD-ANSWERS, RECORD-MARKS, RECORD-USED, KEPT-CHUNKS}
 use Rattle.memory_texts.proofs.Over.{put-back}
 use Rattle.model_sheet.specs.Record.{records}
 use Rattle.filed_record.specs.declared.Size.{Size}
@@ -22,12 +22,12 @@ module _ {w b : List ℕ} {z : Size} (h : Holds w b z) where
   pub entry-put : (call ys : List ℕ) (answer : ℕ) → z .used + length call ≤ RECORD-ANSWERS
       → ys ≡ call ++ drop (length call) (take (length b - z .used) (drop (z .used) b))
       → EntryPut call answer z w b (set w RECORD-USED (z .used + length call))
-      (set (take (z .used) b ++ (ys ++ drop (length b - z .used) (drop (z .used) b))) (RECORD-ANSWERS + z .count) answer)
+      (set (set (take (z .used) b ++ (ys ++ drop (length b - z .used) (drop (z .used) b))) (RECORD-ANSWERS + z .count) answer) (RECORD-MARKS + z .count) 0)
   entry-put call ys answer room e =
       record {
         used = getD-set-same w RECORD-USED (z .used + length call) 0 (omega (arith, h .words));
         tables = words-kept w (z .used + length call);
-        bytes = ap (λ l. set l (RECORD-ANSWERS + z .count) answer) (put-back b call call ys (z .used) (omega (arith, h .bytes)) e refl);
+        bytes = ap (λ l. set (set l (RECORD-ANSWERS + z .count) answer) (RECORD-MARKS + z .count) 0) (put-back b call call ys (z .used) (omega (arith, h .bytes)) e refl);
       }
 
   -- the calls, as a part that is lent on
@@ -37,14 +37,17 @@ module _ {w b : List ℕ} {z : Size} (h : Holds w b z) where
   pub behind-lent : (i : ℕ) → i < z .count → Behind (take (z .used - 0) b) i
   behind-lent i g = record { list = h .list; are = ap records lent-as ∙ h .are; more = omega (arith, h .count) }
 
-  pub entry-out : (i at next : ℕ) {b′ : List ℕ} → Located (take (z .used - 0) b) i at next → Closed at next (z .used) b b′
+  pub entry-out : (i at next : ℕ) {middle b′ : List ℕ} → Located (take (z .used - 0) b) i at next → Closed at next (z .used) b middle
+      → Closed (RECORD-MARKS + i) (RECORD-MARKS + (i + 1)) (RECORD-MARKS + z .count) middle b′
       → EntryOut i z w b (set w RECORD-USED (z .used - (next - at))) b′ (z .used - (next - at))
-  entry-out i at next l c =
+  entry-out i at next {middle} l c m =
       record {
         at = at;
         next = next;
         located = subst (λ s. Located s i at next) lent-as l;
+        middle = middle;
         closed = c;
+        marks = m;
         used = getD-set-same w RECORD-USED (z .used - (next - at)) 0 (omega (arith, h .words));
         tables = words-kept w (z .used - (next - at));
         left = refl;

@@ -1,5 +1,5 @@
 -- Where a call lies among those that are filed.
-use Prim.Native.Nat.{ℕ, _+_, _≤_, _<_}
+use Prim.Native.Nat.{ℕ, _+_, _-_, _≤_, _<_}
 use mathlib.Core.Path.{_≡_}
 use mathlib.Core.List.{List}
 use mathlib.Core.Option.{some}
@@ -22,9 +22,10 @@ pub record Behind (s : List ℕ) (i : ℕ) : Type 0 where
   pub are : records s ≡ some list
   pub more : i < length list
 
--- behind the first i records of s one lies from at up to next: those before it, and those behind
+-- behind the first i records of s one lies from at up to next: those before it, it, and those behind
 pub record Located (s : List ℕ) (i at next : ℕ) : Type 0 where
   pub before-it : (l : List Recorded) → records s ≡ some l → records (take at s) ≡ some (take i l)
+  pub it : (l : List Recorded) → records s ≡ some l → records (take (next - at) (drop at s)) ≡ some (take 1 (drop i l))
   pub behind-it : (l : List Recorded) → records s ≡ some l → records (drop next s) ≡ some (drop (i + 1) l)
   pub some-bytes : at < next
   pub within : next ≤ length s

@@ -1,4 +1,4 @@
-// The record of filed calls in lent memory, changed: an entry put behind the others, and one taken out (document 02, L5).
+// The record of filed calls in lent memory, changed: an entry put behind the others, and one taken out (document 02, L5 and L9).
 ghost use mathlib.Core.Path.{_≡_};
 ghost use Prim.Native.Nat.{_+_, _≤_, _<_};
 ghost use lib.ListN.{length};
@@ -10,7 +10,7 @@ use filed_record::Size;
 
 pub mod place;
 
-// Puts a call behind those of a record, and its answer behind theirs.
+// Puts a call behind those of a record, its answer behind theirs, and 0 behind their marks.
 pub fn put_entry(words: &mut [u32], bytes: &mut [u8], size: Size, call: &[u8], answer: u8)
     requires { ⌜ Holds (now words) (now bytes) size ⌝ }
     requires { ⌜ size .used + length (now call) ≤ RECORD-ANSWERS ⌝ }
@@ -19,8 +19,10 @@ pub fn put_entry(words: &mut [u32], bytes: &mut [u8], size: Size, call: &[u8], a
 {
     let used = size.used;
     let place = memory_layout::RECORD_ANSWERS + size.count;
+    let marks = memory_layout::RECORD_MARKS + size.count;
     memory_texts::put(&mut bytes[used..], call);
     bytes[place] = answer;
+    bytes[marks] = 0;
     words[memory_layout::RECORD_USED] = (used + call.len()) as u32;
 }
 
@@ -39,7 +41,7 @@ fn close_gap(bytes: &mut [u8], at: usize, next: usize, end: usize)
     }
 }
 
-// Takes out the call behind the first i, and says how many bytes the others have.
+// Takes out the call behind the first i, and its marks, and says how many bytes the other calls have.
 pub fn take_out(words: &mut [u32], bytes: &mut [u8], size: Size, i: usize) -> usize
     requires { ⌜ Holds (now words) (now bytes) size ⌝ }
     requires { ⌜ i < size .count ⌝ }
@@ -48,6 +50,8 @@ pub fn take_out(words: &mut [u32], bytes: &mut [u8], size: Size, i: usize) -> us
     let used = size.used;
     let p = place::place_of(&bytes[0..used], i);
     close_gap(bytes, p.at, p.next, used);
+    let marks = memory_layout::RECORD_MARKS;
+    close_gap(bytes, marks + i, marks + (i + 1), marks + size.count);
     let left = used - (p.next - p.at);
     words[memory_layout::RECORD_USED] = left as u32;
     left

@@ -1,4 +1,4 @@
--- Sittings of the exported functions, by their contracts: a desk stands beside a record without calls, and calls are filed and withdrawn, in any order, refused ones too. The desk is
+-- Sittings of the exported functions, by their contracts: a desk stands beside a record without calls, and calls are filed, withdrawn and given marks, in any order, refused ones too. The desk is
 -- always what the record gives when run from the desk that the sitting began on, and the answers are those of that run. proofs/Sittings.antt proves it.
 use Prim.Native.Nat.{ℕ}
 use mathlib.Core.Path.{_≡_}
@@ -12,6 +12,7 @@ use Rattle.memory.specs.WellFormed.{limitsOf, Taken}
 use Rattle.memory.specs.declared.Answer.{Answer}
 use Rattle.filed_record.specs.Record.{entriesOf, KeptTaken}
 use Rattle.filed_record.specs.Promises.{sittingOf, CallFiled, CallWithdrawn}
+use Rattle.filed_record.specs.Marks.{CallMarked}
 
 -- the slices that a sitting is lent beside the source
 pub record Lent : Type 0 where
@@ -21,7 +22,7 @@ pub record Lent : Type 0 where
   pub words : List ℕ
   pub bytes : List ℕ
 
--- one call, as the contract of its exported function has it (crates/magic_string/src/exported_filed.rt): on any memory, with its answer, and the memory after
+-- one call, as the contract of its exported function has it (crates/magic_string/src/exported_filed.rt, exported_marks.rt): on any memory, with its answer, and the memory after
 abbrev pub FileCall : List ℕ → List ℕ → Lent → Answer → Lent → Type 0
 FileCall source call M r M′ =
     CallFiled call source (M .chunks) (M .pieces) (M .store) (M .words) (M .bytes) (M′ .chunks) (M′ .pieces) (M′ .store) (M′ .words) (M′ .bytes) r
@@ -30,13 +31,22 @@ abbrev pub WithdrawCall : List ℕ → ℕ → Lent → Answer → Lent → Type
 WithdrawCall source k M r M′ =
     CallWithdrawn k source (M .chunks) (M .pieces) (M .store) (M .words) (M .bytes) (M′ .chunks) (M′ .pieces) (M′ .store) (M′ .words) (M′ .bytes) r
 
--- the memory of a sitting over a source that began on a desk, after any filings and withdrawals
+-- marks are written into the record's bytes alone
+pub record MarkCall (source : List ℕ) (k marks : ℕ) (M : Lent) (r : Answer) (M′ : Lent) : Type 0 where
+  pub called : CallMarked k marks source (M .words) (M .bytes) (M′ .bytes) r
+  pub chunks : M′ .chunks ≡ M .chunks
+  pub pieces : M′ .pieces ≡ M .pieces
+  pub store : M′ .store ≡ M .store
+  pub words : M′ .words ≡ M .words
+
+-- the memory of a sitting over a source that began on a desk, after any filings, withdrawals and markings
 pub data Sat (source : List ℕ) (start : MagicString) : Lent → Type 0 where
   -- a well-formed desk, fresh or edited and frozen before, and a record without calls, whatever it keeps
   begun : {M : Lent} → Taken source (M .chunks) (M .pieces) (M .store) → magicStringOf source (M .chunks) (M .pieces) (M .store) ≡ start
       → entriesOf (M .words) (M .bytes) ≡ some [] → Sat source start M
   filed : {M M′ : Lent} {r : Answer} (call : List ℕ) → Sat source start M → FileCall source call M r M′ → Sat source start M′
   withdrawn : {M M′ : Lent} {r : Answer} (k : ℕ) → Sat source start M → WithdrawCall source k M r M′ → Sat source start M′
+  marked : {M M′ : Lent} {r : Answer} (k marks : ℕ) → Sat source start M → MarkCall source k marks M r M′ → Sat source start M′
 
 -- it holds a well-formed desk and a well-formed record, and they agree: the desk is what the record's calls leave when they are run from the start desk, and the answers are those
 -- of that run

@@ -1,17 +1,17 @@
 -- The record as it stands once a desk is kept for its first call.
-use Prim.Native.Nat.{ℕ, _≤_, _<_}
+use Prim.Native.Nat.{ℕ, _+_, _≤_, _<_}
 use mathlib.Core.Path.{_≡_, refl, sym, ap, ap₂, subst, _∙_}
 use mathlib.Core.List.{List, [], _∷_}
 use native.Mathlib.Omega.{arith}
 use lib.ListN.{length, getD, take, drop}
 use lib.Seq.{take-take, getD-take}
-use Rattle.memory_layout.specs.Layout.{KEPT-CHUNKS, KEPT-STORE}
+use Rattle.memory_layout.specs.Layout.{RECORD-MARKS, KEPT-CHUNKS, KEPT-STORE}
 use Rattle.memory.specs.Layout.{magicStringOf}
 use Rattle.memory.specs.WellFormed.{Taken}
 use Rattle.model_sheet.specs.Record.{Recorded, records}
-use Rattle.model_filed.specs.Filed.{Entry, with-answers, before-first}
+use Rattle.model_filed.specs.Filed.{Entry, entries-with, before-first}
 use Rattle.filed_record.specs.declared.Size.{Size}
-use Rattle.filed_record.specs.Record.{usedOf, callsOf, answersOf, keptChunks, keptPieces, keptStore, keptOf, KeptTaken, Holds}
+use Rattle.filed_record.specs.Record.{usedOf, callsOf, answersOf, marksOf, keptChunks, keptPieces, keptStore, keptOf, KeptTaken, Holds}
 use Rattle.filed_record.specs.Promises.{KeptBehind, SameKept}
 use Rattle.filed_kept.specs.Kept.{KeepsFirst}
 
@@ -43,6 +43,9 @@ module _ {w b : List ℕ} {z : Size} (h : Holds w b z) {t p s w₁ b₁ : List �
   pub first-calls : callsOf w₁ b₁ ≡ callsOf w b
   first-calls = ap (λ n. take n b₁) first-used ∙ first-part (usedOf w) (omega (arith, h .used, h .room))
 
+  pub first-byte : (i : ℕ) → i < KEPT-STORE → getD b₁ i 0 ≡ getD b i 0
+  first-byte i q = sym (getD-take KEPT-STORE b₁ i 0 q) ∙ ap (λ l. getD l i 0) front ∙ getD-take KEPT-STORE b i 0 q
+
   abbrev pub first-holds : length w₁ ≡ length w → length b₁ ≡ length b → Holds w₁ b₁ z
   first-holds hw hb =
       record {
@@ -56,18 +59,19 @@ module _ {w b : List ℕ} {z : Size} (h : Holds w b z) {t p s w₁ b₁ : List �
         few = h .few;
         text = h .text;
         short = h .short;
+        marks = λ i q. omega (arith, first-byte (RECORD-MARKS + i) (omega (arith, h .few)), h .marks i q);
       }
 
   -- the entries of the record
   abbrev held : List Entry
-  held = with-answers (h .list) (answersOf b)
+  held = entries-with (h .list) (answersOf b) (marksOf b)
 
-  pub first-entries : with-answers (h .list) (answersOf b₁) ≡ held
+  pub first-entries : entries-with (h .list) (answersOf b₁) (marksOf b₁) ≡ held
   first-entries = go (h .list) refl
     where
-      go : (l : List Recorded) → h .list ≡ l → with-answers (h .list) (answersOf b₁) ≡ held
-      go [] e = ap (λ l. with-answers l (answersOf b₁)) e ∙ sym (ap (λ l. with-answers l (answersOf b)) e)
-      go (r ∷ l) e = ap (λ x. with-answers (h .list) (answersOf x)) (k .later (some-filed e) .bytes)
+      go : (l : List Recorded) → h .list ≡ l → entries-with (h .list) (answersOf b₁) (marksOf b₁) ≡ held
+      go [] e = ap (λ l. entries-with l (answersOf b₁) (marksOf b₁)) e ∙ sym (ap (λ l. entries-with l (answersOf b) (marksOf b)) e)
+      go (r ∷ l) e = ap (λ x. entries-with (h .list) (answersOf x) (marksOf x)) (k .later (some-filed e) .bytes)
 
   -- the desk before the first call is kept
   pub first-desk : (source : List ℕ) → keptOf source w₁ b₁ ≡ before-first held (magicStringOf source t p s) (keptOf source w b)
@@ -77,11 +81,11 @@ module _ {w b : List ℕ} {z : Size} (h : Holds w b z) {t p s w₁ b₁ : List �
       go [] e =
           let f = k .first (none-filed e) in
           ap₂ (λ x y. magicStringOf source x y (keptStore b₁)) (f .chunks) (f .pieces) ∙ ap (magicStringOf source t p) (f .store)
-          ∙ sym (ap (λ l. before-first (with-answers l (answersOf b)) (magicStringOf source t p s) (keptOf source w b)) e)
+          ∙ sym (ap (λ l. before-first (entries-with l (answersOf b) (marksOf b)) (magicStringOf source t p s) (keptOf source w b)) e)
       go (r ∷ l) e =
           let f = k .later (some-filed e) in
           ap₂ (keptOf source) (f .words) (f .bytes)
-          ∙ sym (ap (λ l. before-first (with-answers l (answersOf b)) (magicStringOf source t p s) (keptOf source w b)) e)
+          ∙ sym (ap (λ l. before-first (entries-with l (answersOf b) (marksOf b)) (magicStringOf source t p s) (keptOf source w b)) e)
 
   pub first-taken : {source : List ℕ} → Taken source t p s → KeptTaken source w b held → Taken source (keptChunks w₁) (keptPieces w₁) (keptStore b₁)
   first-taken {source} d q = go (h .list) refl
@@ -93,25 +97,23 @@ module _ {w b : List ℕ} {z : Size} (h : Holds w b z) {t p s w₁ b₁ : List �
           (subst (λ x. Taken source t x (keptStore b₁)) (sym (f .pieces)) (subst (Taken source t p) (sym (f .store)) d))
       go (r ∷ l) e =
           let f = k .later (some-filed e) in
-          let there : KeptTaken source w b (with-answers (r ∷ l) (answersOf b)) = subst (λ y. KeptTaken source w b (with-answers y (answersOf b))) e q in
+          let there : KeptTaken source w b (entries-with (r ∷ l) (answersOf b) (marksOf b)) = subst (λ y. KeptTaken source w b (entries-with y (answersOf b) (marksOf b))) e q in
           subst (λ x. Taken source (keptChunks x) (keptPieces x) (keptStore b₁)) (sym (f .words)) (subst (λ x. Taken source (keptChunks w) (keptPieces w) (keptStore x)) (sym (f .bytes)) there)
 
   -- ── what is written later, on top of it ──
-  first-byte : (i : ℕ) → i < KEPT-STORE → getD b₁ i 0 ≡ getD b i 0
-  first-byte i q = sym (getD-take KEPT-STORE b₁ i 0 q) ∙ ap (λ l. getD l i 0) front ∙ getD-take KEPT-STORE b i 0 q
-
   pub first-behind : {n m : ℕ} {w′ b′ : List ℕ} → KeptBehind n m w₁ b₁ w′ b′ → KeptBehind n m w b w′ b′
   first-behind x =
       record {
         calls = λ i q₁ q₂ q₃. x .calls i (omega (arith, first-used)) q₂ q₃ ∙ first-byte i (omega arith);
-        answers = λ i q₁ q₂ q₃. x .answers i q₁ q₂ q₃ ∙ first-byte i q₃;
+        answers = λ i q₁ q₂ q₃. x .answers i q₁ q₂ q₃ ∙ first-byte i (omega arith);
+        marks = λ i q₁ q₂ q₃. x .marks i q₁ q₂ q₃ ∙ first-byte i q₃;
       }
 
   pub first-same-kept : {w′ b′ : List ℕ} → SameKept w₁ b₁ w′ b′ → (held ≡ [] → ⊥) → SameKept w b w′ b′
   first-same-kept {w′} {b′} x some = go (h .list) refl
     where
       go : (l : List Recorded) → h .list ≡ l → SameKept w b w′ b′
-      go [] e = absurd (some (ap (λ l. with-answers l (answersOf b)) e))
+      go [] e = absurd (some (ap (λ l. entries-with l (answersOf b) (marksOf b)) e))
       go (r ∷ l) e =
           let f = k .later (some-filed e) in
           record { tables = x .tables ∙ ap (drop KEPT-CHUNKS) (f .words); store = x .store ∙ ap (drop KEPT-STORE) (f .bytes) }

@@ -1,24 +1,30 @@
 -- Which memory holds a record.
-use Prim.Native.Nat.{ℕ, _-_, _≤_, _<_}
+use Prim.Native.Nat.{ℕ, _+_, _-_, _≤_, _<_}
 use mathlib.Core.Path.{_≡_, refl, sym, ap, _∙_}
 use mathlib.Core.Bool.{Bool, true, false, cond, and-false}
 use mathlib.Core.List.{List}
-use mathlib.Core.Option.{Option, none, some, bind, Option·map}
+use mathlib.Core.Option.{Option, none, some, bind}
 use lib.Dec.{eqb}
-use lib.ListN.{length, take, drop}
+use lib.ListN.{length, getD, take, drop}
+use lib.Seq.{getD-drop}
 use borrow.Author.Tests.{le-leb, lt-leb, eq-eqb, ne-eqb}
 use native.Mathlib.Omega.{arith}
-use Rattle.memory_layout.specs.Layout.{RECORD-ANSWERS, RECORD-BYTES-LEN, RECORD-WORDS-LEN}
+use Rattle.memory_layout.specs.Layout.{RECORD-ANSWERS, RECORD-MARKS, RECORD-BYTES-LEN, RECORD-WORDS-LEN}
 use Rattle.model_sheet.specs.Record.{Recorded, records, text-size}
-use Rattle.model_filed.specs.Filed.{Entry, with-answers, MOST-CALLS, MOST-TEXT, within-bounds}
-use Rattle.model_filed.proofs.Filing.{true-bounds, many-bounds, long-bounds}
+use Rattle.model_filed.specs.Filed.{Entry, entries-with, MOST-CALLS, MOST-TEXT, within-bounds}
+use Rattle.model_filed.specs.Marks.{HIGHEST-MARKS, marks-fit}
+use Rattle.model_filed.proofs.Filing.{true-bounds, many-bounds, long-bounds, fit-with, unfit-with}
 use Rattle.sheet_records.specs.Found.{Measured}
 use Rattle.filed_record.specs.declared.Size.{Size}
-use Rattle.filed_record.specs.Record.{usedOf, callsOf, answersOf, shaped, bounded, entriesOf, Holds}
+use Rattle.filed_record.specs.Record.{usedOf, callsOf, answersOf, marksOf, shaped, bounded, marked, entriesOf, Holds}
 
 -- the bytes in use, as a part that is lent on
 pub part-is : (w b : List ℕ) (u : ℕ) → u ≡ usedOf w → take (u - 0) (drop 0 b) ≡ callsOf w b
 part-is w b u e = ap (λ n. take n b) (let n : u - 0 ≡ usedOf w = omega arith in n)
+
+both-none : {A : Type 0} (t : Bool) → _≡_ {A = Option A} (cond t none none) none
+both-none true = refl
+both-none false = refl
 
 -- the entries by what the tests say
 module _ (w b : List ℕ) where
@@ -27,16 +33,13 @@ module _ (w b : List ℕ) where
   unshaped e = rw e refl
 
   unread : bind (records (callsOf w b)) bounded ≡ none → entriesOf w b ≡ none
-  unfolding entriesOf
-  unread e = ap (λ o. cond (shaped w b) (Option·map (λ l. with-answers l (answersOf b)) o) none) e ∙ go (shaped w b)
-    where
-      go : (t : Bool) → cond t (Option·map {A = List Recorded} (λ l. with-answers l (answersOf b)) none) none ≡ none
-      go true = refl
-      go false = refl
+  unfolding entriesOf bind
+  unread e = ap (λ o. cond (shaped w b) (bind o (marked b)) none) e ∙ both-none (shaped w b)
 
-  entries-read : {l : List Recorded} → shaped w b ≡ true → bind (records (callsOf w b)) bounded ≡ some l → entriesOf w b ≡ some (with-answers l (answersOf b))
-  unfolding entriesOf
-  entries-read e h = rw (e, h) refl
+  entries-read : {l : List Recorded} → shaped w b ≡ true → bind (records (callsOf w b)) bounded ≡ some l → marks-fit (entries-with l (answersOf b) (marksOf b)) ≡ true
+      → entriesOf w b ≡ some (entries-with l (answersOf b) (marksOf b))
+  unfolding entriesOf bind
+  entries-read e h m = rw (e, h, m) refl
 
   read : {l : List Recorded} → records (callsOf w b) ≡ some l → within-bounds l ≡ true → bind (records (callsOf w b)) bounded ≡ some l
   unfolding bind
@@ -74,10 +77,23 @@ module _ (w b : List ℕ) where
       alike : {o : Option (List Recorded)} {l m : List Recorded} → o ≡ some l → o ≡ some m → l ≡ m
       alike p q = cc
 
+  -- marks above the highest
+  pub high-marks : {n m i : ℕ} → Measured (callsOf w b) MOST-CALLS n m → m ≤ MOST-TEXT → i < n → HIGHEST-MARKS < getD b (RECORD-MARKS + i) 0 → entriesOf w b ≡ none
+  unfolding entriesOf bind
+  high-marks {i = i} x short h g =
+      let l = x .counted .list in
+      let r : bind (records (callsOf w b)) bounded ≡ some l =
+      read (x .counted .are) (true-bounds l (record { few = omega (arith, x .counted .count, x .counted .few); text = omega (arith, x .text) })) in
+      let high : marks-fit (entries-with l (answersOf b) (marksOf b)) ≡ false =
+      unfit-with l (answersOf b) (marksOf b) i (omega (arith, x .counted .count)) (omega (arith, getD-drop RECORD-MARKS b i 0)) in
+      ap (λ o. cond (shaped w b) (bind o (marked b)) none) r ∙ ap (λ t. cond (shaped w b) (cond t (some (entries-with l (answersOf b) (marksOf b))) none) none) high
+      ∙ both-none (shaped w b)
+
 -- ── a record ──
 pub holds-of : (w b : List ℕ) (u : ℕ) {n m : ℕ} → length w ≡ RECORD-WORDS-LEN → length b ≡ RECORD-BYTES-LEN → u ≡ usedOf w → u ≤ RECORD-ANSWERS
-    → Measured (callsOf w b) MOST-CALLS n m → m ≤ MOST-TEXT → Holds w b (record { used = u; count = n; text = m })
-holds-of w b u hw hb e room x short =
+    → Measured (callsOf w b) MOST-CALLS n m → m ≤ MOST-TEXT → ((i : ℕ) → i < n → getD b (RECORD-MARKS + i) 0 ≤ HIGHEST-MARKS)
+    → Holds w b (record { used = u; count = n; text = m })
+holds-of w b u hw hb e room x short marks =
     record {
       words = hw;
       bytes = hb;
@@ -89,9 +105,10 @@ holds-of w b u hw hb e room x short =
       few = x .counted .few;
       text = x .text;
       short = short;
+      marks = marks;
     }
 
-pub holds-entries : {w b : List ℕ} {z : Size} (h : Holds w b z) → entriesOf w b ≡ some (with-answers (h .list) (answersOf b))
+pub holds-entries : {w b : List ℕ} {z : Size} (h : Holds w b z) → entriesOf w b ≡ some (entries-with (h .list) (answersOf b) (marksOf b))
 unfolding shaped
 holds-entries {w} {b} {z} h =
     let u = h .used in
@@ -104,9 +121,10 @@ holds-entries {w} {b} {z} h =
       le-leb (usedOf w) RECORD-ANSWERS (let r = h .room in omega arith),
     ) refl)
     (read w b (ap (λ i. records (take i b)) u ∙ h .are) (true-bounds (h .list) (record { few = omega (arith, h .count); text = omega (arith, h .text) })))
+    (fit-with (h .list) (answersOf b) (marksOf b) (λ i g. omega (arith, getD-drop RECORD-MARKS b i 0, h .marks i (omega (arith, h .count)))))
 
 -- the entries are these alone
-pub entries-are : {w b : List ℕ} {z : Size} (h : Holds w b z) (l : List Entry) → entriesOf w b ≡ some l → l ≡ with-answers (h .list) (answersOf b)
+pub entries-are : {w b : List ℕ} {z : Size} (h : Holds w b z) (l : List Entry) → entriesOf w b ≡ some l → l ≡ entries-with (h .list) (answersOf b) (marksOf b)
 entries-are h l e = let q = holds-entries h in cc
 
 pub holds-some : {X : Type 0} {w b : List ℕ} {z : Size} → Holds w b z → entriesOf w b ≡ none → X

@@ -1,3 +1,4 @@
 pub mod Holding
 pub mod Calls
 pub mod Kept
+pub mod Marks

@@ -1,12 +1,14 @@
 -- What judging a record and a call to be filed answer, by cases.
 use Prim.Native.Nat.{ℕ, _+_, _-_, _≤_, _<_}
 use mathlib.Core.Path.{_≡_}
-use mathlib.Core.Bool.{true}
+use mathlib.Core.Bool.{Bool, true, false}
 use mathlib.Core.List.{List}
 use mathlib.Core.Option.{none}
-use lib.ListN.{length}
+use lib.ListN.{length, getD}
+use Rattle.memory_layout.specs.Layout.{RECORD-MARKS}
 use Rattle.model_sheet.specs.Record.{Recorded, parsed, text-size}
-use Rattle.model_filed.specs.Filed.{Entry, MOST-CALLS, MOST-TEXT, is-record, refused-filing, refused-withdrawal}
+use Rattle.model_filed.specs.Filed.{Entry, MOST-CALLS, MOST-TEXT, is-record, refused-filing, no-such-call}
+use Rattle.model_filed.specs.Marks.{HIGHEST-MARKS}
 use Rattle.sheet_records.specs.Found.{recorded}
 use Rattle.filed_record.specs.declared.Size.{Size}
 use Rattle.filed_record.specs.declared.Held.{Held}
@@ -14,6 +16,11 @@ use Rattle.filed_record.specs.declared.Held.the-variants.{Record, NoReco
 use Rattle.filed_record.specs.declared.call.Filing.{Filing}
 use Rattle.filed_record.specs.declared.call.Filing.the-variants.{Call, Refused}
 use Rattle.filed_record.specs.Record.{entriesOf, Holds}
+
+-- whether the marks of the first n entries fit
+pub record MarksJudged (b : List ℕ) (n : ℕ) (r : Bool) : Type 0 where
+  pub yes : r ≡ true → (i : ℕ) → i < n → getD b (RECORD-MARKS + i) 0 ≤ HIGHEST-MARKS
+  pub no : r ≡ false → (i : ℕ) × (i < n) × (HIGHEST-MARKS < getD b (RECORD-MARKS + i) 0)
 
 abbrev pub HeldSays : List ℕ → List ℕ → Held → Type 0
 HeldSays w b (Record z) = Holds w b z
@@ -36,6 +43,6 @@ abbrev pub JudgesCall : List ℕ → Size → Filing → Type 0
 JudgesCall s z (Call kind a b c text-at) = FilesCall s z kind a b c text-at
 JudgesCall s z (Refused n) = RefusesCall s z n
 
--- the number that refuses a withdrawal from any record of so many calls
-abbrev pub RefusesWithdrawal : ℕ → ℕ → ℕ → Type 0
-RefusesWithdrawal k count n = (l : List Entry) → length l ≡ count → refused-withdrawal k l ≡ n
+-- the number that any record of so many calls gives for the k-th
+abbrev pub NoSuchCall : ℕ → ℕ → ℕ → Type 0
+NoSuchCall k count n = (l : List Entry) → length l ≡ count → no-such-call k l ≡ n

@@ -1,3 +1,4 @@
 pub mod Record
 pub mod Judged
 pub mod Promises
+pub mod Marks

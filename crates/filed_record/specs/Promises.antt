@@ -5,11 +5,11 @@ use mathlib.Core.Bool.{false}
 use mathlib.Core.List.{List, [], _++_}
 use mathlib.Core.Option.{none, some}
 use lib.ListN.{length, getD, drop}
-use Rattle.memory_layout.specs.Layout.{RECORD-ANSWERS, KEPT-CHUNKS, KEPT-STORE}
+use Rattle.memory_layout.specs.Layout.{RECORD-ANSWERS, RECORD-MARKS, KEPT-CHUNKS, KEPT-STORE}
 use Rattle.model.specs.Call.{freeze}
 use Rattle.model_sheet.specs.Record.{parsed}
 use Rattle.model_sheet.specs.Sheet.{call-of}
-use Rattle.model_filed.specs.Filed.{Entry, calls, Sitting, Answered, refused-filing, file, refused-withdrawal, withdraw, freeze-beside}
+use Rattle.model_filed.specs.Filed.{Entry, calls, Sitting, Answered, refused-filing, file, no-such-call, withdraw, freeze-beside}
 use Rattle.memory.specs.Layout.{magicStringOf}
 use Rattle.memory.specs.WellFormed.{limitsOf, Lengths, WellFormed, Taken}
 use Rattle.memory.specs.Calls.{Same, may-write}
@@ -30,10 +30,11 @@ pub record Unchanged (t p s w b t′ p′ s′ w′ b′ : List ℕ) : Type 0 wh
 abbrev pub sittingOf : List ℕ → List ℕ → List ℕ → List ℕ → List ℕ → List ℕ → List Entry → Sitting
 sittingOf source t p s w b l = record { desk = magicStringOf source t p s; kept = keptOf source w b; entries = l }
 
--- each byte that lies behind the calls both as they were and as they are, and each that lies behind the n answers before and the m after, is as it was; the kept desk apart
+-- each byte that lies behind the calls both as they were and as they are, and each that lies behind the n answers, or marks, before and the m after, is as it was; the kept desk apart
 pub record KeptBehind (n m : ℕ) (w b w′ b′ : List ℕ) : Type 0 where
   pub calls : (i : ℕ) → usedOf w ≤ i → usedOf w′ ≤ i → i < RECORD-ANSWERS → getD b′ i 0 ≡ getD b i 0
-  pub answers : (i : ℕ) → RECORD-ANSWERS + n ≤ i → RECORD-ANSWERS + m ≤ i → i < KEPT-STORE → getD b′ i 0 ≡ getD b i 0
+  pub answers : (i : ℕ) → RECORD-ANSWERS + n ≤ i → RECORD-ANSWERS + m ≤ i → i < RECORD-MARKS → getD b′ i 0 ≡ getD b i 0
+  pub marks : (i : ℕ) → RECORD-MARKS + n ≤ i → RECORD-MARKS + m ≤ i → i < KEPT-STORE → getD b′ i 0 ≡ getD b i 0
 
 -- every word and byte of the kept desk is as it was
 pub record SameKept (w b w′ b′ : List ℕ) : Type 0 where
@@ -69,7 +70,7 @@ pub record FiledOn (call source t p s w b t′ p′ s′ w′ b′ : List ℕ) (
 pub record WithdrawnOn (k : ℕ) (source t p s w b t′ p′ s′ w′ b′ : List ℕ) (l : List Entry) (r : Answer) : Type 0 where
   pub becomes : Becomes source t p s w b t′ p′ s′ w′ b′ l (withdraw (limitsOf t p s) k (sittingOf source t p s w b l)) r
   -- 17
-  pub refused : (refused-withdrawal k l ≡ 0 → ⊥) → Unchanged t p s w b t′ p′ s′ w′ b′
+  pub refused : (no-such-call k l ≡ 0 → ⊥) → Unchanged t p s w b t′ p′ s′ w′ b′
   pub same-kept : SameKept w b w′ b′
 
 -- ── freezing: with calls filed 20, and nothing is changed; without, the edit. The record is only read ──

@@ -1,7 +1,7 @@
-// A call to be filed or withdrawn, judged before anything is changed.
+// A call to be filed, and the number of a filed one, judged before anything is changed.
 ghost use Prim.Native.Nat.{_≤_};
 ghost use Rattle.model_filed.specs.Filed.{MOST-TEXT};
-ghost use Rattle.filed_record.specs.Judged.{JudgesCall, RefusesWithdrawal};
+ghost use Rattle.filed_record.specs.Judged.{JudgesCall, NoSuchCall};
 use crate::Size;
 use memory_layout::numbers;
 use sheet_records::Read;
@@ -57,8 +57,8 @@ pub fn judge_call(call: &[u8], size: Size) -> Filing
 }
 
 // 17 where no call of so many has this number, from 1 on; else 0.
-pub fn withdrawal_number(k: u32, count: usize) -> u32
-    ensures { λ r. ⌜ RefusesWithdrawal k count r ⌝ }
+pub fn no_such_call(k: u32, count: usize) -> u32
+    ensures { λ r. ⌜ NoSuchCall k count r ⌝ }
 {
     if k == 0 {
         return numbers::NO_SUCH_CALL;

@@ -1,7 +1,11 @@
-// The record of filed calls in lent memory, read: whether it is well formed, and whether a call may be filed (document 02, L5).
+// The record of filed calls in lent memory, read: whether it is well formed, and whether a call may be filed (document 02, L5 and L9).
 pub mod call;
 
-ghost use Rattle.filed_record.specs.Judged.{HeldSays};
+ghost use mathlib.Core.Path.{_≡_};
+ghost use Prim.Native.Nat.{_+_, _≤_, _<_};
+ghost use lib.ListN.{length};
+ghost use Rattle.memory_layout.specs.Layout.{RECORD-MARKS};
+ghost use Rattle.filed_record.specs.Judged.{MarksJudged, HeldSays};
 use sheet_records::Judged;
 
 // How many bytes its calls have, how many calls they are, and how many bytes of text these have.
@@ -15,6 +19,28 @@ pub struct Size {
 pub enum Held {
     Record(Size),
     NoRecord,
+}
+
+// A byte as a word.
+pub fn word(x: u8) -> u32
+    ensures { λ r. ⌜ (r ≡ x) × (r < 256) ⌝ }
+{
+    x as u32
+}
+
+// Whether no marks of the first `count` entries are above the highest.
+fn marks_fit(bytes: &[u8], count: usize) -> bool
+    requires { ⌜ RECORD-MARKS + count ≤ length (now bytes) ⌝ }
+    ensures { λ r. ⌜ MarksJudged (now (bytes .entry)) count r ⌝ }
+{
+    let mut i: usize = 0;
+    while i < count {
+        if word(bytes[memory_layout::RECORD_MARKS + i]) > memory_layout::HIGHEST_MARKS {
+            return false;
+        }
+        i += 1;
+    }
+    true
 }
 
 // The check of answer 2 for a record.
@@ -40,5 +66,8 @@ pub fn judge_record(words: &[u32], bytes: &[u8]) -> Held
     if text > memory_layout::RECORD_TEXT {
         return Held::NoRecord;
     }
-    Held::Record(Size { used, count, text })
+    if marks_fit(bytes, count) {
+        return Held::Record(Size { used, count, text });
+    }
+    Held::NoRecord
 }

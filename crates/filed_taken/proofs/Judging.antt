@@ -14,7 +14,7 @@ use Rattle.filed_record.specs.declared.Size.{Size}
 use Rattle.filed_record.specs.declared.Held.{Held}
 use Rattle.filed_record.specs.declared.Held.the-variants.{Record, NoRecord}
 use Rattle.filed_record.specs.Judged.{HeldSays}
-use Rattle.filed_record.specs.Record.{answersOf, keptChunks, keptPieces, keptStore, entriesOf, KeptTaken, Holds}
+use Rattle.filed_record.specs.Record.{answersOf, marksOf, keptChunks, keptPieces, keptStore, entriesOf, KeptTaken, Holds}
 use Rattle.filed_record.proofs.Holding.{entries-are}
 use Rattle.filed_taken.specs.Beside.{RecordTaken}
 
@@ -28,7 +28,7 @@ module _ (w b : List ℕ) {r : Held} where
 
 -- as many entries as calls
 pub count-is : {w b : List ℕ} {z : Size} → Holds w b z → (l : List Entry) → entriesOf w b ≡ some l → length l ≡ z .count
-count-is {b = b} h l e = ap length (entries-are h l e) ∙ with-length (h .list) (answersOf b) ∙ h .count
+count-is {b = b} h l e = ap length (entries-are h l e) ∙ with-length (h .list) (answersOf b) (marksOf b) ∙ h .count
 
 module _ (source w b : List ℕ) where
   -- no calls to read

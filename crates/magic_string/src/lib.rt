@@ -4,5 +4,6 @@ pub mod exported_desk;
 pub mod exported_edits;
 pub mod exported_filed;
 pub mod exported_join;
+pub mod exported_marks;
 pub mod exported_reports;
 pub mod exported_sheet;

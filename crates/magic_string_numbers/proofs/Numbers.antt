@@ -19,12 +19,13 @@ use Rattle.model_sheet.proofs.Runs.{sheet-listed}
 use Rattle.model_filed.specs.Filed.{Entry}
 use Rattle.model_join.specs.Join.{join-numbers}
 use Rattle.model_join.proofs.Joining.{join-listed}
-use Rattle.model_filed.proofs.Numbers.{file-listed, withdraw-listed, freeze-listed}
+use Rattle.model_filed.proofs.Numbers.{file-listed, withdraw-listed, freeze-listed, marks-listed, entry-listed}
 use Rattle.memory.specs.declared.Answer.{Answer}
 use Rattle.filed_record.specs.Record.{entriesOf, KeptTaken}
-use Rattle.filed_record.specs.Promises.{sittingOf, OnSitting}
+use Rattle.filed_record.specs.Promises.{Unchanged, sittingOf, OnSitting}
+use Rattle.filed_record.specs.Marks.{OnRecord}
 use Rattle.magic_string_numbers.specs.Listed.{EditedListed, ReportedListed, OpenedNumberListed, SheetNumberListed, FiledNumberListed, WithdrawnNumberListed}
-use Rattle.magic_string_numbers.specs.Listed.{FrozenNumberListed, JoinedNumberListed}
+use Rattle.magic_string_numbers.specs.Listed.{FrozenNumberListed, MarkedNumberListed, EntryNumberListed, TotalNumberListed, JoinedNumberListed}
 
 -- a number that is 2 where P does not hold, and one of these where it does, if 2 is one of them
 either : {P : Type 0} (n : ℕ) (ns : List ℕ) → among 2 ns ≡ true → ((P → ⊥) → n ≡ 2) → (P → among n ns ≡ true) → among n ns ≡ true
@@ -56,15 +57,23 @@ sheet-number-listed sheet t p s a t′ p′ s′ a′ r x =
     either (r .number) sheet-numbers refl (λ none. x .not-sized none .0)
     (λ (w : Full t p s). ap (λ (k : ℕ). among k sheet-numbers) (x .sized w .number-is) ∙ sheet-listed (limitsOf t p s) (length a) (new []) sheet)
 
--- a call on a desk and a record: 2, or what it answers on the record's entries
+-- a call on a record: 2, or what it answers on the record's entries
+on-record : {P : List Entry → Type 0} {unchanged : Type 0} {source w b : List ℕ} {r : Answer} (ns : List ℕ) → OnRecord P unchanged source w b r
+    → ((l : List Entry) → P l → among (r .number) ns ≡ true) → among (r .number) (2 ∷ ns) ≡ true
+on-record {source = source} {w} {b} {r} ns x f = go (entriesOf w b) refl
+  where
+    go : (o : Option (List Entry)) → entriesOf w b ≡ o → among (r .number) (2 ∷ ns) ≡ true
+    go none e = ap (λ (k : ℕ). among k (2 ∷ ns)) (x .no-record e .0)
+    go (some l) e = either (r .number) (2 ∷ ns) refl (λ none. x .not-kept l e none .0) (λ (k : KeptTaken source w b l). listed-behind (r .number) 2 ns (f l (x .taken l e k)))
+
+-- a call on a desk and a record: 2 without a well-formed desk, too
 on-sitting : {P : List Entry → Type 0} {source t p s w b t′ p′ s′ w′ b′ : List ℕ} {r : Answer} (ns : List ℕ) → OnSitting P source t p s w b t′ p′ s′ w′ b′ r
     → (Taken source t p s → (l : List Entry) → P l → among (r .number) ns ≡ true) → among (r .number) (2 ∷ ns) ≡ true
-on-sitting {source = source} {t} {p} {s} {w} {b} {r = r} ns x f =
-    either (r .number) (2 ∷ ns) refl (λ none. x .no-desk none .0) (λ (d : Taken source t p s). go d (entriesOf w b) refl)
-  where
-    go : Taken source t p s → (o : Option (List Entry)) → entriesOf w b ≡ o → among (r .number) (2 ∷ ns) ≡ true
-    go d none e = ap (λ (k : ℕ). among k (2 ∷ ns)) (x .no-record e .0)
-    go d (some l) e = either (r .number) (2 ∷ ns) refl (λ none. x .not-kept l e none .0) (λ (k : KeptTaken source w b l). listed-behind (r .number) 2 ns (f d l (x .taken d l e k)))
+on-sitting {P} {source} {t} {p} {s} {w} {b} {t′} {p′} {s′} {w′} {b′} {r} ns x f =
+    either (r .number) (2 ∷ ns) refl (λ none. x .no-desk none .0)
+    (λ (d : Taken source t p s).
+    let beside : OnRecord P (Unchanged t p s w b t′ p′ s′ w′ b′) source w b r = record { no-record = x .no-record; not-kept = x .not-kept; taken = x .taken d } in
+    on-record ns beside (f d))
 
 pub filed-number-listed : FiledNumberListed
 filed-number-listed call source t p s w b t′ p′ s′ w′ b′ r x =
@@ -84,6 +93,16 @@ frozen-number-listed from to source t p s w b t′ p′ s′ r x =
     (λ d l y.
     ap (λ (k : ℕ). among k (20 ∷ edit-numbers (freeze from to))) (y .becomes .number-is)
     ∙ freeze-listed (limitsOf t p s) from to (sittingOf source t p s w b l) (d .well-formed .desk .formed))
+
+pub marked-number-listed : MarkedNumberListed
+marked-number-listed k marks source w b b′ r x = on-record (17 ∷ 21 ∷ []) x (λ l y. ap (λ (n : ℕ). among n (17 ∷ 21 ∷ [])) (y .number-is) ∙ marks-listed k marks l)
+
+pub entry-number-listed : EntryNumberListed
+entry-number-listed reading k source w b out out′ r x =
+    on-record (17 ∷ 14 ∷ []) x (λ l y. ap (λ (n : ℕ). among n (17 ∷ 14 ∷ [])) (y .number-is) ∙ entry-listed reading k (length out) l)
+
+pub total-number-listed : TotalNumberListed
+total-number-listed source w b r x = on-record [] x (λ l y. ap (λ (n : ℕ). among n []) (y .0))
 
 pub joined-number-listed : JoinedNumberListed
 joined-number-listed first second source t p s t′ p′ s′ r x =

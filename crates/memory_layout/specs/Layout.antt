@@ -170,15 +170,22 @@ RECORD-TEXT = 32768
 abbrev pub RECORD-FRONT : ℕ
 RECORD-FRONT = 15
 
--- the answers stand behind the room of the calls, a byte each
+-- the answers stand behind the room of the calls, and the marks behind that of the answers, a byte each
 abbrev pub RECORD-ANSWERS : ℕ
 RECORD-ANSWERS = RECORD-CALLS * RECORD-FRONT + RECORD-TEXT
+
+abbrev pub RECORD-MARKS : ℕ
+RECORD-MARKS = RECORD-ANSWERS + RECORD-CALLS
+
+-- the highest marks of an entry, in tenths of a point
+abbrev pub HIGHEST-MARKS : ℕ
+HIGHEST-MARKS = 100
 
 -- the place of the word that says how many bytes the calls have
 abbrev pub RECORD-USED : ℕ
 RECORD-USED = 0
 
--- the desk before the first filed call: its chunk table and its piece table behind that word, its store behind the answers
+-- the desk before the first filed call: its chunk table and its piece table behind that word, its store behind the marks
 abbrev pub KEPT-CHUNKS : ℕ
 KEPT-CHUNKS = RECORD-USED + 1
 
@@ -186,7 +193,7 @@ abbrev pub KEPT-PIECES : ℕ
 KEPT-PIECES = KEPT-CHUNKS + CHUNKS-LEN
 
 abbrev pub KEPT-STORE : ℕ
-KEPT-STORE = RECORD-ANSWERS + RECORD-CALLS
+KEPT-STORE = RECORD-MARKS + RECORD-CALLS
 
 abbrev pub RECORD-WORDS-LEN : ℕ
 RECORD-WORDS-LEN = KEPT-PIECES + PIECES-LEN

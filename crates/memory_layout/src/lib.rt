@@ -140,18 +140,23 @@ pub const RECORD_TEXT: usize = 32768;
 // The most bytes of a call before its text: a length, a kind and three positions.
 pub const RECORD_FRONT: usize = 15;
 
-// The answers stand behind the room of the calls, a byte each.
+// The answers stand behind the room of the calls, and the marks behind that of the answers, a byte each.
 pub const RECORD_ANSWERS: usize = RECORD_CALLS * RECORD_FRONT + RECORD_TEXT;
+
+pub const RECORD_MARKS: usize = RECORD_ANSWERS + RECORD_CALLS;
+
+// The highest marks of an entry, in tenths of a point.
+pub const HIGHEST_MARKS: u32 = 100;
 
 // The place of the word that says how many bytes the calls have.
 pub const RECORD_USED: usize = 0;
 
-// The desk before the first filed call: its chunk table and its piece table behind that word, its store behind the answers.
+// The desk before the first filed call: its chunk table and its piece table behind that word, its store behind the marks.
 pub const KEPT_CHUNKS: usize = RECORD_USED + 1;
 
 pub const KEPT_PIECES: usize = KEPT_CHUNKS + CHUNKS_LEN;
 
-pub const KEPT_STORE: usize = RECORD_ANSWERS + RECORD_CALLS;
+pub const KEPT_STORE: usize = RECORD_MARKS + RECORD_CALLS;
 
 pub const RECORD_WORDS_LEN: usize = KEPT_PIECES + PIECES_LEN;
 

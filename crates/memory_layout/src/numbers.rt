@@ -60,3 +60,6 @@ pub const REFUSED_ALONE: u32 = 19;
 
 // A frozen chunk in the range, or on the desk; or freezing with calls already filed.
 pub const FROZEN: u32 = 20;
+
+// Marks above the highest.
+pub const MARKS_TOO_HIGH: u32 = 21;

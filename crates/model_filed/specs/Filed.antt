@@ -1,5 +1,5 @@
 -- Document 02, L5: "Keep a record of up to 200 calls of L1's kinds with their answers, accepted or not, and at most 32,768 bytes of text." And L8: the record keeps the desk that its
--- calls began on. The record, and what filing a call, withdrawing one and freezing beside it do to it and to the desk. The Rust has no such calls.
+-- calls began on. And L9: each entry has marks. The record, and what filing a call, withdrawing one and freezing beside it do to it and to the desk. The Rust has no such calls.
 use Prim.Native.Nat.{ℕ, zero, suc, _-_}
 use mathlib.Core.Bool.{Bool, _&&_, not, cond}
 use mathlib.Core.List.{List, [], _∷_, _++_, map}
@@ -12,18 +12,25 @@ use Rattle.model_sheet.specs.Record.{Recorded, fits, extent, parsed, text-size}
 use Rattle.model_sheet.specs.Sheet.{call-of, calls-of}
 
 -- ── the record ──
--- a call that is filed, and its answer
+-- a call that is filed, its answer, and its marks
 pub record Entry : Type 0 where
   pub call : Recorded
   pub answer : ℕ
+  pub marks : ℕ
 
 abbrev pub calls : List Entry → List Recorded
 calls l = map (λ (e : Entry). e .call) l
 
--- calls with their answers, one for each
-abbrev pub with-answers : List Recorded → List ℕ → List Entry
-with-answers [] ns = []
-with-answers (r ∷ l) ns = record { call = r; answer = getD ns 0 0 } ∷ with-answers l (drop 1 ns)
+abbrev pub answers-of : List Entry → List ℕ
+answers-of l = map (λ (e : Entry). e .answer) l
+
+abbrev pub marks-of : List Entry → List ℕ
+marks-of l = map (λ (e : Entry). e .marks) l
+
+-- calls with answers and marks, one of each for each call
+abbrev pub entries-with : List Recorded → List ℕ → List ℕ → List Entry
+entries-with [] ns ms = []
+entries-with (r ∷ l) ns ms = record { call = r; answer = getD ns 0 0; marks = getD ms 0 0 } ∷ entries-with l (drop 1 ns) (drop 1 ms)
 
 -- a desk, and the record beside it: the calls that are filed, and the desk that it keeps
 pub record Sitting : Type 0 where
@@ -74,14 +81,15 @@ refused-filing s l =
 abbrev pub core-call : Limits → Recorded → MagicString → Outcome
 core-call k r m = edited k (call-of r) m
 
--- a call behind the others, "accepted or not": its core call's number is its answer, and that call's number and value are the filing's. The first keeps the desk that it begins on
+-- a call behind the others, "accepted or not": its core call's number is its answer, and that call's number and value are the filing's. The first keeps the desk that it begins on.
+-- L9: its marks are "0 on filing"
 abbrev pub filed : Limits → Recorded → Sitting → Answered
 filed k r x =
     let o = core-call k r (x .desk) in
     record {
       number = o .shown .number;
       value = o .shown .value;
-      left = record { desk = o .desk; kept = start-of x; entries = x .entries ++ (record { call = r; answer = o .shown .number } ∷ []) };
+      left = record { desk = o .desk; kept = start-of x; entries = x .entries ++ (record { call = r; answer = o .shown .number; marks = 0 } ∷ []) };
     }
 
 -- "a call so refused .. isn't filed"
@@ -93,21 +101,21 @@ file k s x = elim (refused-filing s (calls (x .entries))) [ suc n ↦ unchanged 
 abbrev pub without : {A : Type 0} → ℕ → List A → List A
 without n l = take (n - 1) l ++ drop n l
 
--- calls run in order from a desk, which is kept: what is left of it, and each call with its answer
-abbrev pub run-anew : Limits → MagicString → List Recorded → Sitting
-run-anew k start l = record { desk = after k (calls-of l) start; kept = start; entries = with-answers l (answers k (calls-of l) start) }
+-- calls with these marks, run in order from a desk, which is kept: what is left of it, and each call with its answer
+abbrev pub run-anew : Limits → MagicString → List Recorded → List ℕ → Sitting
+run-anew k start l ms = record { desk = after k (calls-of l) start; kept = start; entries = entries-with l (answers k (calls-of l) start) ms }
 
 -- "17, no call with that number"
-unfoldable pub refused-withdrawal : ℕ → List Entry → ℕ
-refused-withdrawal n l = cond (ltb 0 n && leb n (length l)) 0 17
+unfoldable pub no-such-call : ℕ → List Entry → ℕ
+no-such-call n l = cond (ltb 0 n && leb n (length l)) 0 17
 
 -- "Withdrawing the k-th reports no cuts and leaves desk, text and remaining answers as if the others had been run in order on a fresh desk"; L8: "Withdrawing a call starts from now on
--- from the desk as it stood before the first filed call, marks included"
+-- from the desk as it stood before the first filed call, marks included"; L9: "a withdrawn call takes its marks with it"
 unfoldable pub withdraw : Limits → ℕ → Sitting → Answered
 withdraw k n x =
-    elim (refused-withdrawal n (x .entries)) [
+    elim (no-such-call n (x .entries)) [
       | suc i ↦ unchanged (suc i) x
-      | zero ↦ record { number = 0; value = 0; left = run-anew k (x .kept) (without n (calls (x .entries))) }
+      | zero ↦ record { number = 0; value = 0; left = run-anew k (x .kept) (without n (calls (x .entries))) (without n (marks-of (x .entries))) }
     ]
 
 -- ── freezing beside a record ──

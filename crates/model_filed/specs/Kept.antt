@@ -1,4 +1,4 @@
--- Whatever is filed and withdrawn, the desk is what the record gives when run. proofs/Kept.antt proves it.
+-- Whatever is filed, withdrawn and marked, the desk is what the record gives when run. proofs/Kept.antt proves it.
 use Prim.Native.Nat.{ℕ}
 use mathlib.Core.Path.{_≡_}
 use mathlib.Core.List.{List, [], _∷_}
@@ -6,16 +6,24 @@ use Rattle.model.specs.MagicString.{MagicString}
 use Rattle.model.specs.Limits.{Limits}
 use Rattle.model.specs.Call.{after, answers}
 use Rattle.model_sheet.specs.Sheet.{calls-of}
-use Rattle.model_filed.specs.Filed.{Sitting, Answered, calls, with-answers, start-of, file, without, withdraw}
+use Rattle.model_filed.specs.Filed.{Sitting, Answered, calls, answers-of, start-of, file, without, withdraw}
+use Rattle.model_filed.specs.Marks.{refused-marks, set-marks}
 
--- a call that is filed, by its bytes, or withdrawn, by its number
+-- a call that is filed, by its bytes, or withdrawn, by its number, or given marks
 pub data Action : Type 0 where
   filing : List ℕ → Action
   withdrawing : ℕ → Action
+  marking : ℕ → ℕ → Action
+
+-- what the examiner writes leaves the desk and the kept one
+abbrev pub marked-beside : ℕ → ℕ → Sitting → Answered
+marked-beside n m x =
+    record { number = refused-marks n m (x .entries); value = 0; left = record { desk = x .desk; kept = x .kept; entries = set-marks n m (x .entries) } }
 
 abbrev pub act : Limits → Action → Sitting → Answered
 act k (filing s) x = file k s x
 act k (withdrawing n) x = withdraw k n x
+act k (marking n m) x = marked-beside n m x
 
 -- actions one after the other, refused ones too
 abbrev pub acts : Limits → List Action → Sitting → Sitting
@@ -30,7 +38,7 @@ begun start kept = record { desk = start; kept = kept; entries = [] }
 pub record Agrees (k : Limits) (start : MagicString) (x : Sitting) : Type 0 where
   pub begins : start-of x ≡ start
   pub desk : x .desk ≡ after k (calls-of (calls (x .entries))) start
-  pub answers : x .entries ≡ with-answers (calls (x .entries)) (answers k (calls-of (calls (x .entries))) start)
+  pub answers : answers-of (x .entries) ≡ answers k (calls-of (calls (x .entries))) start
 
 -- the law
 abbrev pub AlwaysAgrees : Type 0

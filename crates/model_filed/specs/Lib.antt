@@ -1,3 +1,4 @@
 pub mod Filed
+pub mod Marks
 pub mod Kept
 pub mod Worked

@@ -1,15 +1,17 @@
--- Worked sittings, as a table: what is filed and withdrawn on a desk, what each action answers, and the record and the text behind them. proofs/Example.antt computes each.
+-- Worked sittings, as a table: what is filed, withdrawn and marked on a desk, what each action answers, and the record and the text behind them; and readings of entries.
+-- proofs/Example.antt computes each.
 use Prim.Native.Nat.{ℕ}
 use mathlib.Core.List.{List, [], _∷_, _++_}
-use lib.ListN.{replicate}
+use lib.ListN.{length, replicate}
 use Rattle.model.specs.Text.{Text}
 use Rattle.model.specs.MagicString.{MagicString, new, to-string}
 use Rattle.model.specs.Limits.{full}
-use Rattle.model.specs.Call.{remove, freeze, after}
+use Rattle.model.specs.Call.{remove, freeze, after, Shown, refusal}
 use Rattle.model_sheet.specs.Record.{Recorded, encode}
 use Rattle.model_sheet.specs.Worked.{fields}
 use Rattle.model_filed.specs.Filed.{Entry, Sitting, refused-filing}
-use Rattle.model_filed.specs.Kept.{Action, filing, withdrawing, act, acts, begun}
+use Rattle.model_filed.specs.Marks.{member-bytes, examiner-bytes, show-entry, total}
+use Rattle.model_filed.specs.Kept.{Action, filing, withdrawing, marking, act, acts, begun}
 
 -- the number and the value of each action
 abbrev pub told : List Action → Sitting → List (ℕ × ℕ)
@@ -23,8 +25,11 @@ pub record Worked : Type 0 where
   pub entries : List Entry
   pub text : Text
 
+abbrev pub marked : Recorded → ℕ → ℕ → Entry
+marked r n m = record { call = r; answer = n; marks = m }
+
 abbrev pub entry : Recorded → ℕ → Entry
-entry r n = record { call = r; answer = n }
+entry r n = marked r n 0
 
 abbrev pub filing-of : Recorded → Action
 filing-of r = filing (encode r)
@@ -59,6 +64,10 @@ begun-on = after full (remove 1 2 ∷ freeze 3 6 ∷ []) (new source)
 
 abbrev pub filed-three : List Action
 filed-three = filing-of replaced ∷ filing-of moved ∷ filing-of again ∷ []
+
+-- behind the withdrawal of the first of them, where the second had 45 marks and the third 100
+abbrev pub marks-moved : List Entry
+marks-moved = marked moved 0 45 ∷ marked again 7 100 ∷ []
 
 abbrev pub worked : List Worked
 worked =
@@ -103,6 +112,14 @@ worked =
       entries = entry late 20 ∷ [];
       text = 0x61 ∷ 0x63 ∷ 0x64 ∷ 0x65 ∷ 0x66 ∷ [];
     }
+    -- marks for the second and the third; there is no fourth, whatever its marks, and 101 are too many. Then the first is withdrawn: marks go with their entries, and answers are written anew
+    ∷ record {
+      start = new source;
+      actions = filed-three ++ (marking 2 45 ∷ marking 3 100 ∷ marking 4 1 ∷ marking 4 101 ∷ marking 2 101 ∷ withdrawing 1 ∷ []);
+      answers = (0, 2) ∷ (6, 0) ∷ (0, 0) ∷ (0, 0) ∷ (0, 0) ∷ (17, 0) ∷ (17, 0) ∷ (21, 0) ∷ (0, 0) ∷ [];
+      entries = marks-moved;
+      text = 0x61 ∷ 0x62 ∷ 0x64 ∷ 0x65 ∷ 0x63 ∷ 0x66 ∷ [];
+    }
     ∷ []
 
 -- the sitting as it is computed
@@ -111,6 +128,41 @@ computed w =
     let x = begun (w .start) (w .start) in
     let y = acts full (w .actions) x in
     record { start = w .start; actions = w .actions; answers = told (w .actions) x; entries = y .entries; text = to-string (y .desk) }
+
+-- ── readings of these two entries, as a table: by number, into a buffer, and what is shown ──
+pub record Read : Type 0 where
+  pub reading : Entry → List ℕ
+  pub n : ℕ
+  pub room : ℕ
+  pub shown : Shown
+
+abbrev pub whole : List ℕ → Shown
+whole t = record { number = 0; value = length t; written = t }
+
+-- the second: update 1 to 4 by "Q", answered by 7, with 100 marks
+abbrev pub second-bytes : List ℕ
+second-bytes = 0x00 ∷ 0x0A ∷ 0x02 ∷ 0x00 ∷ 0x00 ∷ 0x00 ∷ 0x01 ∷ 0x00 ∷ 0x00 ∷ 0x00 ∷ 0x04 ∷ 0x51 ∷ 7 ∷ []
+
+abbrev pub readings : List Read
+readings =
+    record { reading = member-bytes; n = 2; room = 13; shown = whole second-bytes }
+    ∷ record { reading = member-bytes; n = 2; room = 12; shown = refusal 14 }
+    ∷ record { reading = examiner-bytes; n = 2; room = 14; shown = whole (second-bytes ++ (100 ∷ [])) }
+    ∷ record { reading = examiner-bytes; n = 2; room = 13; shown = refusal 14 }
+    -- calls are counted from 1, and 17 comes first
+    ∷ record { reading = member-bytes; n = 0; room = 0; shown = refusal 17 }
+    ∷ record { reading = examiner-bytes; n = 3; room = 0; shown = refusal 17 }
+    ∷ []
+
+abbrev pub read-computed : Read → Read
+read-computed q = record { reading = q .reading; n = q .n; room = q .room; shown = show-entry (q .reading) (q .n) (q .room) marks-moved }
+
+-- totals
+abbrev pub totals : List (List Entry × ℕ)
+totals = ([], 0) ∷ (entry replaced 0 ∷ [], 0) ∷ (marks-moved, 145) ∷ []
+
+abbrev pub total-computed : List Entry × ℕ → List Entry × ℕ
+total-computed q = (q .0, total (q .0))
 
 -- ── bounds, as a table: calls that are filed, the bytes of one more, and the number that refuses it ──
 abbrev pub text-of : ℕ → Recorded

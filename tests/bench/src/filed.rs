@@ -22,7 +22,7 @@ pub fn print(core: &mut impl Core) {
   println!("{:<30} {:>10} {:>10} {:>8}", "", "Rust us", "us", "ratio");
   for source in [2_048, 16_384] {
     let source = desks::edited(source, 1).source;
-    let calls = accepted(&source);
+    let calls = accepted_calls(&source);
     let Some(ours) = filing(core, &source, &calls) else {
       println!("the core files no calls");
       return;
@@ -42,7 +42,7 @@ fn line(name: &str, theirs: f64, ours: f64) {
 }
 
 /// Calls that are all accepted, and still are without each of those that are withdrawn.
-fn accepted(source: &str) -> Vec<Call> {
+fn accepted_calls(source: &str) -> Vec<Call> {
   let all_are = |calls: &[Call]| {
     let mut desk = fresh(source);
     calls.iter().all(|call| apply(&mut desk, call).number == 0)
@@ -51,6 +51,11 @@ fn accepted(source: &str) -> Vec<Call> {
   let found =
     lists.find(|calls| WITHDRAWN.iter().all(|&(_, place)| all_are(&without(calls, place))));
   found.expect("a list of calls")
+}
+
+/// The records of such calls.
+pub fn accepted(source: &str) -> Vec<Vec<u8>> {
+  accepted_calls(source).iter().map(call_bytes).collect()
 }
 
 fn fresh(source: &str) -> Desk {
@@ -62,7 +67,7 @@ fn without(calls: &[Call], place: usize) -> Vec<Call> {
 }
 
 /// A fresh desk, opened by the core, and an empty record.
-fn memory(core: &mut impl Core, source: &str) -> (Image, Memory) {
+pub fn memory(core: &mut impl Core, source: &str) -> (Image, Memory) {
   let random = &mut Random::new(1);
   let mut image = Image::junk(source.as_bytes().to_vec(), random);
   let open = Call::Open { source: Vec::new() };

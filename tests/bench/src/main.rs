@@ -1,6 +1,7 @@
 //! `bench`: the time of each call as a ratio to the Rust's, measured in the same
 //! run; whole papers, by exported and by inner calls and as sheets; calls filed and
-//! withdrawn; parts frozen; two lists joined; the check of a desk alone, and that of a text.
+//! withdrawn; parts frozen; calls marked and their entries read; two lists joined; the check of
+//! a desk alone, and that of a text.
 
 mod calls;
 mod check;
@@ -10,6 +11,7 @@ mod frozen;
 #[cfg(feature = "inner")]
 mod inner;
 mod joined;
+mod marks;
 #[cfg(feature = "inner")]
 mod moved;
 mod papers;
@@ -46,6 +48,7 @@ fn main() {
   sheets::print(&mut core);
   filed::print(&mut core);
   frozen::print(&mut core);
+  marks::print(&mut core);
   joined::print(&mut core);
   #[cfg(feature = "inner")]
   {

@@ -1,8 +1,11 @@
-//! A method of `Lent` for each exported function. The unsafe code is sound as that of
-//! the crate magic_string is: each address comes with the length of a slice that is
-//! borrowed for the call, and those that are written lie apart.
+//! A method of `Lent` for each exported function, or of `LentRecord` where it takes no desk.
+//! The unsafe code is sound as that of the crate magic_string is: each address comes with the
+//! length of a slice that is borrowed for the call, and those that are written lie apart.
 
-use magic_string_sys::{edit, report};
+use magic_string_sys::{
+  edit, magic_string_entry, magic_string_marked_entry, magic_string_set_marks, magic_string_total,
+  report,
+};
 
 use crate::{Answer, Lent, LentRecord};
 
@@ -99,6 +102,43 @@ impl Lent<'_> {
     let (words, words_len) = (words.as_ptr(), words.len());
     let (bytes, bytes_len) = (bytes.as_ptr(), bytes.len());
     unsafe { edit!(self, magic_string_freeze, words, words_len, bytes, bytes_len, start, end) }
+  }
+}
+
+/// Calls a function that reads a record beside a desk over the source; its own arguments
+/// follow.
+macro_rules! reading {
+  ($record:ident, $source:ident, $name:ident $(, $argument:expr)*) => {
+    $name(
+      $source.as_ptr(), $source.len(),
+      $record.words.as_ptr(), $record.words.len(),
+      $record.bytes.as_ptr(), $record.bytes.len()
+      $(, $argument)*
+    )
+  };
+}
+
+/// Marks and readings of entries.
+impl LentRecord<'_> {
+  pub fn set_marks(&mut self, source: &[u8], k: u32, marks: u32) -> Answer {
+    let (source, source_len) = (source.as_ptr(), source.len());
+    let (words, words_len) = (self.words.as_ptr(), self.words.len());
+    let (bytes, bytes_len) = (self.bytes.as_mut_ptr(), self.bytes.len());
+    unsafe {
+      magic_string_set_marks(source, source_len, words, words_len, bytes, bytes_len, k, marks)
+    }
+  }
+
+  pub fn entry(&self, source: &[u8], k: u32, out: &mut [u8]) -> Answer {
+    unsafe { reading!(self, source, magic_string_entry, k, out.as_mut_ptr(), out.len()) }
+  }
+
+  pub fn marked_entry(&self, source: &[u8], k: u32, out: &mut [u8]) -> Answer {
+    unsafe { reading!(self, source, magic_string_marked_entry, k, out.as_mut_ptr(), out.len()) }
+  }
+
+  pub fn total(&self, source: &[u8]) -> Answer {
+    unsafe { reading!(self, source, magic_string_total) }
   }
 }
 

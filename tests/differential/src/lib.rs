@@ -1,7 +1,8 @@
 //! Compares a core (the exported functions, or a stand-in) with the oracle: call
 //! by call on random scripts, and image by image on damaged memory; the orders of
-//! lists of edits with each other; sheets, records of filed calls, frozen parts and joins of
-//! two lists with plain readings of document 02; and the reading of UTF-8 with Rust's own.
+//! lists of edits with each other; sheets, records of filed calls, frozen parts, marks and
+//! joins of two lists with plain readings of document 02; and the reading of UTF-8 with Rust's
+//! own.
 
 pub mod any_order;
 pub mod arguments;
@@ -19,6 +20,7 @@ pub mod joins;
 pub mod layout;
 mod lent;
 pub mod made;
+pub mod marks;
 #[cfg(feature = "archive")]
 mod missing;
 pub mod out;

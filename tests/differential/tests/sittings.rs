@@ -123,7 +123,7 @@ fn the_record_gives_the_desk() {
       match action {
         Action::File(call) => _ = reading::file(desk, record, call),
         Action::Withdraw(k) => _ = reading::withdraw(desk, record, *k),
-        Action::Make(_) | Action::Freeze { .. } => {}
+        _ => {}
       }
       let mut fresh = Seat::new(seat.desk.magic_string().source());
       let entries = seat.record.entries.iter();

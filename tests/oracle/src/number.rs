@@ -30,6 +30,8 @@ pub const REFUSED_ALONE: u32 = 19;
 /// A frozen chunk in the range, or on the desk; or freezing with calls filed: no answer of
 /// the Rust's.
 pub const FROZEN: u32 = 20;
+/// Marks above the highest: no answer of the Rust's.
+pub const MARKS_TOO_HIGH: u32 = 21;
 
 /// Each message by a part that no other has.
 const MESSAGES: [(&str, u32); 10] = [

@@ -1,7 +1,7 @@
 //! Every call on desks that lead it each way: with room, and at each limit, so that
 //! it works on tables of its own; texts at the front of the store, and at its top. Calls
-//! of a sheet's kinds are filed there too, and withdrawn; they are joined; and ranges are
-//! frozen beside a record.
+//! of a sheet's kinds are filed there too, marked, shown and withdrawn; they are joined; and
+//! ranges are frozen beside a record.
 
 use std::slice;
 
@@ -15,7 +15,7 @@ use differential::{
   layout::*,
   made::{Aim, make},
   sheets::fields::kind,
-  sittings::{Memory, Sides, call_bytes},
+  sittings::{Memory, Sides, call_bytes, reading::Reader},
   step::Both,
 };
 use oracle::{
@@ -46,7 +46,7 @@ pub fn all(core: &mut impl Core, seed: u64) -> Result<(), String> {
 }
 
 /// The same calls are filed on this memory, each alone, and withdrawn; and all of them,
-/// the first of which is withdrawn.
+/// each of which is marked and shown, and the first withdrawn.
 fn filed(
   core: &mut impl Core,
   desk: &DeskData,
@@ -62,7 +62,21 @@ fn filed(
     let done = done.and_then(|_| alone.withdraw(core, 1));
     done.map_err(|what| format!("file or withdraw {call}: {what}"))?;
   }
+  marked(core, &mut all, random).map_err(|what| format!("marks: {what}"))?;
   all.withdraw(core, 1).map(|_| ()).map_err(|what| format!("withdraw the first: {what}"))
+}
+
+/// Each entry is marked and shown, also where that is refused; and the total.
+fn marked(core: &mut impl Core, sides: &mut Sides, random: &mut Random) -> Result<(), String> {
+  let count = sides.record().map_or(0, |record| record.entries.len() as u32);
+  for k in 0..=count + 1 {
+    sides.set_marks(core, k, 100 + k % 2)?;
+    for reader in [Reader::Member, Reader::Examiner] {
+      sides.show_entry(core, reader, k, 9_000, random)?;
+      sides.show_entry(core, reader, k, 1, random)?;
+    }
+  }
+  sides.total(core).map(|_| ())
 }
 
 /// Ranges are frozen on this memory, each alone, beside an empty record and beside one with a

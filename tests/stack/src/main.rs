@@ -1,7 +1,7 @@
 //! `stack [SEED [COUNT]]`: the most stack that the calls of each group used, on
 //! chosen desks, on random papers of COUNT calls, on sheets, in sittings, in sittings with
-//! frozen parts, and in joins. It fails where a call used more than include/magic_string.h
-//! says of its kind, or did not answer as the oracle.
+//! frozen parts and with marks, and in joins. It fails where a call used more than
+//! include/magic_string.h says of its kind, or did not answer as the oracle.
 
 mod chosen;
 mod measured;
@@ -10,7 +10,7 @@ mod painted;
 use std::process::ExitCode;
 
 use differential::{
-  Core, Paper, Tally, cores, frozen, joins, papers,
+  Core, Paper, Tally, cores, frozen, joins, marks, papers,
   run::run,
   sheets,
   sittings::{self, Sitting},
@@ -40,6 +40,7 @@ fn main() -> ExitCode {
     .and_then(|()| random_sheets(&mut core, seed, count / 10))
     .and_then(|()| random_sittings(&mut core, sittings::random, seed, count / 20))
     .and_then(|()| random_sittings(&mut core, frozen::random, seed, count / 20))
+    .and_then(|()| random_sittings(&mut core, marks::random, seed, count / 20))
     .and_then(|()| all_joins(&mut core, seed, count / 20));
   if let Err(what) = made {
     println!("{what}");
@@ -108,8 +109,8 @@ fn random_sheets(core: &mut impl Core, seed: u64, count: u64) -> Result<(), Stri
 
 /// Random sittings of one kind: some of them lead the calls that are filed, and those that a
 /// withdrawal makes anew, to each limit.
-fn random_sittings(
-  core: &mut impl Core,
+fn random_sittings<C: Core + Clone>(
+  core: &mut C,
   sitting: fn(u64) -> Sitting,
   seed: u64,
   count: u64,

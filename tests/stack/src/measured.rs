@@ -3,13 +3,15 @@
 
 use std::collections::BTreeMap;
 
-use differential::{Answer, Core, Lent, LentRecord, Unseen, cores::function};
+use differential::{
+  Answer, Core, Lent, LentRecord, Unseen, cores::function, sittings::reading::Reader,
+};
 use oracle::Call;
 
 use crate::painted::Painted;
 
 /// The groups, in the order in which they are printed, each with its kind.
-pub const GROUPS: [(&str, usize); 14] = [
+pub const GROUPS: [(&str, usize); 15] = [
   ("open", REPORT),
   ("well_formed", REPORT),
   ("remove, reset", EDIT),
@@ -21,6 +23,7 @@ pub const GROUPS: [(&str, usize); 14] = [
   ("run_sheet", EDIT),
   ("file, withdraw", EDIT),
   ("freeze", EDIT),
+  ("set_marks, entry, marked_entry, total", REPORT),
   ("join", JOIN),
   ("slice, to_string, last_line, get_indent_string", REPORT),
   (
@@ -37,13 +40,14 @@ const REPORT: usize = 2;
 
 /// The most that a call of a group used, which call that was, and how many calls
 /// were measured.
-#[derive(Debug, Default)]
+#[derive(Debug, Clone, Default)]
 pub struct Most {
   pub bytes: usize,
   pub call: String,
   pub calls: u64,
 }
 
+#[derive(Clone)]
 pub struct Measured<C> {
   core: C,
   stack: Painted,
@@ -124,6 +128,31 @@ impl<C: Core> Core for Measured<C> {
     end: u32,
   ) -> Option<Answer> {
     self.measured("freeze", |core| core.freeze(lent, record, start, end))
+  }
+
+  fn set_marks(
+    &mut self,
+    source: &[u8],
+    record: &mut LentRecord,
+    k: u32,
+    marks: u32,
+  ) -> Option<Answer> {
+    self.measured("set_marks", |core| core.set_marks(source, record, k, marks))
+  }
+
+  fn show_entry(
+    &mut self,
+    source: &[u8],
+    record: &LentRecord,
+    reader: Reader,
+    k: u32,
+    out: &mut [u8],
+  ) -> Option<Answer> {
+    self.measured(reader.function(), |core| core.show_entry(source, record, reader, k, out))
+  }
+
+  fn total(&mut self, source: &[u8], record: &LentRecord) -> Option<Answer> {
+    self.measured("total", |core| core.total(source, record))
   }
 
   fn join(&mut self, lent: &mut Lent, first: &[u8], second: &[u8]) -> Option<Answer> {

@@ -7,6 +7,7 @@ use std::{arch::asm, hint::black_box};
 const WORDS: usize = 1 << 17;
 const PAINT: u64 = 0x5ca1_ab1e_0ddb_a115;
 
+#[derive(Clone)]
 pub struct Painted {
   words: Vec<u64>,
   /// The lowest word that the last call wrote: from here on the paint is gone.

@@ -1,24 +1,26 @@
-//! Sittings: document 02's L5, with what L8 adds to it, read plainly, with the oracle for the
-//! calls; and random calls to be filed.
+//! Sittings: document 02's L5, with what L8 and L9 add to it, read plainly, with the oracle
+//! for the calls; and random calls to be filed.
 
-use magic_string::{End, Entry, FilingError, Refusal, Side, Sitting, layout::*};
+use magic_string::{End, Entry, FilingError, MarkedEntry, Refusal, Side, Sitting, layout::*};
 use oracle::{
   Answer, Call, Desk, Limits, SETTINGS, Setting, apply,
   number::{FROZEN, LIMIT, NO_SUCH_CALL},
   random::Random,
 };
 
-/// A desk, the filed calls with their numbers, and the desk before the first of them.
+/// A desk, the filed calls with their numbers, their marks, and the desk before the first of
+/// them.
 pub struct Plain {
   kept: Desk,
   pub desk: Desk,
   pub entries: Vec<(Call, u32)>,
+  pub marks: Vec<u32>,
 }
 
 impl Plain {
   pub fn open(source: &str) -> Self {
     let desk = Desk::open(Limits::FULL, source.as_bytes()).expect("a source within the limits");
-    Self { kept: desk.clone(), desk, entries: Vec::new() }
+    Self { kept: desk.clone(), desk, entries: Vec::new(), marks: Vec::new() }
   }
 
   /// The desk from which a withdrawal starts.
@@ -44,6 +46,7 @@ impl Plain {
     self.kept = self.start().clone();
     let answer = apply(&mut self.desk, call);
     self.entries.push((call.clone(), answer.number));
+    self.marks.push(0);
     Some(answer)
   }
 
@@ -53,10 +56,23 @@ impl Plain {
       return NO_SUCH_CALL;
     }
     self.entries.remove(k - 1);
+    self.marks.remove(k - 1);
     self.desk = self.kept.clone();
     for (call, number) in &mut self.entries {
       *number = apply(&mut self.desk, call).number;
     }
+    0
+  }
+
+  /// Writes the marks of the k-th call.
+  pub fn set_marks(&mut self, k: usize, marks: u32) -> u32 {
+    if k == 0 || k > self.entries.len() {
+      return NO_SUCH_CALL;
+    }
+    if marks > HIGHEST_MARKS {
+      return Refusal::MarksTooHigh.number();
+    }
+    self.marks[k - 1] = marks;
     0
   }
 }
@@ -85,6 +101,12 @@ pub fn entries(plain: &Plain) -> Vec<Entry<'_>> {
   let answer = |number| Refusal::from_number(number).map_or(Ok(()), Err);
   let entries = plain.entries.iter();
   entries.map(|(call, number)| Entry { call: to_wrapper(call), answer: answer(*number) }).collect()
+}
+
+/// The same with their marks.
+pub fn marked_entries(plain: &Plain) -> Vec<MarkedEntry<'_>> {
+  let marked = entries(plain).into_iter().zip(&plain.marks);
+  marked.map(|(entry, &marks)| MarkedEntry { entry, marks }).collect()
 }
 
 /// A call of a sheet's kind as the wrapper has it.

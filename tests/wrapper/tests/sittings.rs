@@ -1,12 +1,12 @@
-//! Random sittings on both sides: calls filed and withdrawn, and parts frozen.
+//! Random sittings on both sides: calls filed and withdrawn, parts frozen, and marks given.
 
 use std::collections::BTreeSet;
 
-use magic_string::Sitting;
+use magic_string::{Refusal, Sitting};
 use oracle::random::Random;
 use wrapper::{
   data,
-  sitting::{Calls, Plain, entries, file, freeze},
+  sitting::{Calls, Plain, entries, file, freeze, marked_entries},
 };
 
 /// What was met.
@@ -16,6 +16,7 @@ struct Met {
   not_filed: usize,
   withdrawn: BTreeSet<u32>,
   frozen: BTreeSet<u32>,
+  marked: BTreeSet<u32>,
   /// Later calls that turned from accepted to refused, and the other way.
   to_refused: usize,
   to_accepted: usize,
@@ -48,11 +49,34 @@ fn run(calls: &mut Calls, steps: usize, withdrawals: usize, met: &mut Met) {
     } else {
       file_any(calls, &mut sitting, &mut plain, met);
     }
+    if calls.random.one_in(3) {
+      let (k, marks) =
+        (calls.random.below(plain.entries.len() + 2), calls.random.below(105) as u32);
+      let number = plain.set_marks(k, marks);
+      let answer = sitting.examiner().set_marks(k, marks).map(drop);
+      assert_eq!(answer.map_or_else(|refusal| refusal.number(), |()| 0), number);
+      met.marked.insert(number);
+    }
     assert_eq!(sitting.len(), plain.entries.len());
     assert_eq!(sitting.entries(), entries(&plain));
     assert_eq!(data(sitting.desk()), plain.desk.data());
     assert_eq!(data(&sitting.start()), plain.start().data());
+    read_any(calls, &mut sitting, &plain);
   }
+}
+
+/// An entry as the member and as the examiner read it, and all marks.
+fn read_any(calls: &mut Calls, sitting: &mut Sitting, plain: &Plain) {
+  let k = calls.random.below(plain.entries.len() + 2);
+  let (entries, marked) = (entries(plain), marked_entries(plain));
+  let nth = k.checked_sub(1);
+  let entry = nth.and_then(|i| entries.get(i)).copied().ok_or(Refusal::NoSuchCall);
+  assert_eq!(sitting.member().entry(k), entry);
+  let mut examiner = sitting.examiner();
+  let entry = nth.and_then(|i| marked.get(i)).copied().ok_or(Refusal::NoSuchCall);
+  assert_eq!(examiner.marked_entry(k), entry);
+  assert_eq!(examiner.marked_entries(), marked);
+  assert_eq!(examiner.total(), plain.marks.iter().sum());
 }
 
 /// A call, filed on both sides.
@@ -75,6 +99,7 @@ fn short_sittings_are_the_same() {
   assert_eq!(met.filed, BTreeSet::from([0, 3, 4, 5, 6, 7, 8, 9, 10, 20]));
   assert_eq!(met.withdrawn, BTreeSet::from([0, 17]));
   assert_eq!(met.frozen, BTreeSet::from([0, 3, 4, 10, 20]));
+  assert_eq!(met.marked, BTreeSet::from([0, 17, 21]));
   let turned = [met.to_refused, met.to_accepted];
   assert!(turned.iter().all(|&calls| calls > 50), "{turned:?}");
 }

@@ -3,13 +3,15 @@
 use crate::Answer;
 
 /// Declares functions that take the source and the tables first, and their own
-/// arguments behind them: those among the edits write the tables, reports read them. The
-/// others take just the arguments that are written here. A slice passes as its address
-/// and its length in elements.
+/// arguments behind them: those among the edits write the tables, reports read them.
+/// Readings take a record in the place of the tables, and read it. The others take just the
+/// arguments that are written here. A slice passes as its address and its length in
+/// elements.
 macro_rules! exported {
   (
     edits { $($(#[$of_edit:meta])* $edit:ident($($edits_argument:ident: $edits_type:ty),*);)* }
     reports { $($(#[$of_report:meta])* $report:ident($($argument:ident: $type:ty),*);)* }
+    readings { $($(#[$of_read:meta])* $read:ident($($reads_argument:ident: $reads_type:ty),*);)* }
     others { $($(#[$of_other:meta])* $other:ident($($others_argument:ident: $others_type:ty),*);)* }
   ) => {
     unsafe extern "C" {
@@ -29,12 +31,21 @@ macro_rules! exported {
         $($argument: $type),*
       ) -> Answer;)*
 
+      $($(#[$of_read])* pub fn $read(
+        source: *const u8, source_len: usize,
+        words: *const u32, words_len: usize,
+        bytes: *const u8, bytes_len: usize,
+        $($reads_argument: $reads_type),*
+      ) -> Answer;)*
+
       $($(#[$of_other])* pub fn $other($($others_argument: $others_type),*) -> Answer;)*
     }
 
     /// The names of all exported functions.
-    pub const NAMES: &[&str] =
-      &[$(stringify!($edit),)* $(stringify!($report),)* $(stringify!($other)),*];
+    pub const NAMES: &[&str] = &[
+      $(stringify!($edit),)* $(stringify!($report),)* $(stringify!($read),)*
+      $(stringify!($other)),*
+    ];
   };
 }
 
@@ -120,7 +131,23 @@ exported! {
     /// The code of the output's last character, or [`NO_CHAR`](crate::layout::NO_CHAR).
     magic_string_last_char();
   }
+  readings {
+    /// The member's: writes the k-th filed call, in the form of a sheet's record, and its
+    /// answer.
+    magic_string_entry(k: u32, out: *mut u8, out_len: usize);
+    /// The examiner's: writes the same, and the marks.
+    magic_string_marked_entry(k: u32, out: *mut u8, out_len: usize);
+    /// The examiner's: the sum of the marks of the filed calls.
+    magic_string_total();
+  }
   others {
+    /// The examiner's: writes the marks of the k-th filed call into the record's bytes.
+    magic_string_set_marks(
+      source: *const u8, source_len: usize,
+      words: *const u32, words_len: usize,
+      bytes: *mut u8, bytes_len: usize,
+      k: u32, marks: u32
+    );
     /// Opens the source of a sheet, makes the call of each of its records, and writes
     /// the number of each.
     magic_string_run_sheet(

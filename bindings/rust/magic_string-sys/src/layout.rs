@@ -27,6 +27,8 @@ pub const RECORD_CALLS: usize = 200;
 pub const RECORD_TEXT: usize = 32_768;
 /// Most bytes of a filed call before its text.
 pub const RECORD_FRONT: usize = 15;
+/// Highest marks of a filed call, in tenths of a point.
+pub const HIGHEST_MARKS: u32 = 100;
 
 /// Length of the table of chunks, in words: the desk's own row and [`CHUNKS`] rows.
 pub const CHUNKS_LEN: usize = (1 + CHUNKS) * ROW;
@@ -36,8 +38,8 @@ pub const PIECES_LEN: usize = 2 * PIECES * PIECE;
 pub const STORE_LEN: usize = STORE_BYTES;
 /// Length of a record's words: the first, and the kept desk's chunks and pieces.
 pub const RECORD_WORDS_LEN: usize = KEPT_PIECES + PIECES_LEN;
-/// Length of a record's bytes: room for the filed calls, an answer for each, and the kept
-/// desk's store.
+/// Length of a record's bytes: room for the filed calls, an answer and marks for each, and
+/// the kept desk's store.
 pub const RECORD_BYTES_LEN: usize = KEPT_STORE + STORE_LEN;
 
 /// Words in a row of chunks.
@@ -79,13 +81,16 @@ pub const RECORD_USED: usize = 0;
 /// calls stand one behind the other, each in the form of a sheet's record; the answers
 /// are in their order, a byte each.
 pub const RECORD_ANSWERS: usize = RECORD_CALLS * RECORD_FRONT + RECORD_TEXT;
+/// Where the marks begin there, behind the room for the answers, in the same order, a byte
+/// each.
+pub const RECORD_MARKS: usize = RECORD_ANSWERS + RECORD_CALLS;
 /// Where the kept desk's chunks begin in a record's words: those of the desk as it stood
 /// before the first filed call. They are not looked at while no call is filed.
 pub const KEPT_CHUNKS: usize = RECORD_USED + 1;
 /// Where its pieces begin there.
 pub const KEPT_PIECES: usize = KEPT_CHUNKS + CHUNKS_LEN;
-/// Where its store begins in a record's bytes, behind the answers.
-pub const KEPT_STORE: usize = RECORD_ANSWERS + RECORD_CALLS;
+/// Where its store begins in a record's bytes, behind the marks.
+pub const KEPT_STORE: usize = RECORD_MARKS + RECORD_CALLS;
 
 /// In [`NEXT`] and [`PREV`]: the list ends. It is row 0, the desk's own, whose
 /// [`NEXT`] and [`PREV`] are the first chunk and the last.

@@ -55,4 +55,6 @@ numbers! {
   /// A frozen chunk in the range, or on a desk to be trimmed or indented; or freezing while
   /// calls are filed.
   FROZEN = 20;
+  /// Marks above [`HIGHEST_MARKS`](crate::layout::HIGHEST_MARKS).
+  MARKS_TOO_HIGH = 21;
 }

@@ -65,7 +65,7 @@ fn value(text: &str, named: fn(&str) -> usize) -> usize {
 }
 
 /// Limits and lengths of a desk and of a record.
-const LENGTHS: [(&str, usize); 19] = [
+const LENGTHS: [(&str, usize); 20] = [
   ("SOURCE_BYTES", SOURCE_BYTES),
   ("CHUNKS", CHUNKS),
   ("PIECES", PIECES),
@@ -75,6 +75,7 @@ const LENGTHS: [(&str, usize); 19] = [
   ("RECORD_FRONT", RECORD_FRONT),
   ("RECORD_USED", RECORD_USED),
   ("RECORD_ANSWERS", RECORD_ANSWERS),
+  ("RECORD_MARKS", RECORD_MARKS),
   ("KEPT_CHUNKS", KEPT_CHUNKS),
   ("KEPT_PIECES", KEPT_PIECES),
   ("KEPT_STORE", KEPT_STORE),
@@ -94,6 +95,7 @@ fn limits_lengths_and_marks() {
     ("SHEET_FRONT", SHEET_FRONT),
     ("SHEET_RECORDS", SHEET_RECORDS),
     ("SHEET_BYTES", SHEET_BYTES),
+    ("HIGHEST_MARKS", HIGHEST_MARKS as usize),
     ("LIST_END", LIST_END as usize),
     ("NONE", NONE as usize),
     ("NO_CHAR", NO_CHAR as usize),
@@ -108,6 +110,8 @@ fn limits_and_lengths_of_the_library() {
   for (name, value) in LENGTHS {
     assert_eq!(constant(name), value, "{name}");
   }
+  let highest = format!("pub const HIGHEST_MARKS: u32 = {HIGHEST_MARKS};");
+  assert!(LIBRARY_LAYOUT.lines().any(|line| line == highest), "no line {highest}");
 }
 
 /// What stands between the commas of the header's n-th enum.

@@ -30,7 +30,8 @@ fn empty_records() {
   }
 }
 
-/// One word and 35,968 bytes were a record before it kept a desk.
+/// One word and 35,968 bytes were a record before it kept a desk, 68,736 bytes one before it
+/// had marks.
 #[test]
 fn other_lengths() {
   let lent = Lent::open("abc", 0);
@@ -39,23 +40,31 @@ fn other_lengths() {
     change(&mut lent);
     lent.all_refused();
   };
+  // The tables of the desk, which the calls on entries do not take.
+  let no_desk = |change: &dyn Fn(&mut Lent)| {
+    let mut lent = lent.clone();
+    change(&mut lent);
+    lent.tables_refused();
+    assert_eq!(lent.total(), Answer::ACCEPTED);
+  };
   for length in [0, 1, KEPT_PIECES, RECORD_WORDS_LEN - 1, RECORD_WORDS_LEN + 1] {
     resized(&|lent| lent.words.resize(length, 0));
   }
-  let lengths = [0, RECORD_ANSWERS, KEPT_STORE, RECORD_BYTES_LEN - 1, RECORD_BYTES_LEN + 1];
-  for length in lengths {
+  let before = RECORD_BYTES_LEN - RECORD_CALLS;
+  assert_eq!((RECORD_MARKS, before), (35_968, 68_736));
+  let lengths = [0, RECORD_ANSWERS, RECORD_MARKS, KEPT_STORE, before];
+  for length in lengths.into_iter().chain([RECORD_BYTES_LEN - 1, RECORD_BYTES_LEN + 1]) {
     resized(&|lent| lent.bytes.resize(length, 0));
   }
-  assert_eq!(KEPT_STORE, 35_968);
   resized(&|lent| {
     lent.words.truncate(1);
-    lent.bytes.truncate(KEPT_STORE);
+    lent.bytes.truncate(RECORD_MARKS);
   });
-  resized(&|lent| lent.chunks.truncate(CHUNKS_LEN - ROW));
-  resized(&|lent| lent.pieces.truncate(PIECES_LEN - PIECE));
-  resized(&|lent| lent.store.truncate(STORE_LEN - 1));
+  no_desk(&|lent| lent.chunks.truncate(CHUNKS_LEN - ROW));
+  no_desk(&|lent| lent.pieces.truncate(PIECES_LEN - PIECE));
+  no_desk(&|lent| lent.store.truncate(STORE_LEN - 1));
   // A desk that is not well formed over this source.
-  resized(&|lent| lent.source.push(b'd'));
+  no_desk(&|lent| lent.source.push(b'd'));
 }
 
 /// Bytes that are no calls of a record.
@@ -167,8 +176,8 @@ fn the_word_tells_the_two_13_apart() {
   assert_eq!(lent.answers(2)[1], 13);
 }
 
-/// Filing writes the call, its answer and the first word; the first call the kept desk too,
-/// and a later one nothing else. What other answers are is not looked at.
+/// Filing writes the call, its answer, no marks and the first word; the first call the kept
+/// desk too, and a later one nothing else. What other answers are is not looked at.
 #[test]
 fn what_filing_writes() {
   let mut lent = Lent::open("abcdef", 0xA5);
@@ -178,6 +187,7 @@ fn what_filing_writes() {
     let used = lent.used().len();
     expected.bytes[used..][..call.len()].copy_from_slice(call);
     expected.bytes[RECORD_ANSWERS + filed] = answer;
+    expected.bytes[RECORD_MARKS + filed] = 0;
     assert_eq!(lent.file(call).number, answer.into());
     assert_eq!(lent.used().len(), used + call.len());
     let compared = if filed == 0 { KEPT_STORE } else { RECORD_BYTES_LEN };
@@ -190,7 +200,8 @@ fn what_filing_writes() {
   }
 }
 
-/// A withdrawal leaves what lay behind the calls and behind the answers, and the kept desk.
+/// A withdrawal leaves what lay behind the calls, the answers and the marks, and the kept
+/// desk.
 #[test]
 fn what_withdrawing_leaves() {
   let calls = [remove(1, 3), append_left(5, b"!"), remove(4, 2)];
@@ -206,7 +217,9 @@ fn what_withdrawing_leaves() {
     left.remove(k as usize - 1);
     assert_eq!(lent.used(), left.concat());
     assert_eq!(lent.bytes[used..RECORD_ANSWERS], before[used..RECORD_ANSWERS]);
-    assert_eq!(lent.bytes[RECORD_ANSWERS + 3..], before[RECORD_ANSWERS + 3..]);
+    let answers = RECORD_ANSWERS + 3..RECORD_MARKS;
+    assert_eq!(lent.bytes[answers.clone()], before[answers]);
+    assert_eq!(lent.bytes[RECORD_MARKS + 3..], before[RECORD_MARKS + 3..]);
   }
 }
 

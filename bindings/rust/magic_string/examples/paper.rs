@@ -1,6 +1,6 @@
 //! A paper: a script is opened and edits are made on it, with the cuts that each made
 //! and the running text after it. Then the desk chunk by chunk, its reports, and the
-//! twenty refusals in words.
+//! twenty-one refusals in words.
 
 use magic_string::{
   Call, Chunk, End::*, IndentOptions, MagicString, Refusal, Side::*, Sitting, UpdateOptions, layout,
@@ -146,6 +146,9 @@ fn refusals(desk: &mut MagicString) {
   refused("join two lists that remove night", desk.join(&word, &word));
   refused("join one that removes half the Å", desk.join(&word, &half));
   refused("remove a frozen word and Radio", desk.remove(start("Ålesund"), end("Radio")));
+  let mut sitting = Sitting::default();
+  drop(sitting.file(&Call::Remove { start: 0, end: 0 }));
+  refused("give a call 10.1 points of 10", sitting.examiner().set_marks(1, 101));
 
   println!("\nThe text has {} bytes, as before: {}", text.len(), desk.to_string() == text);
   let more = desk.chunks().count() - chunks;

@@ -6,7 +6,10 @@
 //! stay within the lengths and keep nothing.
 #![allow(unsafe_code)]
 
-use magic_string_sys::{Answer, edit, magic_string_run_sheet, report};
+use magic_string_sys::{
+  Answer, edit, magic_string_entry, magic_string_marked_entry, magic_string_run_sheet,
+  magic_string_set_marks, magic_string_total, report,
+};
 
 use crate::{Refusal, filed::Filed, memory::Memory};
 
@@ -172,6 +175,56 @@ impl Memory {
         end
       )
     }
+  }
+}
+
+/// Calls a function that reads a record over the source of `$memory`; its own arguments
+/// follow.
+macro_rules! reading {
+  ($memory:ident, $filed:ident, $name:ident $(, $argument:expr)*) => {
+    $name(
+      $memory.source.as_ptr(), $memory.source.len(),
+      $filed.words.as_ptr(), $filed.words.len(),
+      $filed.bytes.as_ptr(), $filed.bytes.len()
+      $(, $argument)*
+    )
+  };
+}
+
+/// The entries of a record and their marks. The tables are not lent.
+impl Memory {
+  /// Writes the marks of the k-th filed call: the examiner's.
+  pub fn set_marks(&self, filed: &mut Filed, k: u32, marks: u32) -> Answered {
+    let Filed { words, bytes } = filed;
+    answered(unsafe {
+      magic_string_set_marks(
+        self.source.as_ptr(),
+        self.source.len(),
+        words.as_ptr(),
+        words.len(),
+        bytes.as_mut_ptr(),
+        bytes.len(),
+        k,
+        marks,
+      )
+    })
+  }
+
+  /// Writes the k-th filed call, as a record of a sheet, and its answer to `out`.
+  pub fn entry(&self, filed: &Filed, k: u32, out: &mut [u8]) -> Answered {
+    answered(unsafe { reading!(self, filed, magic_string_entry, k, out.as_mut_ptr(), out.len()) })
+  }
+
+  /// The same, and its marks: the examiner's.
+  pub fn marked_entry(&self, filed: &Filed, k: u32, out: &mut [u8]) -> Answered {
+    answered(unsafe {
+      reading!(self, filed, magic_string_marked_entry, k, out.as_mut_ptr(), out.len())
+    })
+  }
+
+  /// The sum of the marks: the examiner's.
+  pub fn total(&self, filed: &Filed) -> Answered {
+    answered(unsafe { reading!(self, filed, magic_string_total) })
   }
 }
 

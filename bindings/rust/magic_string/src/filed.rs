@@ -2,8 +2,9 @@
 
 use crate::layout::*;
 
-/// What is lent to `file`, `withdraw` and `freeze` behind a desk. `Sitting` holds one that
-/// was empty at first, and these keep it well formed.
+/// What is lent to the calls on a record. `Sitting` holds one that was empty at first, and
+/// these keep it well formed. The examiner's marks lie in its bytes, so it is not shown as it
+/// is, and nothing that a `Member` has reads them.
 #[derive(Clone)]
 pub struct Filed {
   pub words: Box<[u32]>,
@@ -25,7 +26,12 @@ impl Filed {
 
   /// The answers, the first ones those of the filed calls.
   pub fn answers(&self) -> &[u8] {
-    &self.bytes[RECORD_ANSWERS..KEPT_STORE]
+    &self.bytes[RECORD_ANSWERS..RECORD_MARKS]
+  }
+
+  /// The marks, in the same order.
+  pub fn marks(&self) -> &[u8] {
+    &self.bytes[RECORD_MARKS..KEPT_STORE]
   }
 
   /// The tables of the desk before the first filed call: chunks, pieces, store. They hold

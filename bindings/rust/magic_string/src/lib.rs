@@ -27,7 +27,7 @@
 //! - [`MagicString`] owns its source and three tables of fixed length, so it has no
 //!   lifetime, and [limits](layout). [`MagicString::new`] and every edit may give
 //!   [`Refusal::Limit`].
-//! - Errors are a [`Refusal`], one of twenty, and not a `String`.
+//! - Errors are a [`Refusal`], one of twenty-one, and not a `String`.
 //! - Its `append_left`, `append_right`, `prepend_left` and `prepend_right` are one,
 //!   [`MagicString::insert`], with a [`Side`] and an [`End`].
 //! - A position inside a character is refused, where string_wizard may panic, and
@@ -40,7 +40,7 @@
 //!   ([`MagicString::run_sheet`]); two lists of calls joined ([`MagicString::join`]), and
 //!   in words why they cannot be ([`premises::broken`]); parts that no edit takes away
 //!   ([`MagicString::freeze`]); and a record of calls, any of which can be taken back
-//!   ([`Sitting`]).
+//!   ([`Sitting`]), which a [`Member`] fills and an [`Examiner`] marks.
 //!
 //! Positions are byte offsets into the source.
 
@@ -69,6 +69,6 @@ pub use crate::{
     update::UpdateOptions,
   },
   refusal::Refusal,
-  sitting::{Call, Entry, FilingError, Sitting},
+  sitting::{Call, Entry, Examiner, FilingError, MarkedEntry, Member, Sitting},
   span::Span,
 };

@@ -53,11 +53,13 @@ pub enum Refusal {
   /// A [frozen](crate::MagicString::freeze) chunk in the range, or on a desk to be trimmed
   /// or indented; or freezing while calls are filed.
   Frozen = numbers::FROZEN,
+  /// Marks above 100.
+  MarksTooHigh = numbers::MARKS_TOO_HIGH,
 }
 
 impl Refusal {
   /// All of them, in the order of their numbers.
-  pub const ALL: [Refusal; 20] = [
+  pub const ALL: [Refusal; 21] = [
     Refusal::NotUtf8,
     Refusal::NotWellFormed,
     Refusal::InsideCharacter,
@@ -78,9 +80,10 @@ impl Refusal {
     Refusal::NotApart,
     Refusal::RefusedAlone,
     Refusal::Frozen,
+    Refusal::MarksTooHigh,
   ];
 
-  /// Its number, 1 to 20.
+  /// Its number, 1 to 21.
   pub fn number(self) -> u32 {
     self as u32
   }
@@ -123,6 +126,7 @@ impl fmt::Display for Refusal {
       Refusal::NotApart => "calls to be joined are not apart",
       Refusal::RefusedAlone => "a call to be joined is refused alone",
       Refusal::Frozen => "a frozen chunk, or freezing with calls already filed",
+      Refusal::MarksTooHigh => "marks above 100",
     })
   }
 }

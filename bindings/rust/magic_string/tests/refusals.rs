@@ -1,13 +1,14 @@
-//! Each of the twenty refusals through the wrapper: document 01's own examples,
+//! Each of the twenty-one refusals through the wrapper: document 01's own examples,
 //! what the desk is afterwards, and which calls have them.
 //!
-//! Types rule out some ways to a number, though none of the twenty. 1: texts of
+//! Types rule out some ways to a number, though none of them all. 1: texts of
 //! edits are `str`, so only `from_utf8` and `run_sheet` have it. 2: a `MagicString`
 //! is well formed, so only `from_tables` has it. 14: the wrapper's own buffers are
 //! long enough, so only `write_to` has it. 15: excluded ranges are pairs, so only
 //! trims have it. 16: only `run_sheet` and `join` have it (tests/sheet.rs,
-//! tests/join.rs). 17: only `Sitting::withdraw` has it (tests/sitting.rs). 18 and 19:
-//! only `join` has them (tests/join.rs). 20: tests/frozen.rs has its places.
+//! tests/join.rs). 17: only calls on a sitting have it (tests/sitting.rs, tests/marks.rs).
+//! 18 and 19: only `join` has them (tests/join.rs). 20: tests/frozen.rs has its places. 21:
+//! only `Examiner::set_marks` has it (tests/marks.rs).
 
 use magic_string::{
   Call,
@@ -60,7 +61,7 @@ fn numbers_and_words() {
   }
   assert_eq!(Refusal::ALL.len(), NUMBERS.len());
   assert_eq!(Refusal::from_number(0), None);
-  assert_eq!(Refusal::from_number(21), None);
+  assert_eq!(Refusal::from_number(22), None);
   let error: &dyn std::error::Error = &Refusal::PastSource;
   assert_eq!(error.to_string(), "end past source");
 }
@@ -293,6 +294,15 @@ fn number_20_frozen() {
   assert_eq!(untouched(desk, |s| s.trim(None)), Refusal::Frozen);
   assert_eq!(refused(desk, |s| s.remove(1, 4)), Refusal::Frozen);
   assert_eq!(spans(desk), [(0, 1), (1, 2), (2, 3), (3, 4), (4, 5)]);
+}
+
+#[test]
+fn number_21_marks_above_100() {
+  let sitting = &mut Sitting::open("abc").unwrap();
+  assert_eq!(sitting.examiner().set_marks(1, 101).err(), Some(Refusal::NoSuchCall));
+  sitting.file(&Call::Remove { start: 0, end: 1 }).unwrap();
+  assert_eq!(sitting.examiner().set_marks(1, 101).err(), Some(Refusal::MarksTooHigh));
+  assert_eq!(sitting.examiner().total(), 0);
 }
 
 #[test]

@@ -14,15 +14,15 @@ range : (c : tie.After-take-out-arg2) → let a = c .before .before .before .bef
 range c =
     let if1 = c .before .before in
     let start = if1 .before .before .before .before .before .before .before .before in
-    withdraw-range (start .pre .1 .0) (start .args .k) (if1 .before .withdrawal-number .ensures) (if1 .if1 .left)
+    withdraw-range (start .pre .1 .0) (start .args .k) (if1 .before .no-such-call .ensures) (if1 .if1 .left)
 
-withdrawal-number-requires : tie.Need-withdrawal-number-requires
-withdrawal-number-requires c κs = search needs
+no-such-call-requires : tie.Need-no-such-call-requires
+no-such-call-requires c κs = search needs
 
 returns : tie.Need-returns
 returns c =
     let start = c .before .before .before .before .before .before .before .before in
-    withdraws-refused (start .pre .1 .0) _ (c .before .withdrawal-number .ensures) (start .pre .0 .well-formed) (c .if1 .taken)
+    withdraws-refused (start .pre .1 .0) _ (c .before .no-such-call .ensures) (start .pre .0 .well-formed) (c .if1 .taken)
 
 wide-requires : tie.Need-wide-requires
 wide-requires c κs = search needs
@@ -35,7 +35,7 @@ take-out-requires : tie.Need-take-out-requires
 take-out-requires c κs =
     let if1 = c .before .before .before in
     let start = if1 .before .before .before .before .before .before .before .before in
-    let number = if1 .before .withdrawal-number in
+    let number = if1 .before .no-such-call in
     (start .pre .1 .0, withdraw-place (start .pre .1 .0) _ (number .ensures) (if1 .if1 .left) (omega (arith, range (c .before) .0, c .wide .ensures .0)))
 
 put-back-requires : tie.Need-put-back-requires
@@ -52,7 +52,7 @@ run-anew-requires c κs =
     let wide = out .before in
     let if1 = wide .before .before .before in
     let start = if1 .before .before .before .before .before .before .before .before in
-    let number = if1 .before .withdrawal-number in
+    let number = if1 .before .no-such-call in
     let few = withdraw-place (start .pre .1 .0) _ (number .ensures) (if1 .if1 .left) {i = wide .wide .result - 1} (omega (arith, range (wide .before) .0, wide .wide .ensures .0)) in (
       back-tables (start .pre .1 .0) _ (number .ensures) (if1 .if1 .left) (omega (arith, range (wide .before) .0, wide .wide .ensures .0)) (out .take-out .ensures) (back .put-back .ensures) (λ x y z. Desk (start .args .source .now) x y z (start .args .start))
           (start .pre .1 .1 (λ n. absurd (omega (arith, range (wide .before) .0, range (wide .before) .1)))),
@@ -85,7 +85,7 @@ returns-2 c =
     let wide = out .before in
     let if1 = wide .before .before .before in
     let start = if1 .before .before .before .before .before .before .before .before in
-    let number = if1 .before .withdrawal-number in
+    let number = if1 .before .no-such-call in
     let put = back .put-back .kept .1 .1 in
     let anew = ran .run-anew in
     withdraws-call (start .pre .1 .0) _ (number .ensures) (if1 .if1 .left) (omega (arith, range (wide .before) .0, wide .wide .ensures .0)) (out .take-out .ensures) (back .put-back .ensures)
@@ -96,7 +96,7 @@ pub withdraw-spec : {M : Type 1} → statement M
 withdraw-spec =
     tie.close
     (tie.spec
-    withdrawal-number-requires
+    no-such-call-requires
     returns
     wide-requires
     sub-take-out

@@ -1,6 +1,7 @@
 -- `filed_checked::file` meets its contract.
 use Rattle.check_well_formed.proofs.Told.{seen-none, seen-taken, seen-desk}
-use Rattle.filed_checked.proofs.Checked.{beside-none, beside-record, sitting-no-desk, sitting-no-record, sitting-yes}
+use Rattle.filed_taken.proofs.Says.{beside-none, beside-record}
+use Rattle.filed_checked.proofs.Checked.{sitting-no-desk, sitting-no-record, sitting-yes}
 use borrow.Author.Needs.{needs}
 use Rattle.filed_checked.proofs.file.Statement.{statement}
 use Rattle.filed_checked.proofs.file.Tie as tie

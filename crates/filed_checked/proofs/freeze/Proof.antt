@@ -1,7 +1,8 @@
 -- `filed_checked::freeze` meets its contract.
 use native.Mathlib.Omega.{arith}
 use Rattle.check_well_formed.proofs.Told.{seen-none, seen-taken, seen-desk}
-use Rattle.filed_checked.proofs.Checked.{beside-none, beside-record, sitting-no-desk, sitting-no-record, sitting-yes, frozen-filed, frozen-edit}
+use Rattle.filed_taken.proofs.Says.{beside-none, beside-record}
+use Rattle.filed_checked.proofs.Checked.{sitting-no-desk, sitting-no-record, sitting-yes, frozen-filed, frozen-edit}
 use borrow.Author.Needs.{needs}
 use Rattle.filed_checked.proofs.freeze.Statement.{statement}
 use Rattle.filed_checked.proofs.freeze.Tie as tie

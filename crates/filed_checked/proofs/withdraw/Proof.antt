@@ -1,6 +1,7 @@
 -- `filed_checked::withdraw` meets its contract.
 use Rattle.filed_taken.proofs.Judging.{kept-desk-of}
-use Rattle.filed_checked.proofs.Checked.{beside-none, beside-record, sitting-no-desk, sitting-no-record, sitting-yes}
+use Rattle.filed_taken.proofs.Says.{beside-none, beside-record}
+use Rattle.filed_checked.proofs.Checked.{sitting-no-desk, sitting-no-record, sitting-yes}
 use borrow.Author.Needs.{needs}
 use Rattle.filed_checked.proofs.withdraw.Statement.{statement}
 use Rattle.filed_checked.proofs.withdraw.Tie as tie

@@ -1,4 +1,6 @@
 -- `filed_entries::put_entry` meets its contract.
+use native.Mathlib.Omega.{arith}
+use lib.ListN.{length-set}
 use Rattle.filed_entries.proofs.Slices.{entry-put}
 use borrow.Author.Needs.{needs}
 use Rattle.filed_entries.proofs.put_entry.Statement.{statement}
@@ -6,6 +8,9 @@ use Rattle.filed_entries.proofs.put_entry.Tie as tie
 
 add-place : tie.Need-add-place
 add-place c = search needs
+
+add-marks : tie.Need-add-marks
+add-marks c = search needs
 
 sub-put : tie.Need-sub-put
 sub-put c = search needs
@@ -21,6 +26,11 @@ put-requires c κs = search needs
 
 slice-write-bytes : tie.Need-slice-write-bytes
 slice-write-bytes c = search needs
+
+slice-write-bytes-2 : tie.Need-slice-write-bytes-2
+slice-write-bytes-2 c =
+    let start = c .before .before .before .before .before .before .before .before .before in
+    simp length-set (omega (arith, start .pre .1 .1, start .pre .0 .bytes))
 
 add-words : tie.Need-add-words
 add-words c = search needs
@@ -39,7 +49,7 @@ same-length-2 c = search needs
 
 returns : tie.Need-returns
 returns c =
-    let start = c .before .before .before .before .before .before .before .before in
+    let start = c .before .before .before .before .before .before .before .before .before in
     entry-put (start .pre .0) _ _ _ (start .pre .1 .0) (c .before .before .put .ensures)
 
 pub put-entry-spec : {M : Type 1} → statement M
@@ -47,11 +57,13 @@ put-entry-spec =
     tie.close
     (tie.spec
     add-place
+    add-marks
     sub-put
     part-put-start
     part-put-end
     put-requires
     slice-write-bytes
+    slice-write-bytes-2
     add-words
     cast-words
     slice-write-words

@@ -20,6 +20,21 @@ place-of-requires c κs = let start = c .before .before .before .before in behin
 close-gap-requires : tie.Need-close-gap-requires
 close-gap-requires c κs = search needs
 
+add-close-gap : tie.Need-add-close-gap
+add-close-gap c = search needs
+
+add-close-gap-2 : tie.Need-add-close-gap-2
+add-close-gap-2 c = search needs
+
+add-close-gap-3 : tie.Need-add-close-gap-3
+add-close-gap-3 c = search needs
+
+add-close-gap-4 : tie.Need-add-close-gap-4
+add-close-gap-4 c = search needs
+
+close-gap-requires-2 : tie.Need-close-gap-requires-2
+close-gap-requires-2 c κs = search needs
+
 sub-left : tie.Need-sub-left
 sub-left c = search needs
 
@@ -40,8 +55,10 @@ same-length-2 c = search needs
 
 returns : tie.Need-returns
 returns c =
-    let start = c .before .before .before .before .before .before .before .before .before .before in
-    entry-out (start .pre .0) (start .args .i) _ _ (c .before .before .before .before .before .place-of .ensures) (c .before .before .before .close-gap .ensures)
+    let gap2 = c .before .before .before in
+    let gap = gap2 .before .before .before .before .before in
+    let start = gap .before .before .before .before .before .before .before in
+    entry-out (start .pre .0) (start .args .i) _ _ (gap .before .before .place-of .ensures) (gap .close-gap .ensures) (gap2 .close-gap2 .ensures)
 
 pub take-out-spec : {M : Type 1} → statement M
 take-out-spec =
@@ -52,6 +69,11 @@ take-out-spec =
     part-place-of-end
     place-of-requires
     close-gap-requires
+    add-close-gap
+    add-close-gap-2
+    add-close-gap-3
+    add-close-gap-4
+    close-gap-requires-2
     sub-left
     sub-left-2
     cast-words

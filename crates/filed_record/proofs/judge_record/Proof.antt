@@ -5,7 +5,7 @@ use denote.Ref.{now}
 use Rattle.model_filed.specs.Filed.{MOST-CALLS}
 use Rattle.sheet_records.specs.Found.{Counts}
 use Rattle.filed_record.specs.Record.{callsOf}
-use Rattle.filed_record.proofs.Holding.{part-is, other-words, other-bytes, used-past, no-list, much-text, holds-of}
+use Rattle.filed_record.proofs.Holding.{part-is, other-words, other-bytes, used-past, no-list, much-text, high-marks, holds-of}
 use borrow.Author.Needs.{needs}
 use Rattle.filed_record.proofs.judge_record.Statement.{statement}
 use Rattle.filed_record.proofs.judge_record.Tie as tie
@@ -56,13 +56,27 @@ returns-4 c = no-list _ _ (subst (Counts _ MOST-CALLS) (c .enum-told .given .1) 
 returns-5 : tie.Need-returns-5
 returns-5 c = much-text _ _ (subst (Counts _ MOST-CALLS) (c .before .before .count .given .1) (counts (c .before .before .before .before))) (omega (arith, c .if4 .taken))
 
+marks-fit-requires : tie.Need-marks-fit-requires
+marks-fit-requires c κs =
+    let few = subst (Counts _ MOST-CALLS) (c .before .before .count .given .1) (counts (c .before .before .before .before)) .counted .few in
+    omega (arith, few, c .before .before .before .before .before .before .before .before .before .if2 .left)
+
 returns-6 : tie.Need-returns-6
 returns-6 c =
-    let wide = c .before .before .before .before .before .before .before .wide in
-    holds-of _ _ (wide .result) (c .before .before .before .before .before .before .before .before .before .before .if1 .left)
-    (c .before .before .before .before .before .before .before .before .before .if2 .left) (wide .ensures .0)
-    (c .before .before .before .before .before .before .if3 .left)
-    (subst (Counts _ MOST-CALLS) (c .before .before .count .given .1) (counts (c .before .before .before .before))) (omega (arith, c .if4 .left))
+    let if4 = c .before .before in
+    let wide = if4 .before .before .before .before .before .before .before .wide in
+    holds-of _ _ (wide .result) (if4 .before .before .before .before .before .before .before .before .before .before .if1 .left)
+    (if4 .before .before .before .before .before .before .before .before .before .if2 .left) (wide .ensures .0)
+    (if4 .before .before .before .before .before .before .if3 .left)
+    (subst (Counts _ MOST-CALLS) (if4 .before .before .count .given .1) (counts (if4 .before .before .before .before))) (omega (arith, if4 .if4 .left))
+    (c .before .marks-fit .ensures .yes (c .if5 .taken))
+
+returns-7 : tie.Need-returns-7
+returns-7 c =
+    let if4 = c .before .before in
+    let high = c .before .marks-fit .ensures .no (c .if5 .left) in
+    high-marks _ _ (subst (Counts _ MOST-CALLS) (if4 .before .before .count .given .1) (counts (if4 .before .before .before .before))) (omega (arith, if4 .if4 .left))
+    (high .1) (omega (arith, high .2))
 
 pub judge-record-spec : {M : Type 1} → statement M
 judge-record-spec =
@@ -81,4 +95,6 @@ judge-record-spec =
     enum-told
     returns-4
     returns-5
-    returns-6)
+    marks-fit-requires
+    returns-6
+    returns-7)

@@ -5,19 +5,10 @@
 
 use std::process::ExitCode;
 
-use differential::{
-  arguments::Arguments,
-  program,
-  sittings::{Compared, compare},
-};
+use differential::{arguments::Arguments, program, sittings::compare};
 
 fn main() -> ExitCode {
   program::counted("sittings", |core, Arguments { seed, count, most }| {
-    let Compared { tally, different } = compare(core, seed, count, most);
-    let found = different.map(|(sitting, found)| {
-      let head = "The smallest sitting found, which differs at its last line:";
-      format!("{head}\n\n{sitting}\n{}", found.what)
-    });
-    (Box::new(tally), found)
+    compare(core, seed, count, most).printed()
   })
 }

@@ -3,7 +3,7 @@
 use oracle::Call;
 
 use super::{Core, Unseen};
-use crate::{Answer, Lent, LentRecord, NoCalls, missing};
+use crate::{Answer, Lent, LentRecord, NoCalls, missing, sittings::reading::Reader};
 
 #[derive(Debug, Clone, Copy)]
 pub struct Archive;
@@ -85,6 +85,34 @@ impl Core for Archive {
     end: u32,
   ) -> Option<Answer> {
     missing::has_function("freeze").then(|| lent.freeze(record, start, end))
+  }
+
+  fn set_marks(
+    &mut self,
+    source: &[u8],
+    record: &mut LentRecord,
+    k: u32,
+    marks: u32,
+  ) -> Option<Answer> {
+    missing::has_function("set_marks").then(|| record.set_marks(source, k, marks))
+  }
+
+  fn show_entry(
+    &mut self,
+    source: &[u8],
+    record: &LentRecord,
+    reader: Reader,
+    k: u32,
+    out: &mut [u8],
+  ) -> Option<Answer> {
+    missing::has_function(reader.function()).then(|| match reader {
+      Reader::Member => record.entry(source, k, out),
+      Reader::Examiner => record.marked_entry(source, k, out),
+    })
+  }
+
+  fn total(&mut self, source: &[u8], record: &LentRecord) -> Option<Answer> {
+    missing::has_function("total").then(|| record.total(source))
   }
 
   fn join(&mut self, lent: &mut Lent, first: &[u8], second: &[u8]) -> Option<Answer> {

@@ -4,6 +4,7 @@
 mod archive;
 #[cfg(feature = "inner")]
 mod inner;
+mod noting;
 mod stand_in;
 mod unseen;
 
@@ -11,11 +12,12 @@ mod unseen;
 pub use archive::Archive;
 #[cfg(feature = "inner")]
 pub use inner::{Inner, List, inner_answer};
+pub use noting::{Noted, Noting};
 use oracle::Call;
 pub use stand_in::StandIn;
 pub use unseen::Unseen;
 
-use crate::{Answer, Lent, LentRecord, Sizes, holds_desk};
+use crate::{Answer, Lent, LentRecord, Sizes, holds_desk, sittings::reading::Reader};
 
 pub trait Core {
   /// For the printed report.
@@ -67,6 +69,35 @@ pub trait Core {
     _start: u32,
     _end: u32,
   ) -> Option<Answer> {
+    None
+  }
+
+  /// Writes the marks of the k-th entry of a record beside a desk over this source. None
+  /// where the core marks no calls.
+  fn set_marks(
+    &mut self,
+    _source: &[u8],
+    _record: &mut LentRecord,
+    _k: u32,
+    _marks: u32,
+  ) -> Option<Answer> {
+    None
+  }
+
+  /// Writes what the reader sees of the k-th entry. None where the core shows no entries.
+  fn show_entry(
+    &mut self,
+    _source: &[u8],
+    _record: &LentRecord,
+    _reader: Reader,
+    _k: u32,
+    _out: &mut [u8],
+  ) -> Option<Answer> {
+    None
+  }
+
+  /// The sum of all marks. None where the core has no total.
+  fn total(&mut self, _source: &[u8], _record: &LentRecord) -> Option<Answer> {
     None
   }
 

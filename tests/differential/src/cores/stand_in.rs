@@ -11,9 +11,9 @@ use crate::{
   image::{self, Style},
   joins::reading as joins,
   keeps,
-  layout::{RECORD_ANSWERS, RECORD_USED},
+  layout::{RECORD_ANSWERS, RECORD_MARKS, RECORD_USED},
   sheets::reading,
-  sittings::reading as sittings,
+  sittings::reading::{self as sittings, Reader},
 };
 
 #[derive(Debug, Clone)]
@@ -146,7 +146,9 @@ impl Core for StandIn {
     if let (Some(desk), Some(read), number::ACCEPTED) = (desk, read, answer.number) {
       let used = record.words[RECORD_USED] as usize;
       record.bytes[..used].fill(self.random.number() as u8);
-      record.bytes[RECORD_ANSWERS + read.entries.len()] = self.random.number() as u8;
+      for freed in [RECORD_ANSWERS, RECORD_MARKS] {
+        record.bytes[freed + read.entries.len()] = self.random.number() as u8;
+      }
       record.write(&read.entries);
       self.lay_out(Sizes::FULL, &desk, lent);
     }
@@ -172,6 +174,53 @@ impl Core for StandIn {
     {
       self.lay_out(Sizes::FULL, &desk, lent);
     }
+    Some(Answer { number: answer.number, value: answer.value })
+  }
+
+  /// By the plain reading, too.
+  fn set_marks(
+    &mut self,
+    source: &[u8],
+    record: &mut LentRecord,
+    k: u32,
+    marks: u32,
+  ) -> Option<Answer> {
+    if self.any_size {
+      return None;
+    }
+    let mut read = sittings::read(source, record.words, record.bytes);
+    let answer = sittings::set_marks(read.as_mut(), k, marks);
+    if answer.number == number::ACCEPTED {
+      read.iter().for_each(|read| record.write(&read.entries));
+    }
+    Some(Answer { number: answer.number, value: answer.value })
+  }
+
+  /// By the plain reading, too.
+  fn show_entry(
+    &mut self,
+    source: &[u8],
+    record: &LentRecord,
+    reader: Reader,
+    k: u32,
+    out: &mut [u8],
+  ) -> Option<Answer> {
+    if self.any_size {
+      return None;
+    }
+    let read = sittings::read(source, record.words, record.bytes);
+    let answer = sittings::show_entry(read.as_ref(), reader, k, out.len());
+    out[..answer.bytes.len()].copy_from_slice(&answer.bytes);
+    Some(Answer { number: answer.number, value: answer.value })
+  }
+
+  /// By the plain reading, too.
+  fn total(&mut self, source: &[u8], record: &LentRecord) -> Option<Answer> {
+    if self.any_size {
+      return None;
+    }
+    let read = sittings::read(source, record.words, record.bytes);
+    let answer = sittings::total(read.as_ref());
     Some(Answer { number: answer.number, value: answer.value })
   }
 

@@ -5,7 +5,7 @@ use std::{collections::BTreeMap, fmt};
 use oracle::{Call, Desk, random::Random};
 
 use crate::{
-  Answer, Core, Image, Made, Unseen,
+  Answer, Core, Image, Made, Sizes, Unseen,
   cores::verdict,
   every_call, holds_desk, image,
   joins::{
@@ -54,6 +54,8 @@ pub struct Judge<'a, C> {
   records: Vec<Call>,
   /// A record of them, which keeps a fresh desk over a source.
   filed: (String, Memory),
+  /// The same, which keeps the image, and the sum of its marks.
+  keeping: (Memory, u32),
   /// Lists that are joined: those that are refused for everything at once, and less.
   joined: Vec<Lists>,
   before: Image,
@@ -68,9 +70,12 @@ impl<'a, C: Core> Judge<'a, C> {
     let mut records = every[0].clone();
     records.retain(|call| kind(call).is_some());
     every.iter_mut().for_each(|calls| calls.retain(|call| core.has(call)));
-    let filed = (String::new(), Memory::of(&Written::calls(&records), "", &mut random));
+    let memory = Memory::of(&Written::calls(&records), "", &mut random);
+    let total = memory.marks()[..records.len()].iter().map(|&marks| u32::from(marks)).sum();
+    let (filed, keeping) = ((String::new(), memory.clone()), (memory, total));
     let joined = due::choices(due::Place::Across).into_iter().map(|pair| pair.lists).collect();
-    Self { core, random, every, records, filed, joined, before, verdicts: Verdicts::default() }
+    let verdicts = Verdicts::default();
+    Self { core, random, every, records, filed, keeping, joined, before, verdicts }
   }
 
   /// Judges the image, which is left as it is.
@@ -83,6 +88,7 @@ impl<'a, C: Core> Judge<'a, C> {
       .and_then(|()| self.open(image))
       .and_then(|()| self.run_sheet(image))
       .and_then(|()| self.file_and_withdraw(image))
+      .and_then(|()| self.total(image, holds))
       .and_then(|()| self.join(image))
       .and_then(|()| if holds { self.calls_on_desk(image) } else { self.calls_on_no_desk(image) });
     judged.map_err(|what| Found { kind, what, image: Box::new(self.before.clone()) })
@@ -149,8 +155,8 @@ impl<'a, C: Core> Judge<'a, C> {
   /// A run of a sheet looks at their lengths alone too. The sheet has the image's source.
   fn run_sheet(&mut self, image: &Image) -> Result<(), String> {
     let sheet = Fields::of(&image.source, &self.records).bytes();
-    let memory = Image { source: sheet, ..image.clone() };
-    let ran = run_in(self.core, memory, self.records.len(), &mut self.random);
+    let mut memory = Image { source: sheet, ..image.clone() };
+    let ran = run_in(self.core, &mut memory, self.records.len(), &mut self.random);
     self.verdicts.calls += ran.map_err(|what| format!("run_sheet: {what}"))?.is_some() as u64;
     Ok(())
   }
@@ -169,6 +175,21 @@ impl<'a, C: Core> Judge<'a, C> {
     let made = [frozen.is_some(), filed.is_some(), withdrawn.is_some()];
     self.verdicts.calls += made.map(u64::from).iter().sum::<u64>();
     Ok(())
+  }
+
+  /// A record with calls that keeps these tables is one exactly if they are a desk: its total
+  /// tells.
+  fn total(&mut self, image: &Image, holds: bool) -> Result<(), String> {
+    let (memory, total) = &mut self.keeping;
+    if image.sizes() != Some(Sizes::FULL) {
+      return Ok(());
+    }
+    memory.lend().keep(image);
+    let expected = if holds { Answer { number: 0, value: *total } } else { Answer::NO_DESK };
+    match self.core.total(&image.source, &memory.lend()) {
+      Some(answer) => self.check("total", answer, expected, image),
+      None => Ok(()),
+    }
   }
 
   /// A record of the calls. It keeps a fresh desk over this source, if it is one.

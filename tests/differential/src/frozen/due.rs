@@ -9,10 +9,12 @@ use oracle::{
   ChunkData, DeskData,
 };
 
-use super::steps::{action, both_ways, desk, freeze, insert, relocate, remove, update};
 use crate::{
   layout::*,
-  sittings::{Action, Sitting, Written},
+  sittings::{
+    Action, Sitting, Written,
+    steps::{action, both_ways, desk, freeze, insert, relocate, remove, update},
+  },
 };
 
 pub fn all() -> Vec<Sitting> {

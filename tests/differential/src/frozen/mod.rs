@@ -7,21 +7,20 @@ mod due;
 mod random_sittings;
 mod records;
 mod seen;
-mod steps;
 mod sweep;
-mod tally;
 
 use std::time::Duration;
 
+use cases::OfFrozen;
 use oracle::random::Random;
 pub use random_sittings::sitting as random;
-pub use tally::Tally;
 
 use crate::{
   Core,
-  sittings::{self, Sitting},
+  sittings::{self, CaseTally, Sitting},
 };
 
+pub type Tally = CaseTally<OfFrozen>;
 pub type Compared = sittings::Compared<Tally>;
 
 /// Compares all sittings of `chosen` and then random ones: until there were so many of

@@ -1,12 +1,11 @@
 //! Random sittings with frozen parts, each the same for the same seed.
 
-use oracle::{Call, random::Random};
+use oracle::random::Random;
 
 use crate::{
-  Made,
   made::{self, Aim, make, marked},
   sittings::{
-    Action, HARMS, KEPT_HARMS, Sitting,
+    HARMS, KEPT_HARMS, Sitting,
     candidate::Candidate,
     random_sittings::{any_calls, fresh},
   },
@@ -36,11 +35,6 @@ impl Candidate {
         _ => self.make_any(),
       }
     }
-  }
-
-  fn freeze_any(&mut self) {
-    let (start, end) = self.caller.frozen_range();
-    self.freeze(start, end);
   }
 }
 
@@ -102,9 +96,5 @@ fn damaged(random: &mut Random) -> Sitting {
     0 => sitting.harm = Some(HARMS[random.below(HARMS.len())]),
     _ => sitting.record.harm = Some(KEPT_HARMS[random.below(KEPT_HARMS.len())]),
   }
-  // Tables of other lengths are not opened.
-  let opens =
-    |action: &Action| matches!(action, Action::Make(Made { call: Call::Open { .. }, .. }));
-  sitting.actions.retain(|action| !opens(action));
-  Sitting { tries: "random sittings, damaged", ..sitting }
+  Sitting { tries: "random sittings, damaged", ..sitting.without_openings() }
 }

@@ -6,10 +6,12 @@ use oracle::{
   DeskData,
 };
 
-use super::steps::{action, desk, freeze, insert, relocate, remove, update};
 use crate::{
   layout::*,
-  sittings::{Action, HARMS, KEPT_HARMS, Kept, Sitting, Written},
+  sittings::{
+    Action, HARMS, KEPT_HARMS, Kept, Sitting, Written,
+    steps::{action, desk, freeze, insert, relocate, remove, update},
+  },
 };
 
 pub fn all() -> Vec<Sitting> {
@@ -68,11 +70,14 @@ fn none() -> Vec<Sitting> {
   all
 }
 
-/// Memory of a record that keeps no desk, as it was right before: too short now.
+/// Memory of a record that keeps no desk, as it was right before: too short now. So is that
+/// of a record without marks.
 fn lengths() -> Vec<Sitting> {
+  let [words, bytes] = [RECORD_WORDS_LEN, RECORD_BYTES_LEN];
+  let [[short_words, short_bytes], [_, unmarked_bytes]] = [WITHOUT_KEPT, WITHOUT_MARKS];
   let mut all = Vec::new();
-  for words in [KEPT_CHUNKS, KEPT_PIECES, RECORD_WORDS_LEN - 1, RECORD_WORDS_LEN + 1] {
-    for bytes in [KEPT_STORE, RECORD_BYTES_LEN - 1, RECORD_BYTES_LEN, RECORD_BYTES_LEN + 1] {
+  for words in [short_words, KEPT_PIECES, words - 1, words, words + 1] {
+    for bytes in [short_bytes, unmarked_bytes, bytes - 1, bytes, bytes + 1] {
       for calls in [&calls()[..], &[]] {
         let record = Written { lengths: [words, bytes], ..Written::calls(calls) };
         all.extend(each("records of other lengths", &in_use(), &record));

@@ -6,8 +6,10 @@ use oracle::{
   insertions,
 };
 
-use super::steps::{action, both_ways, desk, freeze, insert, relocate, remove, update};
-use crate::sittings::{Sitting, Written};
+use crate::sittings::{
+  Sitting, Written,
+  steps::{action, both_ways, desk, freeze, insert, relocate, remove, update},
+};
 
 pub fn all() -> Vec<Sitting> {
   DESKS.iter().flat_map(|(source, calls)| on(source, &calls())).collect()

@@ -12,7 +12,7 @@ use crate::{Answer, Core, Image, out::Out};
 /// Runs the sheet as it is handed in. What differs, if anything does.
 pub fn run(core: &mut impl Core, handed: &Handed, tally: &mut Tally) -> Result<(), String> {
   let random = &mut Random::new(handed.seed);
-  match run_in(core, handed.memory(random), handed.room, random)? {
+  match run_in(core, &mut handed.memory(random), handed.room, random)? {
     Some(ran) => tally.add(handed, &ran),
     None => tally.passed_over += 1,
   }
@@ -20,11 +20,11 @@ pub fn run(core: &mut impl Core, handed: &Handed, tally: &mut Tally) -> Result<(
 }
 
 /// Runs the sheet that stands in the source's place of this memory, with room for so
-/// many answers. What the run must give and gave, or what differs; none where the
-/// core runs no sheets.
+/// many answers; its source stands there behind it, if it was opened. What the run must give
+/// and gave, or what differs; none where the core runs no sheets.
 pub fn run_in(
   core: &mut impl Core,
-  mut memory: Image,
+  memory: &mut Image,
   room: usize,
   random: &mut Random,
 ) -> Result<Option<Result<Ran, u32>>, String> {

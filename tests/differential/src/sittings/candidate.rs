@@ -5,7 +5,7 @@ use oracle::{Call, Desk, DeskData, Limits, random::Random};
 use super::{
   Action, Kept, Sitting, Written,
   memory::call_bytes,
-  reading::{self, Entry, Record},
+  reading::{Entry, Record},
 };
 use crate::{Start, made, papers::Caller, sheets::call_changed};
 
@@ -32,12 +32,12 @@ impl Candidate {
     }
   }
 
-  /// With these calls in the record, which may have any answers, and this desk kept, over
-  /// the same source.
+  /// With these calls in the record, which may have any answers and marks, and this desk
+  /// kept, over the same source.
   pub fn with_calls(self, calls: Vec<Call>, kept: DeskData) -> Self {
     let desk = (!calls.is_empty()).then(|| Desk::build(Limits::FULL, &kept));
     let written = Written { kept: Kept::Desk(kept), ..Written::calls(&calls) };
-    let entries = calls.into_iter().map(|call| Entry { call, answer: 0 }).collect();
+    let entries = calls.into_iter().map(|call| Entry { call, answer: 0, marks: 0 }).collect();
     Self { written, record: Record { entries, kept: desk }, ..self }
   }
 
@@ -45,7 +45,7 @@ impl Candidate {
     let start = Start::Desk { desk: self.start, seed: self.random.number() };
     let seed = self.random.number();
     let (record, actions) = (self.written, self.actions);
-    Sitting { tries, start, harm: None, record, actions, seed }
+    Sitting { tries, start, harm: None, record, other_marks: None, actions, seed }
   }
 
   /// So many actions.
@@ -90,19 +90,21 @@ impl Candidate {
   }
 
   fn file_bytes(&mut self, bytes: Vec<u8>) {
-    self.change(|desk, record| reading::file(Some(desk), record, &bytes));
-    self.actions.push(Action::File(bytes));
+    self.act(Action::File(bytes));
   }
 
   /// Changes desk and record by the reading. Over another source than the kept desk's the
   /// record is none, most often.
-  fn change<T>(&mut self, change: impl FnOnce(&mut Desk, Option<&mut Record>) -> T) -> T {
+  pub fn act(&mut self, action: Action) {
     let record = &mut self.record;
     self.caller.change(|desk| {
       let source = |desk: &Desk| desk.magic_string().source().to_string();
       let is_of_desk = record.kept.as_ref().is_none_or(|kept| source(kept) == source(desk));
-      change(desk, is_of_desk.then_some(record))
-    })
+      let mut left = Some(desk.clone());
+      action.read(&mut left, is_of_desk.then_some(record));
+      left.into_iter().for_each(|left| *desk = left);
+    });
+    self.actions.push(action);
   }
 
   /// One of the calls that are filed, often the first or the last.
@@ -116,13 +118,16 @@ impl Candidate {
   }
 
   pub fn withdraw(&mut self, k: u32) {
-    self.change(|desk, record| reading::withdraw(Some(desk), record, k));
-    self.actions.push(Action::Withdraw(k));
+    self.act(Action::Withdraw(k));
   }
 
   pub fn freeze(&mut self, start: u32, end: u32) {
-    self.change(|desk, record| reading::freeze(Some(desk), record.as_deref(), start, end));
-    self.actions.push(Action::Freeze { start, end });
+    self.act(Action::Freeze { start, end });
+  }
+
+  pub fn freeze_any(&mut self) {
+    let (start, end) = self.caller.frozen_range();
+    self.freeze(start, end);
   }
 
   /// A call that is not filed, an edit most often.

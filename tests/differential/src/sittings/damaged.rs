@@ -56,11 +56,11 @@ fn fields() -> Vec<Sitting> {
 }
 
 /// Other counts of used bytes: each up to some more than there are, and around the ends of
-/// the calls' room, of the answers and of the kept store.
+/// the calls' room, of the answers, of the marks and of the kept store.
 fn used() -> Vec<Sitting> {
   let right = Written::calls(&every_kind());
   let mut counts: Vec<u32> = (0..right.used + 20).collect();
-  for end in [RECORD_ANSWERS, KEPT_STORE, RECORD_BYTES_LEN] {
+  for end in [RECORD_ANSWERS, RECORD_MARKS, KEPT_STORE, RECORD_BYTES_LEN] {
     counts.extend((end - 5..=end + 5).map(|count| count as u32));
   }
   counts.extend([0x1_0000, 0x1_0000 + right.used, 0x8000_0000 + right.used, u32::MAX]);
@@ -87,26 +87,27 @@ fn past_bounds() -> Vec<Sitting> {
     let short = vec![text(3); MOST_CALLS - 1];
     all.push(Written::calls(&[short, vec![text(sum - 3 * (MOST_CALLS - 1))]].concat()));
   }
-  // They end where the answers begin, or the kept store, or all bytes end, or one behind.
+  // They end where the answers begin, or the marks, or the kept store, or all bytes end, or one
+  // behind.
   let front = call_bytes(&text(0)).len();
-  for end in
-    [RECORD_ANSWERS, KEPT_STORE, RECORD_BYTES_LEN].into_iter().flat_map(|end| [end, end + 1])
-  {
-    all.push(Written::calls(&[text(end / 2 - front), text(end - end / 2 - front)]));
+  for end in [RECORD_ANSWERS, RECORD_MARKS, KEPT_STORE, RECORD_BYTES_LEN] {
+    let of_len = |end| Written::calls(&[text(end / 2 - front), text(end - end / 2 - front)]);
+    all.extend([end, end + 1].map(of_len));
   }
   all.into_iter().map(|written| record("damaged records, the bounds", written)).collect()
 }
 
-/// Slices of other lengths, each alone and both: those of a record without a kept desk among
-/// them.
+/// Slices of other lengths, each alone and both: those of a record without a kept desk and of
+/// one without marks among them.
 fn lengths() -> Vec<Sitting> {
   let [words, bytes] = [RECORD_WORDS_LEN, RECORD_BYTES_LEN];
-  let other_words = [0, KEPT_CHUNKS, KEPT_PIECES, words - 1, words + 1, 2 * words];
-  let other_bytes =
-    [0, 1, RECORD_ANSWERS - 1, RECORD_ANSWERS, KEPT_STORE, bytes - 1, bytes + 1, 2 * bytes];
+  let [[short_words, short_bytes], [_, unmarked_bytes]] = [WITHOUT_KEPT, WITHOUT_MARKS];
+  let words = [0, short_words, KEPT_PIECES, words - 1, words, words + 1, 2 * words];
+  let few_bytes = [0, 1, RECORD_ANSWERS - 1, RECORD_ANSWERS, short_bytes, KEPT_STORE];
+  let bytes = [&few_bytes[..], &[unmarked_bytes, bytes - 1, bytes, bytes + 1, 2 * bytes]].concat();
   let mut all = Vec::new();
-  for words in other_words.into_iter().chain([words]) {
-    for bytes in other_bytes.into_iter().chain([bytes]) {
+  for words in words {
+    for &bytes in &bytes {
       for calls in [&every_kind()[..], &[]] {
         let written = Written { lengths: [words, bytes], ..Written::calls(calls) };
         all.push(record("damaged records, lengths", written));

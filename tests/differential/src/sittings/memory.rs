@@ -4,8 +4,15 @@ use std::{fmt, ops::Range};
 
 use oracle::{Call, random::Random};
 
-use super::{Written, reading::Entry};
-use crate::{Image, LentRecord, layout::*, sheets::fields::Record};
+use super::{
+  Written,
+  reading::{Entry, MOST_MARKS},
+};
+use crate::{
+  Image, LentRecord,
+  layout::*,
+  sheets::fields::{Record, split_list},
+};
 
 /// Cells that are lent, in the middle of others.
 #[derive(Debug, Clone, PartialEq, Eq)]
@@ -47,9 +54,9 @@ pub struct Memory {
 
 impl Memory {
   /// What is written, beside a desk over this source, with zeros in all other cells, or with
-  /// junk.
+  /// junk; but marks of calls are none that a record cannot have.
   pub fn of(written: &Written, source: &str, random: &mut Random) -> Self {
-    let Written { used, calls, answers, lengths: [words, bytes], .. } = written;
+    let Written { used, calls, answers, marks, lengths: [words, bytes], .. } = written;
     let mask = if random.one_in(3) { 0 } else { u64::MAX };
     let junk = |random: &mut Random| random.number() & mask;
     let mut memory = Self {
@@ -59,6 +66,11 @@ impl Memory {
     put(memory.words.lend(), RECORD_USED, &[*used]);
     put(memory.bytes.lend(), 0, calls);
     put(memory.bytes.lend(), RECORD_ANSWERS, answers);
+    let (filed, _) = split_list(calls);
+    let any_marks = filed.iter().map(|_| (junk(random) % (u64::from(MOST_MARKS) + 1)) as u8);
+    let any_marks: Vec<u8> = any_marks.take(RECORD_CALLS).collect();
+    put(memory.bytes.lend(), RECORD_MARKS, &any_marks);
+    put(memory.bytes.lend(), RECORD_MARKS, marks);
     if let Some(image) = written.kept_tables(source, random) {
       memory.lend().keep(&image);
     }
@@ -79,12 +91,25 @@ impl Memory {
     self.words.lent()[RECORD_USED] as usize
   }
 
-  /// Takes these bytes of the calls and these answers over from the other memory.
-  pub fn take_over(&mut self, other: &Self, calls: Range<usize>, answers: Range<usize>) {
-    let answers = RECORD_ANSWERS + answers.start..RECORD_ANSWERS + answers.end;
-    for freed in [calls, answers].into_iter().filter(|freed| !freed.is_empty()) {
+  /// Takes these bytes of the calls, and the answers and marks of these, over from the other
+  /// memory.
+  pub fn take_over(&mut self, other: &Self, calls: Range<usize>, entries: Range<usize>) {
+    let [answers, marks] =
+      [RECORD_ANSWERS, RECORD_MARKS].map(|at| at + entries.start..at + entries.end);
+    for freed in [calls, answers, marks].into_iter().filter(|freed| !freed.is_empty()) {
       self.bytes.lend()[freed.clone()].copy_from_slice(&other.bytes.lent()[freed]);
     }
+  }
+
+  /// The marks of all calls that there may be, where the bytes are long enough.
+  pub fn marks(&self) -> &[u8] {
+    self.bytes.lent().get(RECORD_MARKS..RECORD_MARKS + RECORD_CALLS).unwrap_or_default()
+  }
+
+  /// The same with these marks, as far as they go.
+  pub fn with_marks(mut self, marks: &[u8]) -> Self {
+    put(self.bytes.lend(), RECORD_MARKS, marks);
+    self
   }
 
   /// The tables of the kept desk, over this source.
@@ -135,12 +160,14 @@ impl LentRecord<'_> {
     put(self.bytes, KEPT_STORE, &image.store);
   }
 
-  /// Writes the calls one behind the other, how many bytes they have, and the answers.
+  /// Writes the calls one behind the other, how many bytes they have, the answers and the
+  /// marks.
   pub fn write(&mut self, record: &[Entry]) {
-    let Written { used, calls, answers, .. } = Written::of(record);
+    let Written { used, calls, answers, marks, .. } = Written::of(record);
     self.words[RECORD_USED] = used;
-    self.bytes[..calls.len()].copy_from_slice(&calls);
-    self.bytes[RECORD_ANSWERS..][..answers.len()].copy_from_slice(&answers);
+    for (at, bytes) in [(0, calls), (RECORD_ANSWERS, answers), (RECORD_MARKS, marks)] {
+      self.bytes[at..][..bytes.len()].copy_from_slice(&bytes);
+    }
   }
 }
 

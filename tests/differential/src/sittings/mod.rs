@@ -1,27 +1,38 @@
-//! Calls filed and withdrawn (document 02's L5, with the kept desk of L8) on a core and by a
-//! plain reading of the request: bounds, broken calls, damaged records and desks, and random
-//! sittings.
+//! Calls filed and withdrawn (document 02's L5, with the kept desk of L8 and the marks of L9)
+//! on a core and by a plain reading of the request: bounds, broken calls, damaged records and
+//! desks, and random sittings.
 
+mod action;
 mod bounds;
 pub mod candidate;
+mod column;
 mod damaged;
 pub mod due;
 mod memory;
+mod met;
 pub mod random_sittings;
 pub mod reading;
 pub mod run;
+mod seen;
 mod shrink;
 mod sides;
 mod sitting;
+pub mod steps;
 mod tally;
 
-use std::time::{Duration, Instant};
+use std::{
+  fmt,
+  time::{Duration, Instant},
+};
 
+pub use action::Action;
 pub use memory::{Cells, Memory, call_bytes};
+pub use met::{Case, CaseTally, Cases};
 use oracle::random::Random;
 pub use random_sittings::sitting as random;
+pub use seen::Seen;
 pub use sides::{Filing, Sides, Withdrawal};
-pub use sitting::{Action, HARMS, Harm, KEPT_HARMS, Kept, Sitting, Written, fresh};
+pub use sitting::{HARMS, Harm, KEPT_HARMS, Kept, Sitting, Written, fresh};
 pub use tally::Tally;
 
 use run::{Count, run};
@@ -33,6 +44,17 @@ use crate::{Core, run::Difference};
 pub struct Compared<T = Tally> {
   pub tally: T,
   pub different: Option<(Sitting, Difference)>,
+}
+
+impl<T: fmt::Display + 'static> Compared<T> {
+  /// What a program prints: what was compared, and the difference, if there is one.
+  pub fn printed(self) -> (Box<dyn fmt::Display>, Option<String>) {
+    let found = self.different.map(|(sitting, found)| {
+      let head = "The smallest sitting found, which differs at its last line:";
+      format!("{head}\n\n{sitting}\n{}", found.what)
+    });
+    (Box::new(self.tally), found)
+  }
 }
 
 /// Compares all sittings of `chosen` and then random ones: until there were so many of

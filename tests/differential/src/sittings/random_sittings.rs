@@ -3,12 +3,11 @@
 use oracle::{Call, DeskData, random::Random};
 
 use super::{
-  Action, HARMS, KEPT_HARMS, Sitting,
+  HARMS, KEPT_HARMS, Sitting,
   candidate::{Candidate, is_short},
   reading::{self, MOST_CALLS, MOST_TEXT},
 };
 use crate::{
-  Made,
   made::{self, Aim, make},
   papers::Caller,
 };
@@ -97,11 +96,7 @@ fn damaged(random: &mut Random) -> Sitting {
     }
     _ => sitting.harm = Some(HARMS[random.below(HARMS.len())]),
   }
-  // Tables of other lengths are not opened.
-  let opens =
-    |action: &Action| matches!(action, Action::Make(Made { call: Call::Open { .. }, .. }));
-  sitting.actions.retain(|action| !opens(action));
-  sitting
+  sitting.without_openings()
 }
 
 /// As many calls as there may be, and some more, with withdrawals between them.

@@ -1,19 +1,23 @@
-//! Document 02's L5, and what L8 adds to it, read plainly: a record is a list of calls with
-//! their answers and the desk as it stood before the first of them, on which a withdrawal
-//! makes those that are left. It is written to be read beside the request, not to be fast.
+//! Document 02's L5, and what L8 and L9 add to it, read plainly: a record is a list of calls
+//! with their answers and their marks, and the desk as it stood before the first of them, on
+//! which a withdrawal makes those that are left. It is written to be read beside the
+//! request, not to be fast.
 
 use oracle::{Answer, Call, Desk, Limits, apply, number};
 
+use super::memory::call_bytes;
 use crate::{image::decode, sheets::reading::records, well_formed};
 
 pub const MOST_CALLS: usize = 200;
 pub const MOST_TEXT: usize = 32_768;
+pub const MOST_MARKS: u8 = 100;
 
-/// A filed call and its answer, accepted or not.
+/// A filed call, its answer, accepted or not, and its marks.
 #[derive(Debug, Clone, PartialEq, Eq)]
 pub struct Entry {
   pub call: Call,
   pub answer: u8,
+  pub marks: u8,
 }
 
 #[derive(Debug, Clone, Default)]
@@ -31,27 +35,28 @@ pub fn read(source: &[u8], words: &[u32], bytes: &[u8]) -> Option<Record> {
     return Some(Record::default());
   }
   let (chunks, pieces) = words[1..].split_at(6_156);
-  let store = &bytes[35_968..];
+  let store = &bytes[36_168..];
   well_formed(source, chunks, pieces, store).then(|| {
     let kept = Desk::build(Limits::FULL, &decode(source, chunks, pieces, store));
     Record { entries, kept: Some(kept) }
   })
 }
 
-/// Its calls; none where memory of these lengths or these calls is no record. What the
-/// answers are, what stands behind the used bytes, and whether texts are UTF-8 is not looked
-/// at.
+/// Its entries; none where memory of these lengths, these calls or these marks is no record.
+/// What the answers are, what stands behind the used bytes and behind the marks of the
+/// calls, and whether texts are UTF-8 is not looked at.
 pub fn entries(words: &[u32], bytes: &[u8]) -> Option<Vec<Entry>> {
-  if words.len() != 10_253 || bytes.len() != 68_736 {
+  if words.len() != 10_253 || bytes.len() != 68_936 {
     return None;
   }
-  let (calls, answers) = bytes.split_at(35_768);
+  let (calls, answers, marks) = (&bytes[..35_768], &bytes[35_768..35_968], &bytes[35_968..36_168]);
   let used = calls.get(..words[0] as usize)?;
-  let entry = |((_, call), &answer)| Entry { call, answer };
+  let entry = |(((_, call), &answer), &marks)| Entry { call, answer, marks };
   let calls = records(used)?;
-  let holds = calls.len() <= MOST_CALLS;
-  let entries: Vec<Entry> = calls.into_iter().zip(answers).map(entry).collect();
-  (holds && texts(&entries) <= MOST_TEXT).then_some(entries)
+  let is_short = calls.len() <= MOST_CALLS;
+  let entries: Vec<Entry> = calls.into_iter().zip(answers).zip(marks).map(entry).collect();
+  let fits = entries.iter().all(|entry| entry.marks <= MOST_MARKS);
+  (is_short && fits && texts(&entries) <= MOST_TEXT).then_some(entries)
 }
 
 /// The bytes of all texts.
@@ -63,8 +68,8 @@ fn text(call: &Call) -> usize {
   call.text().map_or(0, <[u8]>::len)
 }
 
-/// Makes a call and files it; before the first one the desk is kept. The desk and the record
-/// are none where they are not well formed.
+/// Makes a call and files it without marks; before the first one the desk is kept. The desk
+/// and the record are none where they are not well formed.
 pub fn file(desk: Option<&mut Desk>, record: Option<&mut Record>, call: &[u8]) -> Answer {
   let (Some(desk), Some(record)) = (desk, record) else {
     return Answer::number(number::NOT_WELL_FORMED);
@@ -77,7 +82,7 @@ pub fn file(desk: Option<&mut Desk>, record: Option<&mut Record>, call: &[u8]) -
   }
   record.kept.get_or_insert_with(|| desk.clone());
   let answer = apply(desk, &call);
-  record.entries.push(Entry { call, answer: answer.number as u8 });
+  record.entries.push(Entry { call, answer: answer.number as u8, marks: 0 });
   answer
 }
 
@@ -87,16 +92,16 @@ pub fn one_call(bytes: &[u8]) -> Option<Call> {
   calls.next().filter(|_| calls.next().is_none())
 }
 
-/// Takes the k-th call out, counted from 1, and makes the others in order on the kept desk.
-/// With the last call the kept desk goes too.
+/// Takes the k-th call out, counted from 1, with its marks, and makes the others in order on
+/// the kept desk. With the last call the kept desk goes too.
 pub fn withdraw(desk: Option<&mut Desk>, record: Option<&mut Record>, k: u32) -> Answer {
   let (Some(desk), Some(record)) = (desk, record) else {
     return Answer::number(number::NOT_WELL_FORMED);
   };
-  if k == 0 || k as usize > record.entries.len() {
+  let Some(place) = place(record, k) else {
     return Answer::number(number::NO_SUCH_CALL);
-  }
-  record.entries.remove(k as usize - 1);
+  };
+  record.entries.remove(place);
   desk.clone_from(record.kept.as_ref().expect("a record with calls keeps a desk"));
   for entry in &mut record.entries {
     entry.answer = apply(desk, &entry.call).number as u8;
@@ -114,4 +119,69 @@ pub fn freeze(desk: Option<&mut Desk>, record: Option<&Record>, start: u32, end:
     return Answer::number(number::FROZEN);
   }
   apply(desk, &Call::Freeze { start, end })
+}
+
+/// Where the k-th entry stands in the list, counted from 1.
+fn place(record: &Record, k: u32) -> Option<usize> {
+  (k as usize).checked_sub(1).filter(|&place| place < record.entries.len())
+}
+
+/// Writes the marks of the k-th entry.
+pub fn set_marks(record: Option<&mut Record>, k: u32, marks: u32) -> Answer {
+  let Some(record) = record else {
+    return Answer::number(number::NOT_WELL_FORMED);
+  };
+  let Some(place) = place(record, k) else {
+    return Answer::number(number::NO_SUCH_CALL);
+  };
+  if marks > MOST_MARKS.into() {
+    return Answer::number(number::MARKS_TOO_HIGH);
+  }
+  record.entries[place].marks = marks as u8;
+  Answer::number(number::ACCEPTED)
+}
+
+/// Who reads an entry: the member's reading shows no marks.
+#[derive(Debug, Clone, Copy, PartialEq, Eq)]
+pub enum Reader {
+  Member,
+  Examiner,
+}
+
+impl Reader {
+  /// The exported function that shows an entry, without its prefix.
+  pub fn function(self) -> &'static str {
+    match self {
+      Reader::Member => "entry",
+      Reader::Examiner => "marked_entry",
+    }
+  }
+}
+
+/// The k-th entry, written to a buffer of so many bytes.
+pub fn show_entry(record: Option<&Record>, reader: Reader, k: u32, room: usize) -> Answer {
+  let Some(record) = record else {
+    return Answer::number(number::NOT_WELL_FORMED);
+  };
+  let Some(place) = place(record, k) else {
+    return Answer::number(number::NO_SUCH_CALL);
+  };
+  Answer::written(shown(&record.entries[place], reader), Some(room as u32))
+}
+
+/// "Kind, positions, text and answer, as L1's record and then a byte; the examiner's has the
+/// marks as one byte more".
+pub fn shown(entry: &Entry, reader: Reader) -> Vec<u8> {
+  let mut bytes = call_bytes(&entry.call);
+  bytes.push(entry.answer);
+  bytes.extend((reader == Reader::Examiner).then_some(entry.marks));
+  bytes
+}
+
+/// The sum of the marks of all entries.
+pub fn total(record: Option<&Record>) -> Answer {
+  let Some(record) = record else {
+    return Answer::number(number::NOT_WELL_FORMED);
+  };
+  Answer::value(record.entries.iter().map(|entry| u32::from(entry.marks)).sum())
 }

@@ -1,8 +1,8 @@
 //! A smaller sitting on which the sides still differ: actions are dropped, then calls of
-//! the record at the start; texts are shortened, and the desk and the kept one are made fresh,
-//! or simpler.
+//! the record at the start; texts are shortened, the desk and the kept one are made fresh,
+//! or simpler, and there is no second record.
 
-use super::{Action, Kept, Sitting, Tally, Written, fresh, run::run};
+use super::{Action, Kept, Sitting, Written, fresh, run::run};
 use crate::{
   Core, Start,
   drop_rows::drop_rows,
@@ -49,7 +49,7 @@ impl<C: Core + Clone> Shrinker<'_, C> {
     if self.tries > MOST_TRIES {
       return false;
     }
-    let Err(found) = run(&mut self.core.clone(), &sitting, &mut Tally::default()) else {
+    let Err(found) = run(&mut self.core.clone(), &sitting, &mut ()) else {
       return false;
     };
     (self.sitting, self.found) = (sitting, found);
@@ -68,6 +68,7 @@ impl<C: Core + Clone> Shrinker<'_, C> {
     self.take(Sitting { start, ..self.sitting.clone() });
     let record = Written { kept: Kept::Fresh, ..self.sitting.record.clone() };
     self.take(Sitting { record, ..self.sitting.clone() });
+    self.take(Sitting { other_marks: None, ..self.sitting.clone() });
   }
 
   fn simplify_desk(&mut self) {
@@ -144,11 +145,16 @@ fn written(record: &Written, calls: &[Record]) -> Written {
   Written { used: calls.len() as u32, calls, ..record.clone() }
 }
 
-/// The actions with the number of each withdrawal lowered by so much, where it is above.
+/// The actions with the number of each call that they name lowered by so much, where it is
+/// above.
 fn lowered(actions: &[Action], by: usize) -> Vec<Action> {
-  let lower = |action: &Action| match *action {
-    Action::Withdraw(k) if k as usize > by => Action::Withdraw(k - by as u32),
-    _ => action.clone(),
-  };
-  actions.iter().map(lower).collect()
+  let mut lowered = actions.to_vec();
+  for action in &mut lowered {
+    if let Action::Withdraw(k) | Action::Show { k, .. } | Action::SetMarks { k, .. } = action
+      && *k as usize > by
+    {
+      *k -= by as u32;
+    }
+  }
+  lowered
 }

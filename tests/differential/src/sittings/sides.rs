@@ -1,5 +1,5 @@
-//! A call filed or withdrawn, or a freezing beside a record, on both sides, and everything
-//! that must agree after it.
+//! A call filed or withdrawn, a freezing beside a record, and what else a sitting has, on both
+//! sides, and everything that must agree after it.
 
 use oracle::{Answer as Expected, Call, Desk, random::Random};
 
@@ -7,13 +7,22 @@ use super::{
   memory::{Cells, Memory},
   reading::{self, Entry, Record},
 };
-use crate::{Answer, Core, Image, Made, Met, keeps, step::Both, step::check_answer};
+use crate::{
+  Answer, Core, Image, Made, Met,
+  joins::{
+    Lists,
+    run::{Order, join},
+  },
+  keeps,
+  sheets::{reading::Ran, run::run_in},
+  step::{Both, check_answer},
+};
 
 /// The desk as the reading has it and as the core's memory, and the record's memory.
 #[derive(Debug, Clone)]
 pub struct Sides {
-  desk: Both,
-  memory: Memory,
+  pub(super) desk: Both,
+  pub(super) memory: Memory,
   /// Whether the answers in the record are what its calls got: of one that was made by
   /// hand they are not.
   is_answered: bool,
@@ -41,9 +50,9 @@ pub struct Withdrawal {
 
 /// What stood in the record's memory, and the record that it was: none where it was not well
 /// formed.
-struct Before {
-  memory: Memory,
-  record: Option<Record>,
+pub(super) struct Before {
+  pub memory: Memory,
+  pub record: Option<Record>,
 }
 
 impl Sides {
@@ -70,13 +79,42 @@ impl Sides {
   }
 
   /// The core takes the desk's memory for what it is.
-  pub fn check_start(&mut self, core: &mut impl Core) -> Result<(), String> {
+  pub fn check_desk(&mut self, core: &mut impl Core) -> Result<(), String> {
     self.desk.check_start(core)
   }
 
   /// Makes a call that is not filed.
   pub fn make(&mut self, core: &mut impl Core, made: &Made) -> Result<Met, String> {
     self.desk.step(core, made)
+  }
+
+  /// Joins two lists of calls, which are not filed. What the reading gives, none where the
+  /// core joins no lists; or what differs.
+  pub fn join(
+    &mut self,
+    core: &mut impl Core,
+    lists: &Lists,
+    random: &mut Random,
+  ) -> Result<Option<Expected>, String> {
+    join(core, &mut self.desk, lists, Order::FirstSecond, random)
+  }
+
+  /// Runs a sheet, with room for so many answers: its source is the desk's from then on. What
+  /// the reading gives, none where the core runs no sheets; or what differs.
+  pub fn run_sheet(
+    &mut self,
+    core: &mut impl Core,
+    sheet: &[u8],
+    room: usize,
+    random: &mut Random,
+  ) -> Result<Option<Result<Ran, u32>>, String> {
+    let mut memory = Image { source: sheet.to_vec(), ..self.desk.image.clone() };
+    let ran = run_in(core, &mut memory, room, random)?;
+    if let Some(Ok(ran)) = &ran {
+      self.desk.image = memory;
+      self.desk.desk = Some(ran.desk.clone());
+    }
+    Ok(ran)
   }
 
   /// Files the call of these bytes. What is counted of it, none where the core files no
@@ -153,14 +191,14 @@ impl Sides {
     Ok(Some(expected))
   }
 
-  fn begin(&mut self) -> Before {
+  pub(super) fn begin(&mut self) -> Before {
     self.desk.begin();
     Before { memory: self.memory.clone(), record: self.record() }
   }
 
   /// The answer is the one expected, and the desk is the reading's, or each byte of it as it
   /// was.
-  fn end(&self, answer: Answer, expected: &Expected, kept: bool) -> Result<(), String> {
+  pub(super) fn end(&self, answer: Answer, expected: &Expected, kept: bool) -> Result<(), String> {
     check_answer(answer, expected)?;
     self.desk.end(kept)
   }

@@ -5,10 +5,11 @@ use std::fmt;
 use oracle::{Call, Desk, DeskData, Limits, dump, hex, random::Random};
 
 use super::{
+  Action,
   memory::{Memory, call_bytes},
   reading::{self, Entry},
 };
-use crate::{Image, Made, Sizes, Start, image::encode, layout::*};
+use crate::{Image, Sizes, Start, image::encode, layout::*};
 
 #[derive(Debug, Clone)]
 pub struct Sitting {
@@ -18,27 +19,13 @@ pub struct Sitting {
   /// What makes the desk none, if anything does.
   pub harm: Option<Harm>,
   pub record: Written,
+  /// The marks of a second record, if there is one, which agrees with the other but for them,
+  /// beside the same desk. The member's actions are done there too, and those of the examiner
+  /// not: what they give and leave must be the same.
+  pub other_marks: Option<Vec<u8>>,
   pub actions: Vec<Action>,
   /// Chooses the cells that are not looked at, and places.
   pub seed: u64,
-}
-
-#[derive(Debug, Clone)]
-pub enum Action {
-  /// Files the call of these bytes.
-  File(Vec<u8>),
-  /// Withdraws the call with this number.
-  Withdraw(u32),
-  /// Makes a call that is not filed.
-  Make(Made),
-  /// Freezes the bytes from start up to end.
-  Freeze { start: u32, end: u32 },
-}
-
-impl Action {
-  pub fn file(call: &Call) -> Self {
-    Action::File(call_bytes(call))
-  }
 }
 
 /// What a record's memory holds at first.
@@ -48,8 +35,10 @@ pub struct Written {
   pub used: u32,
   /// From the front of the bytes on: filed calls, whole or not.
   pub calls: Vec<u8>,
-  /// From the answers' place on.
+  /// From the answers' place on, and from the marks' place on. Those that are not here are
+  /// any that a record can have.
   pub answers: Vec<u8>,
+  pub marks: Vec<u8>,
   pub kept: Kept,
   /// What makes the kept desk none, if anything does.
   pub harm: Option<Harm>,
@@ -73,19 +62,21 @@ impl Written {
     let kept = if calls.is_empty() { Kept::Junk } else { Kept::Fresh };
     let lengths = [RECORD_WORDS_LEN, RECORD_BYTES_LEN];
     let used = calls.len() as u32;
-    Self { used, calls, answers: Vec::new(), kept, harm: None, lengths }
+    let (answers, marks) = (Vec::new(), Vec::new());
+    Self { used, calls, answers, marks, kept, harm: None, lengths }
   }
 
-  /// These calls, with any answers.
+  /// These calls, with any answers and marks.
   pub fn calls(calls: &[Call]) -> Self {
     Self::bytes(calls.iter().map(call_bytes).collect::<Vec<_>>().concat())
   }
 
-  /// These calls with their answers.
+  /// These calls with their answers and marks.
   pub fn of(record: &[Entry]) -> Self {
     let calls: Vec<_> = record.iter().map(|entry| call_bytes(&entry.call)).collect();
     let answers = record.iter().map(|entry| entry.answer).collect();
-    Self { answers, ..Self::bytes(calls.concat()) }
+    let marks = record.iter().map(|entry| entry.marks).collect();
+    Self { answers, marks, ..Self::bytes(calls.concat()) }
   }
 }
 
@@ -117,10 +108,12 @@ pub struct Harm {
   pub harm: fn(&mut Image),
 }
 
-pub const HARMS: [Harm; 6] = [
+pub const HARMS: [Harm; 8] = [
   Harm { name: "no chunk", harm: |image| image.chunks[START] = 0 },
   Harm { name: "a list that does not end", harm: |image| *image.word_mut(1, NEXT) = 1 },
   Harm { name: "a source with a byte more", harm: |image| image.source.push(b'a') },
+  Harm { name: "a source that is not UTF-8", harm: |image| image.source.push(0xff) },
+  Harm { name: "a long source", harm: |image| image.source.resize(MOST_SOURCE + 1, b'a') },
   Harm { name: "a shorter table of chunks", harm: |image| _ = image.chunks.pop() },
   Harm { name: "no pieces", harm: |image| image.pieces.clear() },
   Harm { name: "a longer store", harm: |image| image.store.push(0) },
@@ -158,7 +151,13 @@ impl Sitting {
   /// On this desk.
   pub fn on(tries: &'static str, desk: DeskData, record: Written, actions: Vec<Action>) -> Self {
     let start = Start::Desk { desk, seed: 0 };
-    Self { tries, start, harm: None, record, actions, seed: 0 }
+    Self { tries, start, harm: None, record, other_marks: None, actions, seed: 0 }
+  }
+
+  /// The same without what opens a desk: tables of other lengths are not opened.
+  pub fn without_openings(mut self) -> Self {
+    self.actions.retain(|action| !action.is_opening());
+    self
   }
 
   /// The same with other memory.
@@ -190,6 +189,9 @@ impl fmt::Display for Sitting {
       writeln!(out, "# no desk: {name}")?;
     }
     write!(out, "{}", self.record)?;
+    if let Some(marks) = &self.other_marks {
+      writeln!(out, "# beside a second record with other marks: {}", hex::encode(marks))?;
+    }
     self.actions.iter().try_for_each(|action| writeln!(out, "{action}"))
   }
 }
@@ -213,19 +215,5 @@ impl fmt::Display for Written {
       Kept::Desk(desk) => writeln!(out, "# kept: {}", dump::print(desk))?,
     }
     self.harm.map_or(Ok(()), |Harm { name, .. }| writeln!(out, "# the kept desk is none: {name}"))
-  }
-}
-
-impl fmt::Display for Action {
-  fn fmt(&self, out: &mut fmt::Formatter) -> fmt::Result {
-    match self {
-      Action::File(bytes) => match reading::one_call(bytes) {
-        Some(call) => write!(out, "file {call}"),
-        None => write!(out, "file {} (it breaks the rules)", hex::encode(bytes)),
-      },
-      Action::Withdraw(k) => write!(out, "withdraw {k}"),
-      Action::Make(Made { call, .. }) => write!(out, "{call}"),
-      Action::Freeze { start, end } => write!(out, "freeze {start} {end}, beside the record"),
-    }
   }
 }

@@ -62,11 +62,11 @@ pub const FAULTS: &[Fault] = &[
       |source, record| kept(source, record).or_else(|| sheet_rules::fresh(source));
   }),
   ("a freezing takes a record without a kept desk", |rules| {
-    rules.beside.lengths = |words, bytes| words >= KEPT_CHUNKS && bytes >= KEPT_STORE;
+    rules.beside.lengths = |words, bytes| words >= WITHOUT_KEPT[0] && bytes >= WITHOUT_KEPT[1];
     rules.beside.must_keep = |_| false;
   }),
   ("a freezing takes an empty record without a kept desk", |rules| {
-    rules.beside.lengths = |words, bytes| words >= KEPT_CHUNKS && bytes >= KEPT_STORE;
+    rules.beside.lengths = |words, bytes| words >= WITHOUT_KEPT[0] && bytes >= WITHOUT_KEPT[1];
     rules.beside.kept = |source, record| {
       let is_whole = (Rules::right().lengths)(record.words.len(), record.bytes.len());
       is_whole.then(|| kept(source, record)).flatten()

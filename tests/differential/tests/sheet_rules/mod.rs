@@ -7,7 +7,8 @@
 use std::array;
 
 use differential::{
-  Answer, Core, Lent, LentRecord, Unseen, cores::StandIn, image, layout::*, well_formed,
+  Answer, Core, Lent, LentRecord, Unseen, cores::StandIn, image, layout::*,
+  sittings::reading::Reader, well_formed,
 };
 use oracle::{Call, Desk, DeskData, Limits, SETTINGS, apply, random::Random};
 
@@ -222,6 +223,31 @@ pub trait Reading {
     None
   }
 
+  fn set_marks(
+    &mut self,
+    _source: &[u8],
+    _record: &mut LentRecord,
+    _k: u32,
+    _marks: u32,
+  ) -> Option<Answer> {
+    None
+  }
+
+  fn show_entry(
+    &mut self,
+    _source: &[u8],
+    _record: &LentRecord,
+    _reader: Reader,
+    _k: u32,
+    _out: &mut [u8],
+  ) -> Option<Answer> {
+    None
+  }
+
+  fn total(&mut self, _source: &[u8], _record: &LentRecord) -> Option<Answer> {
+    None
+  }
+
   fn join(&mut self, _lent: &mut Lent, _lists: [&[u8]; 2]) -> Option<Answer> {
     None
   }
@@ -233,7 +259,7 @@ impl Reading for Rules {
   }
 }
 
-/// A core with these rules, and a right one beside.
+/// A core with these rules, and a right one beside, for the calls of which they make nothing.
 #[derive(Clone)]
 pub struct Wrong<R> {
   pub right: StandIn,
@@ -255,15 +281,18 @@ impl<R: Reading> Core for Wrong<R> {
   }
 
   fn run_sheet(&mut self, lent: &mut Lent, answers: &mut [u8]) -> Option<Answer> {
-    self.rules.run_sheet(lent, answers)
+    let answer = self.rules.run_sheet(lent, answers);
+    answer.or_else(|| self.right.run_sheet(lent, answers))
   }
 
   fn file(&mut self, lent: &mut Lent, record: &mut LentRecord, call: &[u8]) -> Option<Answer> {
-    self.rules.file(lent, record, call)
+    let answer = self.rules.file(lent, record, call);
+    answer.or_else(|| self.right.file(lent, record, call))
   }
 
   fn withdraw(&mut self, lent: &mut Lent, record: &mut LentRecord, k: u32) -> Option<Answer> {
-    self.rules.withdraw(lent, record, k)
+    let answer = self.rules.withdraw(lent, record, k);
+    answer.or_else(|| self.right.withdraw(lent, record, k))
   }
 
   fn freeze(
@@ -273,10 +302,40 @@ impl<R: Reading> Core for Wrong<R> {
     start: u32,
     end: u32,
   ) -> Option<Answer> {
-    self.rules.freeze(lent, record, [start, end])
+    let answer = self.rules.freeze(lent, record, [start, end]);
+    answer.or_else(|| self.right.freeze(lent, record, start, end))
+  }
+
+  fn set_marks(
+    &mut self,
+    source: &[u8],
+    record: &mut LentRecord,
+    k: u32,
+    marks: u32,
+  ) -> Option<Answer> {
+    let answer = self.rules.set_marks(source, record, k, marks);
+    answer.or_else(|| self.right.set_marks(source, record, k, marks))
+  }
+
+  fn show_entry(
+    &mut self,
+    source: &[u8],
+    record: &LentRecord,
+    reader: Reader,
+    k: u32,
+    out: &mut [u8],
+  ) -> Option<Answer> {
+    let answer = self.rules.show_entry(source, record, reader, k, out);
+    answer.or_else(|| self.right.show_entry(source, record, reader, k, out))
+  }
+
+  fn total(&mut self, source: &[u8], record: &LentRecord) -> Option<Answer> {
+    let answer = self.rules.total(source, record);
+    answer.or_else(|| self.right.total(source, record))
   }
 
   fn join(&mut self, lent: &mut Lent, first: &[u8], second: &[u8]) -> Option<Answer> {
-    self.rules.join(lent, [first, second])
+    let answer = self.rules.join(lent, [first, second]);
+    answer.or_else(|| self.right.join(lent, first, second))
   }
 }

@@ -4,7 +4,9 @@ use differential::layout::*;
 use oracle::apply;
 
 use super::Fault;
-use crate::sitting_rules::{fresh, put_all, put_bytes, put_calls, put_word};
+use crate::sitting_rules::{
+  fresh, put_all, put_answers, put_bytes, put_calls, put_marks, put_word,
+};
 
 pub const FAULTS: &[Fault] = &[
   ("a refused call is not filed", |rules| {
@@ -82,19 +84,22 @@ pub const FAULTS: &[Fault] = &[
   ("the used bytes stay", |rules| {
     rules.put_filed = |record, _, held| {
       put_calls(record, held);
-      put_bytes(record, RECORD_ANSWERS, &held.answers);
+      put_answers(record, held);
+      put_marks(record, held);
     };
   }),
   ("the call is not written", |rules| {
     rules.put_filed = |record, _, held| {
       put_word(record, held);
-      put_bytes(record, RECORD_ANSWERS, &held.answers);
+      put_answers(record, held);
+      put_marks(record, held);
     };
   }),
   ("the answer is not written", |rules| {
     rules.put_filed = |record, _, held| {
       put_word(record, held);
       put_calls(record, held);
+      put_marks(record, held);
     };
   }),
   ("answers stand one further", |rules| {
@@ -102,6 +107,7 @@ pub const FAULTS: &[Fault] = &[
       put_word(record, held);
       put_calls(record, held);
       put_bytes(record, RECORD_ANSWERS + 1, &held.answers);
+      put_marks(record, held);
     };
   }),
   ("answers before it become 0", |rules| {

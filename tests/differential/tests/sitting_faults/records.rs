@@ -23,7 +23,7 @@ pub const FAULTS: &[Fault] = &[
     rules.lengths = |words, bytes| words == RECORD_WORDS_LEN && bytes >= RECORD_BYTES_LEN;
   }),
   ("without calls, room for calls and answers is enough", |rules| {
-    rules.lengths = |words, bytes| words >= KEPT_CHUNKS && bytes >= KEPT_STORE;
+    rules.lengths = |words, bytes| words >= WITHOUT_KEPT[0] && bytes >= WITHOUT_KEPT[1];
     rules.kept = |source, record| {
       let is_whole =
         record.words.len() == RECORD_WORDS_LEN && record.bytes.len() == RECORD_BYTES_LEN;

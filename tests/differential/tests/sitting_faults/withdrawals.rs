@@ -5,7 +5,7 @@ use oracle::{Call, apply};
 
 use super::Fault;
 use crate::sitting_rules::{
-  Rules, again, fresh, put_all, put_bytes, put_calls, put_kept, put_word,
+  Rules, again, fresh, put_all, put_answers, put_bytes, put_calls, put_kept, put_marks, put_word,
 };
 
 pub const FAULTS: &[Fault] = &[
@@ -129,19 +129,22 @@ pub const FAULTS: &[Fault] = &[
   ("the used bytes stay", |rules| {
     rules.put_withdrawn = |record, _, held| {
       put_calls(record, held);
-      put_bytes(record, RECORD_ANSWERS, &held.answers);
+      put_answers(record, held);
+      put_marks(record, held);
     };
   }),
   ("the gap is not closed", |rules| {
     rules.put_withdrawn = |record, _, held| {
       put_word(record, held);
-      put_bytes(record, RECORD_ANSWERS, &held.answers);
+      put_answers(record, held);
+      put_marks(record, held);
     };
   }),
   ("answers stay where they were", |rules| {
     rules.put_withdrawn = |record, _, held| {
       put_word(record, held);
       put_calls(record, held);
+      put_marks(record, held);
     };
   }),
   ("answers stand one further", |rules| {
@@ -154,7 +157,7 @@ pub const FAULTS: &[Fault] = &[
     rules.put_withdrawn = |record, before, held| {
       put_all(record, before, held);
       let behind = RECORD_ANSWERS + held.answers.len();
-      record.bytes[behind..KEPT_STORE].fill(0);
+      record.bytes[behind..RECORD_MARKS].fill(0);
     };
   }),
   ("all bytes behind the calls become 0", |rules| {

@@ -31,11 +31,12 @@ pub struct Bounds {
 /// A call as its bytes and as it reads.
 pub type Filed = (Vec<u8>, Call);
 
-/// A record: its calls, the answers, and the kept desk, where it is looked at.
+/// A record: its calls, the answers, the marks, and the kept desk, where it is looked at.
 #[derive(Debug, Clone)]
 pub struct Held {
   pub calls: Vec<Filed>,
   pub answers: Vec<u8>,
+  pub marks: Vec<u8>,
   pub kept: Option<Desk>,
 }
 
@@ -53,6 +54,8 @@ pub struct Rules {
   pub room: Bounds,
   /// How many bytes of a call are counted as text.
   pub text: fn(&Filed) -> usize,
+  /// Whether a record may have marks as these.
+  pub fits: fn(&LentRecord, &Held) -> bool,
   /// What else is asked of the memory of a record.
   pub also: fn(&LentRecord, &Held) -> bool,
   /// Whether a record of so many calls must keep a desk.
@@ -111,10 +114,19 @@ pub fn put_calls(record: &mut LentRecord, held: &Held) {
   put_bytes(record, 0, &bytes);
 }
 
+pub fn put_answers(record: &mut LentRecord, held: &Held) {
+  put_bytes(record, RECORD_ANSWERS, &held.answers);
+}
+
+pub fn put_marks(record: &mut LentRecord, held: &Held) {
+  put_bytes(record, RECORD_MARKS, &held.marks);
+}
+
 pub fn put_all(record: &mut LentRecord, _: &Held, held: &Held) {
   put_word(record, held);
   put_calls(record, held);
-  put_bytes(record, RECORD_ANSWERS, &held.answers);
+  put_answers(record, held);
+  put_marks(record, held);
 }
 
 pub fn put_kept(record: &mut LentRecord, desk: &Desk) {
@@ -124,7 +136,7 @@ pub fn put_kept(record: &mut LentRecord, desk: &Desk) {
 /// The kept desk, each table at its place.
 pub fn kept(source: &[u8], record: &LentRecord) -> Option<Desk> {
   let (chunks, pieces) = record.words[1..].split_at(6_156);
-  let store = &record.bytes[35_968..];
+  let store = &record.bytes[36_168..];
   let holds = well_formed(source, chunks, pieces, store);
   holds.then(|| Desk::build(Limits::FULL, &image::decode(source, chunks, pieces, store)))
 }
@@ -135,11 +147,12 @@ impl Rules {
     Self {
       filed: sheet_rules::Rules::right(),
       call: sheet_rules::Rules::right(),
-      lengths: |words, bytes| words == 10_253 && bytes == 68_736,
+      lengths: |words, bytes| words == 10_253 && bytes == 68_936,
       used: |word| word as usize,
       held: bounds,
       room: bounds,
       text: |(_, call)| call.text().map_or(0, <[u8]>::len),
+      fits: |_, held| held.marks.iter().all(|&marks| marks <= 100),
       also: |_, _| true,
       must_keep: |count| count > 0,
       kept,
@@ -174,13 +187,15 @@ impl Rules {
     }
     let used = (self.used)(record.words[RECORD_USED]);
     let calls = self.filed.list(record.bytes.get(..used)?)?;
-    let answers = record.bytes.iter().skip(RECORD_ANSWERS).take(calls.len()).copied().collect();
+    let [answers, marks] = [RECORD_ANSWERS, RECORD_MARKS]
+      .map(|at| record.bytes.iter().skip(at).take(calls.len()).copied().collect());
     let kept = match (self.must_keep)(calls.len()) {
       true => Some((self.kept)(source, record)?),
       false => None,
     };
-    let held = Held { calls, answers, kept };
-    (self.keeps(self.held, &held.calls) && (self.also)(record, &held)).then_some(held)
+    let held = Held { calls, answers, marks, kept };
+    let fits = self.keeps(self.held, &held.calls) && (self.fits)(record, &held);
+    (fits && (self.also)(record, &held)).then_some(held)
   }
 
   fn file(&self, lent: &mut Lent, record: &mut LentRecord, call: &[u8]) -> Answer {
@@ -214,6 +229,7 @@ impl Rules {
       let mut filed = held.clone();
       filed.calls.push(call.clone());
       filed.answers.push(answer as u8);
+      filed.marks.push(0);
       (self.put_filed)(record, &held, &filed);
       if let Some(kept) = (self.keep)(&held, &before, &desk) {
         (self.put_kept)(record, &kept);
@@ -243,6 +259,7 @@ impl Rules {
     let mut left = held.clone();
     left.calls.remove(place);
     left.answers.remove(place);
+    left.marks.remove(place);
     let calls: Vec<Call> = left.calls.iter().map(|(_, call)| call.clone()).collect();
     let kept = held.kept.as_ref().unwrap_or(&desk);
     let mut made = (self.start)(&desk, kept);

@@ -1,7 +1,22 @@
 //! A desk and a record in lent memory, the calls on both, and calls to be filed in bytes.
 #![allow(dead_code, reason = "no test needs all of it")]
 
-use magic_string_sys::{Answer, edit, layout::*, report};
+use magic_string_sys::{
+  Answer, edit, layout::*, magic_string_entry, magic_string_marked_entry, magic_string_set_marks,
+  magic_string_total, report,
+};
+
+/// Calls a function that reads the record of `$memory`.
+macro_rules! reading {
+  ($memory:ident, $name:ident $(, $argument:expr)*) => {
+    $name(
+      $memory.source.as_ptr(), $memory.source.len(),
+      $memory.words.as_ptr(), $memory.words.len(),
+      $memory.bytes.as_ptr(), $memory.bytes.len()
+      $(, $argument)*
+    )
+  };
+}
 
 /// All that is lent to calls on a record.
 #[derive(Debug, Clone, PartialEq)]
@@ -84,6 +99,27 @@ impl Lent {
     unsafe { edit!(self, magic_string_withdraw, words, words_len, bytes, bytes_len, k) }
   }
 
+  pub fn set_marks(&mut self, k: u32, marks: u32) -> Answer {
+    let (source, source_len) = (self.source.as_ptr(), self.source.len());
+    let (words, words_len) = (self.words.as_ptr(), self.words.len());
+    let (bytes, bytes_len) = (self.bytes.as_mut_ptr(), self.bytes.len());
+    unsafe {
+      magic_string_set_marks(source, source_len, words, words_len, bytes, bytes_len, k, marks)
+    }
+  }
+
+  pub fn entry(&self, k: u32, out: &mut [u8]) -> Answer {
+    unsafe { reading!(self, magic_string_entry, k, out.as_mut_ptr(), out.len()) }
+  }
+
+  pub fn marked_entry(&self, k: u32, out: &mut [u8]) -> Answer {
+    unsafe { reading!(self, magic_string_marked_entry, k, out.as_mut_ptr(), out.len()) }
+  }
+
+  pub fn total(&self) -> Answer {
+    unsafe { reading!(self, magic_string_total) }
+  }
+
   pub fn text(&self) -> String {
     let mut out = vec![0; self.source.len() + STORE_BYTES];
     let written = unsafe { report!(self, magic_string_to_string, out.as_mut_ptr(), out.len()) };
@@ -92,9 +128,11 @@ impl Lent {
     String::from_utf8(out).unwrap()
   }
 
-  /// Calls, and this desk as the kept one, written into the record without any check.
+  /// Calls without marks, and this desk as the kept one, written into the record without
+  /// any check.
   pub fn put(&mut self, calls: &[u8]) {
     self.words[RECORD_USED] = calls.len() as u32;
+    self.bytes[RECORD_MARKS..KEPT_STORE].fill(0);
     self.bytes[..calls.len()].copy_from_slice(calls);
     self.words[KEPT_CHUNKS..KEPT_PIECES].copy_from_slice(&self.chunks);
     self.words[KEPT_PIECES..].copy_from_slice(&self.pieces);
@@ -107,6 +145,10 @@ impl Lent {
 
   pub fn answers(&self, count: usize) -> &[u8] {
     &self.bytes[RECORD_ANSWERS..][..count]
+  }
+
+  pub fn marks(&self, count: usize) -> &[u8] {
+    &self.bytes[RECORD_MARKS..][..count]
   }
 
   /// The kept desk as a desk, beside the same record.
@@ -134,9 +176,15 @@ impl Lent {
     frozen.map(|(start, end, _)| (start, end)).collect()
   }
 
-  /// That filing, withdrawing and freezing give 2, and leave every word and byte as it was.
-  /// 2 comes before 16, 17 and 20.
+  /// That all calls on a record give 2, and leave every word and byte as it was. 2 comes
+  /// before 16, 17 and 20.
   pub fn all_refused(&self) {
+    self.tables_refused();
+    self.record_refused();
+  }
+
+  /// That those that take the tables do.
+  pub fn tables_refused(&self) {
     let mut lent = self.clone();
     for call in [&b""[..], &remove(0, 1)] {
       assert_eq!(lent.file(call), Answer::NO_DESK);
@@ -145,6 +193,25 @@ impl Lent {
       assert_eq!(lent.withdraw(k), Answer::NO_DESK);
     }
     assert_eq!(lent.freeze(0, 1), Answer::NO_DESK);
+    assert_eq!(lent, *self);
+  }
+
+  /// That those that take no tables give 2, and leave every byte as it was. 2 comes before
+  /// 17, 21 and 14.
+  pub fn record_refused(&self) {
+    let mut lent = self.clone();
+    for k in [0, 1] {
+      for marks in [0, HIGHEST_MARKS + 1] {
+        assert_eq!(lent.set_marks(k, marks), Answer::NO_DESK);
+      }
+      for length in [0, 100] {
+        let mut out = vec![0xA5; length];
+        assert_eq!(lent.entry(k, &mut out), Answer::NO_DESK);
+        assert_eq!(lent.marked_entry(k, &mut out), Answer::NO_DESK);
+        assert!(out.iter().all(|&byte| byte == 0xA5));
+      }
+    }
+    assert_eq!(lent.total(), Answer::NO_DESK);
     assert_eq!(lent, *self);
   }
 }

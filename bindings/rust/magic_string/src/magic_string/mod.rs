@@ -171,6 +171,11 @@ impl MagicString {
     Refusal::answer(number)?;
     Ok(self)
   }
+
+  /// The memory, for calls that do not change the desk.
+  pub(crate) fn memory(&self) -> &Memory {
+    &self.memory
+  }
 }
 
 /// Reports on the output. None can be refused, since the desk is well formed and

@@ -1,10 +1,15 @@
 mod call;
 mod entry;
 mod error;
+mod examiner;
+mod member;
+mod reading;
 
 pub use call::Call;
-pub use entry::Entry;
+pub use entry::{Entry, MarkedEntry};
 pub use error::FilingError;
+pub use examiner::Examiner;
+pub use member::Member;
 
 use std::fmt;
 
@@ -20,11 +25,15 @@ use crate::{MagicString, Refusal, filed::Filed};
 /// the desk is always what the filed calls leave when they are made in order on the one
 /// before the first of them ([`Self::start`]), and their answers are those of that run.
 ///
+/// Each filed call has marks, which an examiner writes. Who has the sitting has both views of
+/// it: [`Self::examiner`], and [`Self::member`], which is to be handed to a member, since it
+/// tells no marks.
+///
 /// A record has at most 200 calls, and their texts at most 32,768 bytes together
 /// ([`RECORD_CALLS`](crate::layout::RECORD_CALLS),
 /// [`RECORD_TEXT`](crate::layout::RECORD_TEXT)). It takes some 110 kB on the heap beside
-/// those of the desk. Two sittings are equal if their desks, those before the first call and
-/// their entries are.
+/// those of the desk. Two sittings are equal if their desks, those before the first call,
+/// their entries and the marks of these are.
 ///
 /// # Example
 /// A withdrawal makes the later calls anew, so their answers may change:
@@ -118,6 +127,12 @@ impl Sitting {
       answer: Refusal::answer(number.into()),
     };
     answered.map(entry).collect()
+  }
+
+  /// The same with their marks.
+  fn marked_entries(&self) -> Vec<MarkedEntry<'_>> {
+    let marked = self.entries().into_iter().zip(self.filed.marks());
+    marked.map(|(entry, &marks)| MarkedEntry { entry, marks: marks.into() }).collect()
   }
 
   /// How many calls are filed.
@@ -220,23 +235,29 @@ impl Sitting {
   /// assert_eq!(sitting, Sitting::open("abc").unwrap());
   /// ```
   pub fn withdraw(&mut self, k: usize) -> Result<&mut Self, Refusal> {
-    // No record has as many calls as this.
-    let k = u32::try_from(k).unwrap_or(u32::MAX);
-    self.desk.edit(|memory| memory.withdraw(&mut self.filed, k))?;
+    self.desk.edit(|memory| memory.withdraw(&mut self.filed, counted(k)))?;
     Ok(self)
   }
 }
 
+/// The number of a filed call. No record has as many calls as the highest.
+fn counted(k: usize) -> u32 {
+  u32::try_from(k).unwrap_or(u32::MAX)
+}
+
+/// With marks.
 impl fmt::Debug for Sitting {
   fn fmt(&self, out: &mut fmt::Formatter) -> fmt::Result {
-    let (desk, entries) = (&self.desk, self.entries());
+    let (desk, entries) = (&self.desk, self.marked_entries());
     out.debug_struct("Sitting").field("desk", desk).field("entries", &entries).finish()
   }
 }
 
 impl PartialEq for Sitting {
   fn eq(&self, other: &Self) -> bool {
-    self.desk == other.desk && self.entries() == other.entries() && self.start() == other.start()
+    self.desk == other.desk
+      && self.marked_entries() == other.marked_entries()
+      && self.start() == other.start()
   }
 }
 

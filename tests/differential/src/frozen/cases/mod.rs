@@ -7,21 +7,23 @@ mod refusals;
 
 use oracle::Desk;
 
-use super::seen::Seen;
-use crate::sittings::Action;
+use crate::sittings::{Action, Case, Cases, Seen};
 
-/// A case by its name, and whether it is met.
-pub type Case = (String, bool);
+/// Those of frozen parts.
+#[derive(Debug, Clone, Default)]
+pub struct OfFrozen;
 
-pub fn cases(seen: &Seen) -> Vec<Case> {
-  let mut cases = Vec::new();
-  let mut add = |name: String, is_met: bool| cases.push((name, is_met));
-  refusals::add(seen, &mut add);
-  freezings::add(seen, &mut add);
-  marks::add(seen, &mut add);
-  records::filed(seen, &mut add);
-  records::lent(seen, &mut add);
-  cases
+impl Cases for OfFrozen {
+  fn of(seen: &Seen) -> Vec<Case> {
+    let mut cases = Vec::new();
+    let mut add = |name: String, is_met: bool| cases.push((name, is_met));
+    refusals::add(seen, &mut add);
+    freezings::add(seen, &mut add);
+    marks::add(seen, &mut add);
+    records::filed(seen, &mut add);
+    records::lent(seen, &mut add);
+    cases
+  }
 }
 
 fn is_filing(seen: &Seen) -> bool {

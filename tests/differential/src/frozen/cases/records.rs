@@ -65,7 +65,7 @@ pub fn lent(seen: &Seen, add: &mut impl FnMut(String, bool)) {
   });
   let is_desk = seen.desk().is_some();
   let is_none = is_desk && seen.answer.number == NOT_WELL_FORMED;
-  let is_short = [words.len(), bytes.len()] == [KEPT_CHUNKS, KEPT_STORE];
+  let is_short = [words.len(), bytes.len()] == WITHOUT_KEPT;
   let no_call = words.first() == Some(&0);
   let is_other = seen.history.is_other(&image.source) && calls.is_some_and(|calls| calls > 0);
   for (name, is_of) in [

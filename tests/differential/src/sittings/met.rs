@@ -1,16 +1,24 @@
 //! What was compared: sittings by what they try, the numbers of calls, and the cases that must
 //! be met.
 
-use std::{collections::BTreeMap, fmt};
+use std::{collections::BTreeMap, fmt, marker::PhantomData};
 
 use super::{
-  cases::cases,
+  Action, Sides, Sitting,
+  run::Count,
   seen::{History, Seen},
 };
-use crate::sittings::{Action, Sides, Sitting, run::Count};
+
+/// A case by its name, and whether it is met.
+pub type Case = (String, bool);
+
+/// The cases that the sittings of a program must meet.
+pub trait Cases {
+  fn of(seen: &Seen) -> Vec<Case>;
+}
 
 #[derive(Debug, Clone, Default)]
-pub struct Tally {
+pub struct CaseTally<C> {
   pub sittings: u64,
   /// Sittings with calls that the core does not have.
   pub passed_over: u64,
@@ -19,13 +27,14 @@ pub struct Tally {
   numbers: BTreeMap<u32, u64>,
   cases: BTreeMap<String, u64>,
   history: History,
+  of: PhantomData<C>,
 }
 
-impl Count for Tally {
-  fn before(&mut self, sides: &Sides, action: &Action) {
-    let seen = Seen::of(&self.history, sides, action);
+impl<C: Cases> Count for CaseTally<C> {
+  fn before(&mut self, sides: &Sides, second: Option<&Sides>, action: &Action) {
+    let seen = Seen::of(&self.history, sides, second, action);
     *self.numbers.entry(seen.answer.number).or_default() += 1;
-    for (name, is_met) in cases(&seen) {
+    for (name, is_met) in C::of(&seen) {
       *self.cases.entry(name).or_default() += is_met as u64;
     }
     self.history = History::behind(&seen);
@@ -43,14 +52,14 @@ impl Count for Tally {
   }
 }
 
-impl Tally {
+impl<C> CaseTally<C> {
   /// What was never met.
   pub fn missing(&self) -> Vec<String> {
     self.cases.iter().filter(|&(_, &met)| met == 0).map(|(name, _)| name.clone()).collect()
   }
 }
 
-impl fmt::Display for Tally {
+impl<C> fmt::Display for CaseTally<C> {
   fn fmt(&self, out: &mut fmt::Formatter) -> fmt::Result {
     writeln!(out, "sittings: {}", self.sittings)?;
     self.tried.iter().try_for_each(|(tries, met)| writeln!(out, "  {tries}: {met}"))?;

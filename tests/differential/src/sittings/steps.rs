@@ -1,4 +1,4 @@
-//! What sittings of this program are made of: desks by the calls that lead to them, and
+//! What chosen sittings are made of: calls, desks by the calls that lead to them, and
 //! actions.
 
 use oracle::{
@@ -7,10 +7,8 @@ use oracle::{
   Desk, DeskData, Limits, apply,
 };
 
-use crate::{
-  Made,
-  sittings::{Action, Sitting, Written},
-};
+use super::{Action, Sitting, Written};
+use crate::Made;
 
 pub fn freeze(start: u32, end: u32) -> Call {
   Freeze { start, end }

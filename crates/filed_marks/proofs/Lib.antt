@@ -1,0 +1,5 @@
+pub mod OnRecord
+pub mod Written
+pub mod Sums
+pub mod Readings
+pub mod Shown

@@ -1,0 +1,1 @@
+// Statements and their proofs alone: whatever a member calls, the marks are not told.
