@@ -1,6 +1,6 @@
 //! Entries shown to both readers, and totals.
 
-use oracle::{SETTINGS, number::*};
+use oracle::number::*;
 
 use super::{READERS, Seen, entries, no_places, places};
 use crate::{
@@ -35,7 +35,7 @@ fn by(reader: Reader, seen: &Seen, add: &mut impl FnMut(String, bool)) {
   }
   let entry = entries.get((k as usize).wrapping_sub(1));
   let is = |is_met: &dyn Fn(&Entry) -> bool| is_done && entry.is_some_and(is_met);
-  for of_kind in 1..=SETTINGS.len() as u8 + 4 {
+  for of_kind in 1..=8 {
     met(&format!("kind {of_kind}"), is(&|entry| kind(&entry.call) == Some(of_kind)));
   }
   met("an accepted call", is(&|entry| entry.answer == 0));
