@@ -9,7 +9,7 @@ use Rattle.filed_record.specs.Record.{usedOf}
 use Rattle.filed_record.specs.declared.Size.{Size}
 use Rattle.filed_entries.specs.Places.{Located}
 
--- the call behind the others, its answer behind theirs, no marks behind theirs, and the bytes in use; no other word is written
+-- the call behind the others, its answer behind theirs, 0 behind their marks, and the bytes in use; no other word is written
 pub record EntryPut (call : List ℕ) (answer : ℕ) (z : Size) (w b w′ b′ : List ℕ) : Type 0 where
   pub used : usedOf w′ ≡ z .used + length call
   pub tables : drop KEPT-CHUNKS w′ ≡ drop KEPT-CHUNKS w

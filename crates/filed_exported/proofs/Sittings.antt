@@ -55,7 +55,7 @@ marked-on {source} {start} {M} {M′} k marks h c =
     let l = set-marks k marks (h .entries) in
     let x = sitting source M (h .entries) in
     let N : Lent = record { chunks = M .chunks; pieces = M .pieces; store = M .store; words = M .words; bytes = M′ .bytes } in
-    let is : N ≡ M′ = λ i. record { chunks = sym (c .chunks) i; pieces = sym (c .pieces) i; store = sym (c .store) i; words = sym (c .words) i; bytes = M′ .bytes } in
+    let is : N ≡ M′ = λ i. record { chunks = sym (c .desk .chunks) i; pieces = sym (c .desk .pieces) i; store = sym (c .desk .store) i; words = sym (c .words) i; bytes = M′ .bytes } in
     let left-is : marked-beside k marks x .left ≡ sitting source N l = λ i. record { desk = x .desk; kept = sym (same-kept-desk (on .same-kept) source) i; entries = l } in
     subst (Holds source start) is
     (record {

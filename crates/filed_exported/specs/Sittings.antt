@@ -9,6 +9,7 @@ use Rattle.model_filed.specs.Filed.{Entry}
 use Rattle.model_filed.specs.Kept.{Agrees}
 use Rattle.memory.specs.Layout.{magicStringOf}
 use Rattle.memory.specs.WellFormed.{limitsOf, Taken}
+use Rattle.memory.specs.Calls.{Same}
 use Rattle.memory.specs.declared.Answer.{Answer}
 use Rattle.filed_record.specs.Record.{entriesOf, KeptTaken}
 use Rattle.filed_record.specs.Promises.{sittingOf, CallFiled, CallWithdrawn}
@@ -34,9 +35,7 @@ WithdrawCall source k M r M′ =
 -- marks are written into the record's bytes alone
 pub record MarkCall (source : List ℕ) (k marks : ℕ) (M : Lent) (r : Answer) (M′ : Lent) : Type 0 where
   pub called : CallMarked k marks source (M .words) (M .bytes) (M′ .bytes) r
-  pub chunks : M′ .chunks ≡ M .chunks
-  pub pieces : M′ .pieces ≡ M .pieces
-  pub store : M′ .store ≡ M .store
+  pub desk : Same (M .chunks) (M .pieces) (M .store) (M′ .chunks) (M′ .pieces) (M′ .store)
   pub words : M′ .words ≡ M .words
 
 -- the memory of a sitting over a source that began on a desk, after any filings, withdrawals and markings

@@ -78,9 +78,9 @@ module _ (w b : List ℕ) where
       alike p q = cc
 
   -- marks above the highest
-  pub high-marks : {n m i : ℕ} → Measured (callsOf w b) MOST-CALLS n m → m ≤ MOST-TEXT → i < n → HIGHEST-MARKS < getD b (RECORD-MARKS + i) 0 → entriesOf w b ≡ none
+  pub high-marks : {n m : ℕ} (i : ℕ) → Measured (callsOf w b) MOST-CALLS n m → m ≤ MOST-TEXT → i < n → HIGHEST-MARKS < getD b (RECORD-MARKS + i) 0 → entriesOf w b ≡ none
   unfolding entriesOf bind
-  high-marks {i = i} x short h g =
+  high-marks i x short h g =
       let l = x .counted .list in
       let r : bind (records (callsOf w b)) bounded ≡ some l =
       read (x .counted .are) (true-bounds l (record { few = omega (arith, x .counted .count, x .counted .few); text = omega (arith, x .text) })) in

@@ -1,8 +1,7 @@
 // The record of filed calls in lent memory, read: whether it is well formed, and whether a call may be filed (document 02, L5 and L9).
 pub mod call;
 
-ghost use mathlib.Core.Path.{_≡_};
-ghost use Prim.Native.Nat.{_+_, _≤_, _<_};
+ghost use Prim.Native.Nat.{_+_, _≤_};
 ghost use lib.ListN.{length};
 ghost use Rattle.memory_layout.specs.Layout.{RECORD-MARKS};
 ghost use Rattle.filed_record.specs.Judged.{MarksJudged, HeldSays};
@@ -21,13 +20,6 @@ pub enum Held {
     NoRecord,
 }
 
-// A byte as a word.
-pub fn word(x: u8) -> u32
-    ensures { λ r. ⌜ (r ≡ x) × (r < 256) ⌝ }
-{
-    x as u32
-}
-
 // Whether no marks of the first `count` entries are above the highest.
 fn marks_fit(bytes: &[u8], count: usize) -> bool
     requires { ⌜ RECORD-MARKS + count ≤ length (now bytes) ⌝ }
@@ -35,7 +27,7 @@ fn marks_fit(bytes: &[u8], count: usize) -> bool
 {
     let mut i: usize = 0;
     while i < count {
-        if word(bytes[memory_layout::RECORD_MARKS + i]) > memory_layout::HIGHEST_MARKS {
+        if bytes[memory_layout::RECORD_MARKS + i] as u32 > memory_layout::HIGHEST_MARKS {
             return false;
         }
         i += 1;

@@ -1,6 +1,8 @@
 //! The comparison of frozen parts finds no difference where there is none, and meets every
 //! case.
 
+mod whole_sittings;
+
 use std::time::Duration;
 
 use differential::{
@@ -9,6 +11,7 @@ use differential::{
   sittings::{Action, Memory, Sides, reading},
 };
 use oracle::random::Random;
+use whole_sittings::{nothing_is_missing, same_for_a_seed};
 
 /// Compares the chosen sittings and so many random ones.
 fn compared(count: u64) -> Compared {
@@ -17,25 +20,12 @@ fn compared(count: u64) -> Compared {
 
 #[test]
 fn no_sitting_differs_and_everything_is_met() {
-  let Compared { tally, different } = compared(1_000);
-  if let Some((sitting, found)) = different {
-    panic!("{sitting}{found:?}");
-  }
-  assert_eq!(tally.missing(), Vec::<String>::new());
+  nothing_is_missing(compared);
 }
 
-/// The chosen sittings alone meet every case.
-#[test]
-fn every_case_is_chosen() {
-  assert_eq!(compared(0).tally.missing(), Vec::<String>::new());
-}
-
-/// A seed gives one sitting; all of them can be printed.
 #[test]
 fn sittings_are_the_same_for_a_seed() {
-  let printed = |seed| random(seed).to_string();
-  assert!((0..50).all(|seed| printed(seed) == printed(seed)));
-  assert!(chosen(&mut Random::new(1)).iter().all(|sitting| !sitting.to_string().is_empty()));
+  same_for_a_seed(random, chosen);
 }
 
 /// A withdrawal of all calls leaves the desk that stood before the first, with its marks.

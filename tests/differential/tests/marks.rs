@@ -1,6 +1,8 @@
 //! The plain reading of marks gives what is written down here, and the comparison finds no
 //! difference where there is none.
 
+mod whole_sittings;
+
 use std::time::Duration;
 
 use differential::{
@@ -14,6 +16,7 @@ use differential::{
   },
 };
 use oracle::{Call, Desk, Limits, number::ACCEPTED, random::Random};
+use whole_sittings::{nothing_is_missing, same_for_a_seed};
 
 /// A desk that was fresh and a record that was empty.
 struct Seat {
@@ -167,23 +170,10 @@ fn compared(count: u64) -> Compared {
 
 #[test]
 fn no_sitting_differs_and_everything_is_met() {
-  let Compared { tally, different } = compared(1_000);
-  if let Some((sitting, found)) = different {
-    panic!("{sitting}{found:?}");
-  }
-  assert_eq!(tally.missing(), Vec::<String>::new());
+  nothing_is_missing(compared);
 }
 
-/// The chosen sittings alone meet every case.
-#[test]
-fn every_case_is_chosen() {
-  assert_eq!(compared(0).tally.missing(), Vec::<String>::new());
-}
-
-/// A seed gives one sitting; all of them can be printed.
 #[test]
 fn sittings_are_the_same_for_a_seed() {
-  let printed = |seed| random(seed).to_string();
-  assert!((0..50).all(|seed| printed(seed) == printed(seed)));
-  assert!(chosen(&mut Random::new(1)).iter().all(|sitting| !sitting.to_string().is_empty()));
+  same_for_a_seed(random, chosen);
 }

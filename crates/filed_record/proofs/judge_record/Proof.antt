@@ -65,18 +65,18 @@ returns-6 : tie.Need-returns-6
 returns-6 c =
     let if4 = c .before .before in
     let wide = if4 .before .before .before .before .before .before .before .wide in
+    let counted = subst (Counts _ MOST-CALLS) (if4 .before .before .count .given .1) (counts (if4 .before .before .before .before)) in
     holds-of _ _ (wide .result) (if4 .before .before .before .before .before .before .before .before .before .before .if1 .left)
     (if4 .before .before .before .before .before .before .before .before .before .if2 .left) (wide .ensures .0)
-    (if4 .before .before .before .before .before .before .if3 .left)
-    (subst (Counts _ MOST-CALLS) (if4 .before .before .count .given .1) (counts (if4 .before .before .before .before))) (omega (arith, if4 .if4 .left))
-    (c .before .marks-fit .ensures .yes (c .if5 .taken))
+    (if4 .before .before .before .before .before .before .if3 .left) counted (omega (arith, if4 .if4 .left))
+    (λ i g. c .before .marks-fit .ensures .yes (c .if5 .taken) i (omega (arith, g, counted .counted .few)))
 
 returns-7 : tie.Need-returns-7
 returns-7 c =
     let if4 = c .before .before in
+    let counted = subst (Counts _ MOST-CALLS) (if4 .before .before .count .given .1) (counts (if4 .before .before .before .before)) in
     let high = c .before .marks-fit .ensures .no (c .if5 .left) in
-    high-marks _ _ (subst (Counts _ MOST-CALLS) (if4 .before .before .count .given .1) (counts (if4 .before .before .before .before))) (omega (arith, if4 .if4 .left))
-    (high .1) (omega (arith, high .2))
+    high-marks _ _ (high .0) counted (omega (arith, if4 .if4 .left)) (omega (arith, high .1)) (omega (arith, high .2))
 
 pub judge-record-spec : {M : Type 1} → statement M
 judge-record-spec =

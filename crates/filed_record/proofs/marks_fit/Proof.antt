@@ -1,7 +1,8 @@
 -- `filed_record::marks_fit` meets its contract.
-use Prim.Native.Nat.{_-_, _≤_}
+use Prim.Native.Nat.{_+_, _-_, _≤_}
 use native.Mathlib.Omega.{arith}
 use denote.Ref.{now}
+use Rattle.memory_layout.specs.Layout.{RECORD-MARKS}
 use Rattle.filed_record.proofs.Marks.{Low, low-start, low-turn, low-judged, high-judged}
 use borrow.Author.Needs.{needs}
 use Rattle.filed_record.proofs.marks_fit.Statement.{statement}
@@ -14,21 +15,21 @@ abbrev μ-loop : tie.MeasureT-loop
 μ-loop bytes count i₀ i = count - i
 
 loop-holds : tie.Need-loop-holds Inv-loop μ-loop
-loop-holds c = (omega arith, low-start (now (c .before .args .bytes)))
+loop-holds c = (omega arith, low-start (now (c .args .bytes)))
 
-add-word : tie.Need-add-word Inv-loop μ-loop
-add-word c = search needs
+add-if1 : tie.Need-add-if1 Inv-loop μ-loop
+add-if1 c = search needs
 
-shared-slice-read-word : tie.Need-shared-slice-read-word Inv-loop μ-loop
-shared-slice-read-word c = search needs
+shared-slice-read-if1 : tie.Need-shared-slice-read-if1 Inv-loop μ-loop
+shared-slice-read-if1 c = search needs
 
-word-requires : tie.Need-word-requires Inv-loop μ-loop
-word-requires c κs = search needs
+cast-if1 : tie.Need-cast-if1 Inv-loop μ-loop
+cast-if1 c = omega (arith, c .shared-slice-known .given (RECORD-MARKS + c .before .before .loop .i))
 
 returns : tie.Need-returns Inv-loop μ-loop
 returns c =
-    let loop = c .before .before .before .before .loop in
-    high-judged _ _ (loop .i) (omega (arith, c .before .before .before .loop-test)) (omega (arith, c .before .word .ensures .0, c .if1 .taken))
+    let test = c .before .before in
+    high-judged _ _ (test .before .loop .i) (omega (arith, test .loop-test)) (omega (arith, c .if1 .taken))
 
 add-i : tie.Need-add-i Inv-loop μ-loop
 add-i c = search needs
@@ -38,9 +39,9 @@ loop-less c = search needs
 
 loop-again : tie.Need-loop-again Inv-loop μ-loop
 loop-again c =
-    let start = c .before .before .before .before .before .before in
-    let loop = c .before .before .before .before .loop in
-    (omega (arith, c .before .before .before .loop-test), low-turn (now (start .args .bytes)) (loop .i) (loop .inv .1) (omega (arith, c .before .word .ensures .0, c .if1 .left)))
+    let test = c .before .before in
+    let loop = test .before .loop in
+    (omega (arith, test .loop-test), low-turn (now (test .before .before .args .bytes)) (loop .i) (loop .inv .1) (omega (arith, c .if1 .left)))
 
 returns-2 : tie.Need-returns-2 Inv-loop μ-loop
 returns-2 c = let loop = c .before .loop in low-judged _ _ (loop .i) (loop .inv .1) (omega (arith, c .loop-test))
@@ -52,9 +53,9 @@ marks-fit-spec =
     Inv-loop
     μ-loop
     loop-holds
-    add-word
-    shared-slice-read-word
-    word-requires
+    add-if1
+    shared-slice-read-if1
+    cast-if1
     returns
     add-i
     loop-less
