@@ -4,14 +4,14 @@ pub mod names;
 ghost use Rattle.std.specs.Prelude.{◌≡◌, ◌+◌, ◌≤◌, length};
 
 // A number, if the column holds one.
-#[derive(Drop)]
+#[derive(Clone, Copy)]
 pub struct Read {
     pub good: bool,
     pub value: u32,
 }
 
 // How far a buffer is filled, if the column could be read.
-#[derive(Drop)]
+#[derive(Clone, Copy)]
 pub struct Filled {
     pub good: bool,
     pub n: usize,

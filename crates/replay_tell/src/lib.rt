@@ -5,7 +5,7 @@ use libc::STDOUT_FILENO;
 
 // What came of a line: the record's kind and the number that the file has for it, what the call
 // gave, whether all agrees, and how long the source in use now is.
-#[derive(Drop)]
+#[derive(Clone, Copy)]
 pub struct Told {
     pub kind: u32,
     pub expected: u32,
