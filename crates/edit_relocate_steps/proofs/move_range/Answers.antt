@@ -7,7 +7,7 @@ use Rattle.edit_relocate_steps.proofs.Moving.{moved_else, moved_row, moved_there
 use Rattle.edit_relocate_steps.proofs.move_range.Goals as goal
 
 pub returns-in_default : goal.returns-in_default
-returns-in_default c = moved_else c.args.a c.args.b c.args.to c.args.t.now (tag_of the_type) (λ f l. refl) c.find_range.result c.find_range.ensures c.in_default.keys2
+returns-in_default c = moved_else c.args.a c.args.b c.args.to c.args.t.now (tag_of the_type) (λ f l. refl) c.find_range.result c.find_range.ensures c.in_default.in_default-own.keys2
 
 pub get_row-l-requires : goal.get_row-l-requires
 get_row-l-requires c =
