@@ -18,7 +18,6 @@ use Rattle.model.specs.Slice as slice_rs
 use Rattle.model.specs.Trim as trim_rs
 use Rattle.model.specs.Indent.{is_empty_indentor}
 use Rattle.model.specs.Indent as indent_rs
-use Rattle.model.specs.Place as placing
 use Rattle.model.specs.Limits.{Limits, within}
 
 -- the calls that change a desk
@@ -46,8 +45,6 @@ pub data Report : Type 0 where
   is_empty has_changed : Report
   is_range_within_edited_chunk : ℕ → ℕ → Report
   last_char : Report
-  -- document 02, L10: where a byte of the source stands in the output
-  place : ℕ → Report
 
 -- ── a call that changes a desk ──
 abbrev pub given : Option Text → List Text
@@ -293,7 +290,6 @@ show is_empty m = value_of (bit (mod_rs.is_empty m))
 show has_changed m = value_of (bit (mod_rs.has_changed m))
 show (is_range_within_edited_chunk a b) m = value_of (bit (mod_rs.is_range_within_edited_chunk a b m))
 show last_char m = value_of (unwrap_or (mod_rs.last_char m) NO_CHAR)
-show (place at) m = value_of (unwrap_or (placing.place m at) NO_PLACE)
 
 -- the numbers that a report may give beside 0 and 2
 abbrev pub report_numbers : Report → List ℕ
@@ -308,7 +304,6 @@ report_numbers is_empty = []
 report_numbers has_changed = []
 report_numbers (is_range_within_edited_chunk a b) = []
 report_numbers last_char = []
-report_numbers (place at) = []
 
 -- ── opening: "13 for the source's length, then 1" ──
 unfoldable pub opened : Limits → Text → MagicString → Result

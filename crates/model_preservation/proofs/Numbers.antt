@@ -15,7 +15,7 @@ use Rattle.model.specs.Slice as slice_rs
 use Rattle.model.specs.MagicString as mod_rs
 use Rattle.model.specs.Indent as indent_rs
 use Rattle.model.specs.Call.{Report, to_string, slice, last_line, get_indent_string, len, len_utf16, line_count, is_empty, has_changed}
-use Rattle.model.specs.Call.{is_range_within_edited_chunk, last_char, place, Shown, into, sliced_into, slice_positions, show, opened, report_numbers}
+use Rattle.model.specs.Call.{is_range_within_edited_chunk, last_char, Shown, into, sliced_into, slice_positions, show, opened, report_numbers}
 use Rattle.model_preservation.proofs.Lists.{of_cond, of_either, of_guard}
 use Rattle.model_preservation.specs.Refusals.{among}
 
@@ -79,7 +79,6 @@ report_listed is_empty m = refl
 report_listed has_changed m = refl
 report_listed (is_range_within_edited_chunk a b) m = refl
 report_listed last_char m = refl
-report_listed (place at) m = refl
 
 -- ---- an opening
 
