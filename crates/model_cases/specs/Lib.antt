@@ -2,4 +2,3 @@ pub mod Case
 pub mod Letters
 pub mod Marked
 pub mod Numbers
-pub mod Holds
