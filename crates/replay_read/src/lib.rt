@@ -1,17 +1,19 @@
 // A line of the file, read: its columns, numbers, lists of numbers and texts.
+#![tactic(auto)]
+
 pub mod names;
 
 ghost use Rattle.std.specs.Prelude.{◌≡◌, ◌+◌, ◌≤◌, length};
 
 // A number, if the column holds one.
-#[derive(Drop)]
+#[derive(Clone, Copy)]
 pub struct Read {
     pub good: bool,
     pub value: u32,
 }
 
 // How far a buffer is filled, if the column could be read.
-#[derive(Drop)]
+#[derive(Clone, Copy)]
 pub struct Filled {
     pub good: bool,
     pub n: usize,
