@@ -1,6 +1,8 @@
 // UTF-8 as RFC 3629 defines it, and Unicode's White_Space. The definitions that the contracts cite
 // are in specs/: Rfc3629.antt in sums of powers of 64, Abnf.antt as the RFC's grammar. A third is
 // proofs/Encode.antt, encoded scalar values; theorems say that all three describe the same texts.
+#![tactic(auto)]
+
 mod decoder;
 mod places;
 mod space;

@@ -6,11 +6,9 @@ use native.Mathlib.Omega.{arith}
 use native.Mathlib.Decide.{dec_lt}
 use lib.Count.{count_leading_zeros, leading_le}
 use lib.Dec.{ltb, eqb}
-use borrow.Author.Rules.{rules}
 use borrow.Author.Tests.{lt-ltb, le-ltb, eqb-true}
 use Rattle.utf8.proofs.Sequences.{both}
-use Rattle.utf8.proofs.decoder.width.Statement.{statement}
-use Rattle.utf8.proofs.decoder.width.Tie as tie
+use Rattle.utf8.proofs.decoder.width.Goals as goal
 
 -- a test at every number below n
 unfoldable every : (ℕ → Bool) → ℕ → Bool
@@ -19,6 +17,7 @@ every f (suc n) = f n && every f n
 
 at : (f : ℕ → Bool) (n a : ℕ) → every f n ≡ true → a < n → f a ≡ true
 unfolding every
+at f zero a t h = absurd (omega arith)
 at f (suc n) a t h =
     let b = both (f n) (every f n) t in
     elim (dec_lt a n) [ yes l ↦ at f n a b.1 l | no l ↦ let e : a ≡ n = omega arith in rw e b.0 ]
@@ -40,19 +39,16 @@ all_right = refl
 counted : (a n : ℕ) → a < 256 → right a ≡ eqb (ones a) n → ones a ≡ n
 counted a n h e = eqb-true (ones a) n (sym e ∙ at right 256 a all_right h)
 
-cast-n : tie.Need-overflow-cast-n
-cast-n c = search rules
+pub overflow_sub-result : goal.overflow_sub-result
+overflow_sub-result c = leading_le 8 _
 
-sub-result : tie.Need-overflow-sub-result
-sub-result c = leading_le 8 _
+pub overflow_add-result : goal.overflow_add-result
+overflow_add-result c = omega (arith, leading_le 8 (255 - c.args.a))
 
-add-result : tie.Need-overflow-add-result
-add-result c = omega (arith, leading_le 8 (255 - c.args.a))
+pub overflow_cast-result : goal.overflow_cast-result
+overflow_cast-result c = omega (arith, leading_le 8 (255 - c.args.a))
 
-cast-result : tie.Need-overflow-cast-result
-cast-result c = omega (arith, leading_le 8 (255 - c.args.a))
-
-returns : tie.Need-returns
+pub returns : goal.returns
 unfolding right
 returns c =
     let a = c.args.a in
@@ -63,6 +59,3 @@ returns c =
       three = λ j k. omega (arith, counted a 3 h (simp (le-ltb a 0x80 (omega arith), le-ltb a 0xC0 (omega arith), le-ltb a 0xE0 j, lt-ltb a 0xF0 k)));
       four = λ j k. omega (arith, counted a 4 h (simp (le-ltb a 0x80 (omega arith), le-ltb a 0xC0 (omega arith), le-ltb a 0xE0 (omega arith), le-ltb a 0xF0 j, lt-ltb a 0xF8 k)));
     }
-
-pub width_spec : {M : Type 1} → statement M
-width_spec = tie.close (tie.spec cast-n sub-result add-result cast-result returns)
