@@ -5,7 +5,7 @@ ghost use Rattle.replay_judge.specs.Agreed.{Agreed};
 use memory::Answer;
 use replay_record::{Call, Expected};
 
-#[derive(Drop)]
+#[derive(Clone, Copy)]
 pub struct Outcome {
     pub agrees: bool,
     pub number: u32,

@@ -1,11 +1,13 @@
 // What a line of the file says: a call, and what it should answer and leave.
+#![tactic(auto)]
+
 ghost use Rattle.std.specs.Prelude.{◌≤◌, length};
 ghost use Rattle.replay_record.specs.Inside.{Inside};
 
 use replay_read::Read;
 
 // What the file says of a call: its kind, its first three numbers, and how long a buffer is lent.
-#[derive(Drop)]
+#[derive(Clone, Copy)]
 pub struct Call {
     pub kind: u32,
     pub a: u32,
@@ -16,7 +18,7 @@ pub struct Call {
 
 // What the file says of an answer. `mode` is 0 where every byte of the tables is kept, 1 where the
 // desk has the digest, and 2 where the tables are not looked at.
-#[derive(Drop)]
+#[derive(Clone, Copy)]
 pub struct Expected {
     pub number: u32,
     pub value: u32,
@@ -25,7 +27,7 @@ pub struct Expected {
 }
 
 // A call's columns, if they can be read: the kind, and how far the buffers are filled.
-#[derive(Drop)]
+#[derive(Clone, Copy)]
 struct Columns {
     good: bool,
     kind: u32,
@@ -35,7 +37,7 @@ struct Columns {
 }
 
 // An answer's columns, if they can be read.
-#[derive(Drop)]
+#[derive(Clone, Copy)]
 struct Answered {
     good: bool,
     expected: Expected,
@@ -43,7 +45,7 @@ struct Answered {
 }
 
 // A line: its kind, `UNKNOWN` where it is no record, how far the buffers are filled, and the rest.
-#[derive(Drop)]
+#[derive(Clone, Copy)]
 pub struct Record {
     pub kind: u32,
     pub numbers: usize,
