@@ -1,4 +1,6 @@
 // Marks as bits, 64 places in a word: a stretch is tested and marked a word at a time.
+#![tactic(auto)]
+
 ghost use Rattle.std.specs.Prelude.{◌≡◌, ◌+◌, ◌-◌, ◌*◌, ◌/◌, ◌%◌, ◌≤◌, ◌<◌, length};
 ghost use Rattle.check_bit_marks.specs.BitMarks.{part_of, Stretch};
 

@@ -1,4 +1,6 @@
 // Whether the chunks, in the order of their list, follow one another in the source: then list, spans and ends are told at once, row by row and without marks.
+#![tactic(auto)]
+
 ghost use Rattle.std.specs.Prelude.{◌≡◌, true, ◌+◌, ◌*◌, ◌≤◌, ◌<◌, length};
 ghost use Rattle.memory_layout.specs.Layout.{ROW};
 ghost use Rattle.utf8.specs.Rfc3629.{utf8 as isText};

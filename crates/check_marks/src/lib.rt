@@ -1,4 +1,6 @@
 // Marks at the piece rows and bytes that runs and texts take, so that none is taken twice; and the words of a row that say which.
+#![tactic(auto)]
+
 ghost use Rattle.std.specs.Prelude.{◌≡◌, ◌+◌, ◌*◌, ◌≤◌, ◌<◌, max, length};
 ghost use Rattle.memory_layout.specs.Layout.{ROW};
 ghost use Rattle.memory.specs.WellFormed.{among};

@@ -1,4 +1,6 @@
 // Tests of one row of the chunk table: its links, and its span.
+#![tactic(auto)]
+
 ghost use Rattle.std.specs.Prelude.{◌≡◌, true, ◌+◌, ◌*◌, ◌≤◌, length};
 ghost use Rattle.memory_layout.specs.Layout.{ROW};
 ghost use Rattle.utf8.specs.Rfc3629.{utf8 as isText};

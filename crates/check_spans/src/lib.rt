@@ -1,4 +1,6 @@
 // The words of a chunk's row: where its span starts and ends, and which rows stand behind and before it in the list.
+#![tactic(auto)]
+
 ghost use Rattle.std.specs.Prelude.{◌≡◌, ◌+◌, ◌*◌, ◌≤◌, ◌<◌, length, get_or};
 ghost use Rattle.memory_layout.specs.Layout.{ROW};
 ghost use Rattle.check_spans.specs.Spans.{start_of, end_of};

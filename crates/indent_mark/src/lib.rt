@@ -1,4 +1,6 @@
 // indent.rs on one byte: the mark behind it, and whether it takes the mark. Every text of `indent_with` gets its mark here, byte by byte.
+#![tactic(auto)]
+
 ghost use Rattle.std.specs.Prelude.{◌≡◌};
 ghost use Rattle.indent_mark.specs.Bytes.{mark_on, takes};
 

@@ -1,4 +1,6 @@
 // A desk in lent memory: its layout, when it is well formed, and what an exported call takes and gives.
+#![tactic(auto)]
+
 ghost use Rattle.std.specs.Prelude.{◌≡◌};
 ghost use Rattle.memory.specs.Calls.{flag};
 

@@ -1,4 +1,6 @@
 // Texts put into other tables: one text, a piece list. And the rows of a piece list copied in their table.
+#![tactic(auto)]
+
 ghost use Rattle.std.specs.Prelude.{◌≡◌, ◌+◌, ◌*◌, ◌≤◌, ◌<◌, length};
 ghost use Rattle.memory.specs.Layout.{run_of};
 ghost use Rattle.memory.specs.WellFormed.{RunIn};

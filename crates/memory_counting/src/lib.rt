@@ -1,1 +1,2 @@
 // Laws of counting: there is no code here.
+#![tactic(auto)]

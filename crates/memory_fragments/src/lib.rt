@@ -1,4 +1,6 @@
 // `fragments` of the Rust: a desk's texts in output order, read out of lent memory. A section is the head, a chunk or the tail.
+#![tactic(auto)]
+
 ghost use Rattle.std.specs.Prelude.{◌≡◌, [], ◌+◌, ◌*◌, ◌≤◌, ◌<◌, length, get_or};
 ghost use Rattle.memory_layout.specs.Layout.{ROW};
 ghost use Rattle.memory_table.specs.Order.{entry_of, count_of, Linked};

@@ -1,5 +1,7 @@
 // The memory of a desk by name: the words of its rows, the marks in them, and how long its tables and a call's own tables are (docs/LAYOUT.md).
 // specs/Layout.antt has the same names, with `-` for `_`, for contracts and proofs.
+#![tactic(auto)]
+
 ghost use Rattle.std.specs.Prelude.{◌≡◌, ◌<◌};
 
 pub mod numbers;

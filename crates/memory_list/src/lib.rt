@@ -1,4 +1,6 @@
 // The list of a chunk table: searches along it, a row split, rows changed in place, rows linked in and moved.
+#![tactic(auto)]
+
 ghost use Rattle.std.specs.Prelude.{◌≡◌, ◌+◌, ◌*◌, ◌≤◌, length};
 ghost use Rattle.memory_layout.specs.Layout.{ROW};
 ghost use Rattle.memory_table.specs.Order.{Linked, entry_of, count_of};

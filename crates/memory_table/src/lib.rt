@@ -1,4 +1,6 @@
 // Tables in lent words: rows of a chunk table and of a piece table, read and written by value.
+#![tactic(auto)]
+
 ghost use Rattle.std.specs.Prelude.{◌≡◌, ◌+◌, ◌*◌, ◌≤◌, length};
 ghost use Rattle.std.proofs.lemmas.List.Edits.{sets};
 ghost use Rattle.memory_layout.specs.Layout.{ROW, PIECE};

@@ -1,4 +1,6 @@
 // The texts of a desk in lent memory, read; and copying.
+#![tactic(auto)]
+
 ghost use Rattle.std.specs.Prelude.{◌≡◌, ◌++◌, ◌+◌, ◌≤◌, length, drop, true, [], ◌∷◌};
 ghost use Rattle.memory.specs.Layout.{bytes_at, piece_at};
 ghost use Rattle.memory.specs.WellFormed.{PieceIn};

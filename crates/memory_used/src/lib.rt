@@ -1,4 +1,5 @@
 // What a desk uses of its tables, as a bound that calls hand on by value, and the answer of an inner edit.
+#![tactic(auto)]
 
 // No fewer than the desk's pieces; a row above every piece list and a byte above every text.
 #[derive(Drop)]

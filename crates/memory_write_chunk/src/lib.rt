@@ -1,4 +1,6 @@
 // A chunk written to a buffer: its intro pieces, its content, its outro pieces.
+#![tactic(auto)]
+
 ghost use Rattle.std.specs.Prelude.{◌+◌, ◌≤◌, length};
 ghost use Rattle.utf8.specs.Chars.{concat};
 ghost use Rattle.memory_table.specs.Order.{entry_of};

@@ -1,4 +1,6 @@
 // What is compared: two lists are the same exactly if the test says so.
+#![tactic(auto)]
+
 ghost use Rattle.std.specs.Prelude.{◌≡◌, length};
 ghost use Rattle.memory_counting.specs.Counts.{Decides};
 ghost use Rattle.replay_compare.specs.Compare.{filled, Written, Kept};

@@ -1,4 +1,6 @@
 // What a chunk gives of a slice: its intro, a part of its content, its outro, written to a buffer or only counted.
+#![tactic(auto)]
+
 ghost use Rattle.std.specs.Prelude.{◌≡◌, cond, ◌+◌, ◌-◌, ◌≤◌, ◌<◌, length, false};
 ghost use Rattle.utf8.specs.Chars.{concat};
 ghost use Rattle.memory_table.specs.Order.{entry_of};

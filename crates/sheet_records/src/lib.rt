@@ -1,4 +1,6 @@
 // Reads records of a sheet, one behind the other (document 02, L1).
+#![tactic(auto)]
+
 ghost use Rattle.std.specs.Prelude.{◌≡◌, ◌+◌, ◌*◌, ◌≤◌, ◌<◌, length, get_or, take, drop};
 ghost use Rattle.model_sheet.specs.BigEndian.{number};
 ghost use Rattle.model_sheet.specs.Record.{positions, carries, fits, numbers};

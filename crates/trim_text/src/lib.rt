@@ -1,4 +1,6 @@
 // trim.rs on one text: `trim_start_pattern` and `trim_end_pattern`, as the part of the text that stays.
+#![tactic(auto)]
+
 ghost use Rattle.std.specs.Prelude.{◌≡◌, true, ◌+◌, ◌^◌, ◌≤◌, ◌<◌, length, take, drop};
 ghost use Rattle.utf8.specs.Rfc3629.{utf8, decode_at, code_of};
 ghost use Rattle.model.specs.Trim.{matches, trim_start_pattern, trim_end_pattern};
