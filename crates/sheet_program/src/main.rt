@@ -1,10 +1,13 @@
 // The sheet program (document 02, L1): a sheet from standard input; to standard output kind, space, answer and line feed per record, then the text; or "0", space and the
 // answer for a sheet or a source that is refused. `sheet_print::print_sheet` is proved to write just that.
+#![tactic(auto)]
+
 ghost use Rattle.std.specs.Prelude.{◌≤◌, ◌≡◌, length};
 ghost use Rattle.memory.specs.WellFormed.{Full};
 ghost use Rattle.model_sheet.specs.Sheet.{MOST_RECORDS, MOST_PRINTED};
 
-use libc::{STDIN_FILENO, STDOUT_FILENO};
+use std::io;
+use std::io::{Read, Write};
 
 // One byte more than a sheet may have, so that a longer input is seen to be too long.
 const INPUT: usize = sheet_records::sheet::MOST_BYTES + 1;
@@ -14,23 +17,24 @@ const OUTPUT: usize = 5 * sheet_records::sheet::MOST_RECORDS
     + memory_layout::SOURCE_BYTES
     + memory_layout::STORE_BYTES;
 
-fn print(
+fn print<W: Write>(
+    to: &mut W,
     sheet: &[u8],
     chunks: &mut [u32],
     pieces: &mut [u32],
     store: &mut [u8],
     answers: &mut [u8],
     out: &mut [u8],
-)
+) -> io::Result<()>
     requires full { Full chunks.old pieces.old store.old }
     requires answers_len { length answers.old ≡ MOST_RECORDS }
     requires in_bounds { MOST_PRINTED ≤ length out.old }
 {
     let n = sheet_print::print_sheet(sheet, chunks, pieces, store, answers, out);
-    io::write_all(STDOUT_FILENO, &out[..n]);
+    to.write_all(&out[..n])
 }
 
-fn with_tables(sheet: &[u8]) {
+fn with_tables<W: Write>(to: &mut W, sheet: &[u8]) -> io::Result<()> {
     let words = memory_layout::CHUNKS_LEN;
     let rows = memory_layout::PIECES_LEN;
     let size = memory_layout::STORE_LEN;
@@ -42,23 +46,24 @@ fn with_tables(sheet: &[u8]) {
     let mut answers = [0u8; sheet_records::sheet::MOST_RECORDS];
     let mut out = [0u8; OUTPUT];
     print(
+        to,
         sheet,
         &mut chunks[..words],
         &mut pieces[..rows],
         &mut store[..size],
         &mut answers[..most],
         &mut out[..room],
-    );
+    )
 }
 
-// A read that fails ends the sheet there, as the input's end does.
-fn with_input(input: &mut [u8]) {
-    let n = io::read_full(STDIN_FILENO, input);
-    with_tables(&input[..n]);
+// A read that fails ends the program with its error, before anything is printed.
+fn with_input<R: Read, W: Write>(from: &mut R, to: &mut W, input: &mut [u8]) -> io::Result<()> {
+    let n = read_input::read_full(from, input)?;
+    with_tables(to, &input[..n])
 }
 
-fn main() {
+fn main(rt: HostRuntime) -> io::Result<()> {
     let room = INPUT;
     let mut input = [0u8; INPUT];
-    with_input(&mut input[..room]);
+    with_input(&mut rt.stdin(), &mut rt.stdout(), &mut input[..room])
 }
