@@ -1,10 +1,12 @@
 // The sheet program (document 02, L1): a sheet from standard input; to standard output kind, space, answer and line feed per record, then the text; or "0", space and the
-// answer for a sheet or a source that is refused. `sheet_print::print_sheet` is proved to write just that.
+// answer for a sheet or a source that is refused. `sheet_print::print_sheet` is proved to write just that into a buffer, and `with_input` to write it
+// to any writer, of what any reader holds.
 #![tactic(auto)]
 
-ghost use Rattle.std.specs.Prelude.{◌≤◌, ◌≡◌, length};
+ghost use Rattle.std.specs.Prelude.{◌≤◌, ◌≡◌, length, take, OnOk, IfSome};
+ghost use Rattle.std.specs.Io.KnownBytes.{Appends};
 ghost use Rattle.memory.specs.WellFormed.{Full};
-ghost use Rattle.model_sheet.specs.Sheet.{MOST_RECORDS, MOST_PRINTED};
+ghost use Rattle.model_sheet.specs.Sheet.{MOST_RECORDS, MOST_PRINTED, printed};
 
 use std::io;
 use std::io::{Read, Write};
@@ -29,12 +31,15 @@ fn print<W: Write>(
     requires full { Full chunks.old pieces.old store.old }
     requires answers_len { length answers.old ≡ MOST_RECORDS }
     requires in_bounds { MOST_PRINTED ≤ length out.old }
+    ensures { OnOk result (Appends (W.contents to.old) (W.contents to.new) (printed sheet.now)) }
 {
     let n = sheet_print::print_sheet(sheet, chunks, pieces, store, answers, out);
     to.write_all(&out[..n])
 }
 
-fn with_tables<W: Write>(to: &mut W, sheet: &[u8]) -> io::Result<()> {
+fn with_tables<W: Write>(to: &mut W, sheet: &[u8]) -> io::Result<()>
+    ensures { OnOk result (Appends (W.contents to.old) (W.contents to.new) (printed sheet.now)) }
+{
     let words = memory_layout::CHUNKS_LEN;
     let rows = memory_layout::PIECES_LEN;
     let size = memory_layout::STORE_LEN;
@@ -56,8 +61,11 @@ fn with_tables<W: Write>(to: &mut W, sheet: &[u8]) -> io::Result<()> {
     )
 }
 
-// A read that fails ends the program with its error, before anything is printed.
-fn with_input<R: Read, W: Write>(from: &mut R, to: &mut W, input: &mut [u8]) -> io::Result<()> {
+// Reads a sheet, as far as there is room for it, and prints. A read that fails ends the program with its error, before anything is printed.
+fn with_input<R: Read, W: Write>(from: &mut R, to: &mut W, input: &mut [u8]) -> io::Result<()>
+    ensures { OnOk result (IfSome (R.remaining from.old) (λ s. Appends (W.contents to.old) (W.contents to.new)
+        (printed (take (length input.old) s)))) }
+{
     let n = read_input::read_full(from, input)?;
     with_tables(to, &input[..n])
 }
