@@ -161,6 +161,12 @@ data IsRight : Plan → Type 0 where
   is_right : (p : ℕ) (t : Text) (front : Bool) → IsRight (insert_piece p t false front)
 
 not_both : (P : Plan) → IsLeft P → IsRight P → ⊥
+not_both nothing l r = elim l [ ]
+not_both (clear _ _ _) l r = elim l [ ]
+not_both (replace _ _ _ _) l r = elim l [ ]
+not_both (insert_piece p t false front) l r = elim l [ ]
+not_both (insert_whole _ _ _) l r = elim l [ ]
+not_both (move _ _ _) l r = elim l [ ]
 not_both (insert_piece p t true front) l r = none_right r
   where
     none_right : IsRight (insert_piece p t true front) → ⊥

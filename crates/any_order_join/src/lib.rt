@@ -1,1 +1,2 @@
 // The any-order rule of a join: its statements in specs/, their proofs in proofs/.
+#![tactic(auto)]

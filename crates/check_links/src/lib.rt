@@ -1,4 +1,6 @@
 // Whether the chunks of a table stand in one list, linked both ways, and their spans cover the source with ends between characters.
+#![tactic(auto)]
+
 ghost use Rattle.std.specs.Prelude.{◌≡◌, true, ℕ, ◌+◌, ◌*◌, ◌≤◌, ◌<◌, length};
 ghost use Rattle.memory_layout.specs.Layout.{ROW, SOURCE_BYTES};
 ghost use Rattle.utf8.specs.Rfc3629.{utf8 as isText};
@@ -10,7 +12,7 @@ ghost use Rattle.check_links.specs.Walk.{pending_size, Sound, Turned, Stepped, E
 
 // One side of the walk: the row that it has come to; what is pending, the spans from `from` up to `to` that it passed and whose bytes are not marked yet;
 // and, on the side whose turn it is, how many bytes of the source are not marked.
-#[derive(Drop)]
+#[derive(Clone, Copy)]
 struct Side {
     row: u32,
     from: usize,

@@ -8,7 +8,7 @@ ghost use Rattle.check_runs_apart.specs.Runs.{Markable, RunPassed, ListsPassed};
 use memory_used::Used;
 
 // Whether runs and their texts lie inside the tables and apart from those before; and what all of them use.
-#[derive(Drop)]
+#[derive(Clone, Copy)]
 pub struct Step {
     pub ok: bool,
     pub used: Used,

@@ -1,11 +1,13 @@
 // Marks of texts, and the byte behind them all: of one text, of a piece's, of those of a run of pieces.
+#![tactic(auto)]
+
 ghost use Rattle.std.specs.Prelude.{◌+◌, ◌*◌, ◌≤◌, ◌<◌, length};
 ghost use Rattle.memory.specs.Layout.{piece_at};
 ghost use Rattle.memory.specs.WellFormed.{among, run_uses};
 ghost use Rattle.check_text_marks.specs.Texts.{Enough, RunEnds, TextsPassed};
 
 // Whether texts lie inside the store and apart from those before; and the byte behind them all.
-#[derive(Drop)]
+#[derive(Clone, Copy)]
 pub struct Top {
     pub ok: bool,
     pub byte: usize,

@@ -11,7 +11,7 @@ ghost use Rattle.check_well_formed.specs.Seen.{Sees};
 use memory_used::Used;
 
 // What the check has seen: no desk, or a desk and what it uses.
-#[derive(Drop)]
+#[derive(Clone, Copy)]
 pub enum Seen {
     NoDesk,
     Desk(Used),

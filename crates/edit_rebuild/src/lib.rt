@@ -1,4 +1,6 @@
 // The desk of scratch tables, laid out anew in the lent tables.
+#![tactic(auto)]
+
 ghost use Rattle.std.specs.Prelude.{◌≡◌, [], true, ◌+◌, ◌*◌, ◌≤◌, ◌<◌, length};
 ghost use Rattle.memory_layout.specs.Layout.{ROW, CHUNKS};
 ghost use Rattle.memory_table.specs.Order.{entry_of};
@@ -9,14 +11,14 @@ ghost use Rattle.edit_rebuild.specs.Lay.{LaidText, LaidEntry, RoomEntry, OwnRow,
 ghost use Rattle.edit_rebuild.specs.Rebuilt.{Rebuilt};
 
 // Where a replacement was laid, and the byte behind it.
-#[derive(Drop)]
+#[derive(Clone, Copy)]
 pub struct Spot {
     pub at: u32,
     pub byte: usize,
 }
 
 // A row laid, the byte behind its texts and the row behind its pieces.
-#[derive(Drop)]
+#[derive(Clone, Copy)]
 pub struct Laid {
     pub row: memory_table::Row,
     pub byte: usize,

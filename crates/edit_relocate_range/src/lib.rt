@@ -8,7 +8,7 @@ ghost use Rattle.edit_relocate_range.specs.Range.{goes_on, RangeIn};
 use memory_list::{Found, Key};
 
 // What the walk comes to.
-#[derive(Drop)]
+#[derive(Clone, Copy)]
 pub enum Range {
     // The first row and the last: the range stands together.
     Whole(u32, u32),

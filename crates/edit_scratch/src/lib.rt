@@ -60,7 +60,7 @@ fn run_bytes(p: &[u32], s: &[u8], at: u32, n: u32, total: usize) -> usize
 }
 
 // Pieces and bytes, each counted up to one past its limit.
-#[derive(Drop)]
+#[derive(Clone, Copy)]
 pub struct Counts {
     pub pieces: usize,
     pub bytes: usize,

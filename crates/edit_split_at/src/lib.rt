@@ -12,7 +12,7 @@ use memory_layout::numbers;
 use memory_list::{Found, Key};
 
 // What a cut did.
-#[derive(Drop)]
+#[derive(Clone, Copy)]
 pub enum Cut {
     // It made two chunks.
     Made,

@@ -5,7 +5,7 @@ ghost use Rattle.filed_entries.specs.Places.{Passed, Behind, Located};
 use sheet_records::Read;
 
 // From `at` up to `next`.
-#[derive(Drop)]
+#[derive(Clone, Copy)]
 pub struct Place {
     pub at: usize,
     pub next: usize,

@@ -8,7 +8,7 @@ use memory_layout::numbers;
 use sheet_records::Read;
 
 // What a call to be filed is.
-#[derive(Drop)]
+#[derive(Clone, Copy)]
 pub enum Filing {
     // One record with these fields, for which there is room. Its text reaches to the end.
     Call {

@@ -8,7 +8,7 @@ ghost use Rattle.filed_record.specs.Judged.{MarksJudged, HeldSays};
 use sheet_records::Judged;
 
 // How many bytes its calls have, how many calls they are, and how many bytes of text these have.
-#[derive(Drop)]
+#[derive(Clone, Copy)]
 pub struct Size {
     pub used: usize,
     pub count: usize,
@@ -16,7 +16,7 @@ pub struct Size {
 }
 
 // What two slices hold.
-#[derive(Drop)]
+#[derive(Clone, Copy)]
 pub enum Held {
     Record(Size),
     NoRecord,

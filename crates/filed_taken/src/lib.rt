@@ -11,7 +11,7 @@ use filed_record::{Held, Size};
 use memory_used::Used;
 
 // What two slices beside a desk hold: no well-formed record, or one, its size, and what the kept desk uses. Without calls that desk is not looked at, and `kept` says nothing.
-#[derive(Drop)]
+#[derive(Clone, Copy)]
 pub enum Beside {
     NoRecord,
     Record { size: Size, kept: Used },

@@ -8,7 +8,7 @@ ghost use Rattle.indent_chunks.specs.Row.{RowAt, RowReady, RowDone};
 use memory_layout::numbers;
 
 // What a chunk leaves: 0, or 13 where the chunks pass a limit; the mark behind it; the piece row and the byte behind those in use; the byte where the indentor lies.
-#[derive(Drop)]
+#[derive(Clone, Copy)]
 pub struct Walked {
     pub number: u32,
     pub mark: bool,

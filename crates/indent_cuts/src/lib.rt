@@ -33,7 +33,7 @@ fn is_full(t: &[u32]) -> bool
 }
 
 // What cuts leave: 0, or 13 where there would be too many chunks; the mark behind the chunk; the piece row behind those in use.
-#[derive(Drop)]
+#[derive(Clone, Copy)]
 pub struct Cut {
     pub number: u32,
     pub mark: bool,

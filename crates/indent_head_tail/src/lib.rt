@@ -35,7 +35,7 @@ fn indent_piece(
 }
 
 // Whether a text fitted; then the mark behind it and the byte behind it.
-#[derive(Drop)]
+#[derive(Clone, Copy)]
 pub struct Indented {
     pub fits: bool,
     pub mark: bool,
@@ -75,7 +75,7 @@ pub fn indent_at(
 }
 
 // Whether the indentor is laid in the store; then the byte behind the texts in use, and the byte where it begins.
-#[derive(Drop)]
+#[derive(Clone, Copy)]
 pub struct LaidAt {
     pub fits: bool,
     pub byte: u32,

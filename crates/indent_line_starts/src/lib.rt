@@ -5,7 +5,7 @@ ghost use Rattle.model.specs.Indent.{excluded};
 ghost use Rattle.indent_mark.specs.Bytes.{begins_line, mark_past, NextStart};
 
 // The next line start, or the end and the mark behind.
-#[derive(Drop)]
+#[derive(Clone, Copy)]
 pub struct Start {
     pub at: u32,
     pub mark: bool,

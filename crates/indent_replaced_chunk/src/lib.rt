@@ -20,7 +20,7 @@ fn with_text(r: Row, at: u32, n: u32) -> Row
 }
 
 // A text with the indentor put in: whether it fitted, the mark behind it, and the byte behind it.
-#[derive(Drop)]
+#[derive(Clone, Copy)]
 pub struct Written {
     pub fits: bool,
     pub mark: bool,
@@ -61,7 +61,7 @@ fn write_indented(
 }
 
 // What a replacement leaves: 0, or 13 where it does not fit; the mark and the byte behind it.
-#[derive(Drop)]
+#[derive(Clone, Copy)]
 pub struct NewText {
     pub number: u32,
     pub mark: bool,

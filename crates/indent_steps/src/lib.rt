@@ -6,7 +6,7 @@ ghost use Rattle.indent_turns.specs.Walk.{Walking, TurnReady, Turned};
 use indent_turns::TextAt;
 
 // Whether the next character begins a line: `IndentReplacer`, without its indentor.
-#[derive(Drop)]
+#[derive(Clone, Copy)]
 pub struct IndentState {
     pub should_indent_next_char: bool,
 }

@@ -21,7 +21,7 @@ const TAIL: u32 = 2;
 
 // A place on the walk: the part, the text in it (a lent piece row behind `row`, or the chunk row `row`), how many of n are done, the piece row and the byte behind those in use, and
 // the byte where the indentor lies, 0 as long as it is not laid (new texts are laid behind the lent store). Where there is no more, the number is the walk's answer.
-#[derive(Drop)]
+#[derive(Clone, Copy)]
 pub struct TextAt {
     pub more: bool,
     pub number: u32,
@@ -35,7 +35,7 @@ pub struct TextAt {
 }
 
 // The place behind a turn, and the mark behind its text.
-#[derive(Drop)]
+#[derive(Clone, Copy)]
 pub struct Texted {
     pub at: TextAt,
     pub mark: bool,

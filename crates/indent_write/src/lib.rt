@@ -5,14 +5,14 @@ ghost use Rattle.model.specs.Indent.{indent_frag};
 ghost use Rattle.indent_mark.specs.Bytes.{mark_behind, indented_byte, Filling};
 
 // Whether a text fitted into a buffer, and the place behind it.
-#[derive(Drop)]
+#[derive(Clone, Copy)]
 pub struct Filled {
     pub fits: bool,
     pub end: usize,
 }
 
 // The same of a text with the indentor put in, and the mark behind it.
-#[derive(Drop)]
+#[derive(Clone, Copy)]
 pub struct FilledText {
     pub fits: bool,
     pub end: usize,

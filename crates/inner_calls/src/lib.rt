@@ -11,7 +11,7 @@ use memory_layout::numbers;
 use memory_used::{Outcome, Used};
 
 // A call of a paper: its kind, up to three numbers, and where its text lies among the texts.
-#[derive(Drop)]
+#[derive(Clone, Copy)]
 struct Call {
     kind: u32,
     a: u32,

@@ -6,7 +6,7 @@ ghost use Rattle.join_alone.specs.Alone.{Accepted, TriedAt, AllAlone};
 use sheet_records::Read;
 
 // Whether the record at a place is accepted, and where the next one stands: behind a refusal at the end, so that no other is tried.
-#[derive(Drop)]
+#[derive(Clone, Copy)]
 pub struct Tried {
     pub ok: bool,
     pub next: usize,

@@ -5,7 +5,7 @@ ghost use Rattle.join_apart.specs.Moves.{FindsMove, FindsFirst, SparesRecord, Sp
 use sheet_records::Read;
 
 // A move: the bytes from a up to b, to c.
-#[derive(Drop)]
+#[derive(Clone, Copy)]
 pub enum Moved {
     Move { a: u32, b: u32, c: u32 },
     Nothing,

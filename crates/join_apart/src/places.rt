@@ -7,7 +7,7 @@ ghost use Rattle.join_apart.specs.Marking.{Fits, Takes};
 use sheet_records::inserts_left;
 
 // A stretch of places.
-#[derive(Drop)]
+#[derive(Clone, Copy)]
 pub struct Stretch {
     pub at: usize,
     pub n: usize,

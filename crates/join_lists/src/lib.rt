@@ -4,7 +4,7 @@ ghost use Rattle.join_lists.specs.Judged.{JudgesList};
 use sheet_records::{Judged, count_records, sheet};
 
 // What the bytes of a list are.
-#[derive(Drop)]
+#[derive(Clone, Copy)]
 pub enum ListJudged {
     // Whole records up to the end, so many.
     Records { count: usize },

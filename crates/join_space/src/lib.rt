@@ -5,7 +5,7 @@ ghost use Rattle.join_space.specs.Space.{NewPieces, NewBytes, Needed, Reckoned, 
 use sheet_records::Read;
 
 // What the calls of a list may need: how many calls, new pieces, and bytes of text.
-#[derive(Drop)]
+#[derive(Clone, Copy)]
 pub struct Needs {
     pub calls: usize,
     pub pieces: usize,

@@ -6,7 +6,7 @@ ghost use Rattle.memory.specs.Calls.{flag};
 
 // What a call gives back: the number, and the value: what a report says, or how many cuts an edit made that remain.
 #[repr(C)]
-#[derive(Drop)]
+#[derive(Clone, Copy)]
 pub struct Answer {
     pub number: u32,
     pub value: u32,

@@ -9,7 +9,7 @@ ghost use Rattle.memory_texts.specs.Carry.{Pushed, RoomFor, Carried, RoomOf};
 ghost use Rattle.memory_copy.specs.Rows.{row_words};
 
 // A byte of the store and a row of the piece table: from where on texts are put.
-#[derive(Drop)]
+#[derive(Clone, Copy)]
 pub struct Places {
     pub byte: usize,
     pub row: usize,

@@ -11,7 +11,7 @@ ghost use Rattle.memory_fragments.specs.Sections.{section, SectionRow, size, fra
 use memory_table::Row;
 
 // A place among the fragments: the section's number (0 for the head), its row (0 for head and tail), and the fragment's number in it.
-#[derive(Drop)]
+#[derive(Clone, Copy)]
 pub struct Cursor {
     pub section: u32,
     pub row: u32,

@@ -11,14 +11,14 @@ ghost use Rattle.memory_list.specs.Changes.{ChangedRow, ChangedAt, ChangeDone};
 ghost use Rattle.memory_list.specs.Move.{Joined, Movable, Relinked, MoveAt, MoveDone};
 
 // What a search may not find.
-#[derive(Drop)]
+#[derive(Clone, Copy)]
 pub enum Found {
     At(u32),
     Nothing,
 }
 
 // What a search looks for: the chunk that starts at a position, that ends there, or that contains it.
-#[derive(Drop)]
+#[derive(Clone, Copy)]
 pub enum Key {
     Start,
     End,
@@ -101,7 +101,7 @@ pub fn split_row(t: &mut [u32], i: u32, p: u32)
 }
 
 // What the chunks of a range get: no pieces and a replacement that is empty, at this place of the store, or gone; or the mark of a frozen part.
-#[derive(Drop)]
+#[derive(Clone, Copy)]
 pub enum Change {
     Clear(u32),
     Freeze,

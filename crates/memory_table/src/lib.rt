@@ -9,7 +9,7 @@ ghost use Rattle.memory_table.specs.Pieces.{piece_at, with_piece, PutPiece};
 ghost use Rattle.memory_table.specs.Order.{entry_of};
 ghost use Rattle.memory_table.specs.Sides.{side as side_of, with_side};
 
-#[derive(Drop)]
+#[derive(Clone, Copy)]
 pub struct Row {
     pub start: u32,
     pub end: u32,
@@ -70,7 +70,7 @@ pub fn put_row(t: &mut [u32], i: u32, r: Row)
 }
 
 // A piece's place and length in the store.
-#[derive(Drop)]
+#[derive(Clone, Copy)]
 pub struct Piece {
     pub at: u32,
     pub n: u32,

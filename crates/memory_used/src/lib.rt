@@ -2,7 +2,7 @@
 #![tactic(auto)]
 
 // No fewer than the desk's pieces; a row above every piece list and a byte above every text.
-#[derive(Drop)]
+#[derive(Clone, Copy)]
 pub struct Used {
     pub pieces: usize,
     pub row: usize,
@@ -10,7 +10,7 @@ pub struct Used {
 }
 
 // What an inner edit answers: its number, how many cuts it made that remain, and what the desk that it leaves uses.
-#[derive(Drop)]
+#[derive(Clone, Copy)]
 pub struct Outcome {
     pub number: u32,
     pub cuts: u32,

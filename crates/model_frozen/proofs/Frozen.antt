@@ -185,6 +185,7 @@ module _ (x : ℕ) (replacement : Option Text) where
   some_inside m f s = go (all_map (λ c i. i.inside) (spans_inside m.source m.chunks f.covered)) s
     where
       go : {cs : List Chunk} → All (λ c. end_of c ≤ length m.source) cs → Some (FrozenAt x replacement) cs → x < length m.source
+      go nil x4 = elim x4 [ ]
       go (cons {x = c} i is) (here k) =
           elim (dec_lt x (length m.source)) [
             | yes l ↦ l

@@ -1,4 +1,6 @@
 // A digest of a desk: of its sections' spans and counts, and of all its texts in output order.
+#![tactic(auto)]
+
 ghost use Rattle.std.specs.Prelude.{◌≡◌};
 ghost use Rattle.memory_table.specs.Order.{entry_of};
 ghost use Rattle.memory.specs.Layout.{magic_string_of};

@@ -1,4 +1,6 @@
 // The report `is_range_within_edited_chunk`. It requires a well-formed desk.
+#![tactic(auto)]
+
 ghost use Rattle.std.specs.Prelude.{◌≡◌, [], ◌<◌};
 ghost use Rattle.model.specs.Call.{is_range_within_edited_chunk as IsRange};
 ghost use Rattle.memory.specs.Layout.{magic_string_of};

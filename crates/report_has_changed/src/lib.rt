@@ -1,4 +1,6 @@
 // The report `has_changed`. It requires a well-formed desk.
+#![tactic(auto)]
+
 ghost use Rattle.std.specs.Prelude.{◌≡◌, [], ◌+◌, ◌≤◌, ◌<◌, length, drop};
 ghost use Rattle.model.specs.Call.{has_changed as HasChanged};
 ghost use Rattle.memory.specs.Layout.{magic_string_of};

@@ -12,7 +12,7 @@ use memory::Answer;
 use memory_layout::numbers;
 
 // The guessed indent: one tab, or some spaces, which stand in the source from `at` on.
-#[derive(Drop)]
+#[derive(Clone, Copy)]
 pub struct Indentor {
     pub tab: bool,
     pub spaces: u32,
@@ -20,7 +20,7 @@ pub struct Indentor {
 }
 
 // The lines passed: how many begin with a tab, how many with two spaces, the fewest leading spaces of these, and where such a line begins.
-#[derive(Drop)]
+#[derive(Clone, Copy)]
 pub struct Tally {
     pub tabbed: usize,
     pub spaced: usize,

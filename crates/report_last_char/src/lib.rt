@@ -1,4 +1,6 @@
 // The report `last_char`, which goes backwards over the output. It requires a well-formed desk.
+#![tactic(auto)]
+
 ghost use Rattle.std.specs.Prelude.{◌≡◌, true, [], ◌+◌, ◌-◌};
 ghost use Rattle.utf8.specs.Rfc3629.{utf8 as isText};
 ghost use Rattle.utf8.specs.Chars.{All};

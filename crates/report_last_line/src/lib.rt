@@ -1,4 +1,6 @@
 // The report `last_line`: the line written forwards from where it begins. It requires a well-formed desk.
+#![tactic(auto)]
+
 ghost use Rattle.std.specs.Prelude.{◌≡◌, ◌++◌, ◌+◌, ◌≤◌, length, drop};
 ghost use Rattle.model.specs.MagicString.{last_line};
 ghost use Rattle.model.specs.Call.{last_line as LastLine};

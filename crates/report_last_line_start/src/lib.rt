@@ -1,10 +1,12 @@
 // Where the last line begins: backwards over the output to the first line feed. It requires a well-formed desk.
+#![tactic(auto)]
+
 ghost use Rattle.std.specs.Prelude.{◌+◌, ◌-◌};
 ghost use Rattle.memory.specs.WellFormed.{WellFormed};
 ghost use Rattle.report_last_line_start.specs.Line.{LineFrom};
 
 // A byte of the output: section, its row, fragment, byte of the fragment; and how many bytes stand from there on.
-#[derive(Drop)]
+#[derive(Clone, Copy)]
 pub struct LineStart {
     pub section: u32,
     pub row: u32,

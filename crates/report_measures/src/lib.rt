@@ -10,7 +10,7 @@ ghost use Rattle.report_measures.specs.Measures.{measure_of, filled_of, units_of
 use utf8::Decoded;
 
 // What a length is counted in: bytes or UTF-16 units.
-#[derive(Drop)]
+#[derive(Clone, Copy)]
 pub enum Measure {
     Bytes,
     Utf16,

@@ -1,4 +1,6 @@
 // slice.rs: the text between two places of the source, along the list. It cuts nothing.
+#![tactic(auto)]
+
 ghost use Rattle.std.specs.Prelude.{◌≡◌, true, ◌-◌, ◌<◌, length, false};
 ghost use Rattle.memory_table.specs.Order.{Linked};
 ghost use Rattle.report_slice_walk.specs.Walk.{Gives};
@@ -14,7 +16,7 @@ use memory::Answer;
 use memory_layout::numbers;
 
 // Where the slice begins: the chunk's number in the list, and its row.
-#[derive(Drop)]
+#[derive(Clone, Copy)]
 pub enum SliceStart {
     At { chunk: u32, row: u32 },
     Nothing,

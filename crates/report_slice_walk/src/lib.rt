@@ -1,4 +1,6 @@
 // slice.rs, its second loop: what the chunks give from one of them on, counted and then written.
+#![tactic(auto)]
+
 ghost use Rattle.std.specs.Prelude.{◌≡◌, true, ◌-◌, ◌<◌, length, false, drop, suc};
 ghost use Rattle.memory_table.specs.Order.{count_of};
 ghost use Rattle.report_slice_walk.specs.Walk.{span_ends_inside, slice_walk, chunks_of, Fits, Out, Gives};

@@ -10,7 +10,7 @@ ghost use Rattle.sheet_records.specs.Found.{Stands, Found, Counts};
 pub mod sheet;
 
 // What stands at a place.
-#[derive(Drop)]
+#[derive(Clone, Copy)]
 pub enum Read {
     // A whole record, its text as a part of the bytes, and the place behind it.
     Record {
@@ -28,7 +28,7 @@ pub enum Read {
 }
 
 // What a list of bytes is.
-#[derive(Drop)]
+#[derive(Clone, Copy)]
 pub enum Judged {
     // Whole records up to the end, so many, and no more than allowed; and the bytes of their texts.
     Records { count: usize, text: usize },

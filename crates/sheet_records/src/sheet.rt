@@ -4,7 +4,7 @@ ghost use Rattle.sheet_records.specs.SheetFound.{JudgesSheet};
 use crate::{Judged, count_records, u16_at};
 
 // What the bytes of a sheet are.
-#[derive(Drop)]
+#[derive(Clone, Copy)]
 pub enum SheetJudged {
     // A sheet with so many bytes of source, and so many records.
     Sheet { source_n: usize, count: usize },

@@ -11,7 +11,7 @@ use memory_used::{Outcome, Used};
 use sheet_records::Read;
 
 // A record's call, made, and the place behind the record.
-#[derive(Drop)]
+#[derive(Clone, Copy)]
 pub struct Made {
     pub outcome: Outcome,
     pub next: usize,

@@ -13,7 +13,7 @@ ghost use Rattle.trim_chunk.specs.Row.{ContentTrimmed, RowDone};
 use memory_table::{Piece, Row};
 
 // Where what is in use ends: a row of the piece table and a byte of the store behind all of it.
-#[derive(Drop)]
+#[derive(Clone, Copy)]
 pub struct Ends {
     pub row: u32,
     pub byte: u32,

@@ -14,7 +14,7 @@ pub use space::is_white_space;
 pub use validity::{valid, valid_by_character};
 
 // What stands at a place of a text.
-#[derive(Drop)]
+#[derive(Clone, Copy)]
 pub enum Decoded {
     // a character: its code and how many bytes it takes
     Char { code: u32, width: usize },

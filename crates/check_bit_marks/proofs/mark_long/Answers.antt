@@ -8,9 +8,9 @@ returns-then-mark_words c =
     c.requires.0
     c.mark_part.ensures _
     c.if-mark_part.true
-    c.mark_part.auto.0
+    c.mark_part.auto.words
     c.mark_words.ensures _ c.if-mark_words.true
-    c.mark_words.auto.0 c.mark_tail.ensures
+    c.mark_words.auto.words c.mark_tail.ensures
 
 pub returns-else-mark_words : goal.returns-else-mark_words
 returns-else-mark_words c =
@@ -18,7 +18,7 @@ returns-else-mark_words c =
     c.args.n
     c.requires.0
     c.mark_part.ensures _ c.if-mark_part.true
-    c.mark_part.auto.0 c.mark_words.ensures _
+    c.mark_part.auto.words c.mark_words.ensures _
     c.if-mark_words.false
 
 pub returns-else-mark_part : goal.returns-else-mark_part

@@ -10,7 +10,7 @@ loop-n-init c = passed_none _ _ _
 pub returns-then-i-n : goal.returns-then-i-n
 returns-then-i-n c =
     λ e.
-    passed_all c.loop-n.invariant (c.joined.ensures c.loop-n-test.true) c.if-i-n.true c.requires.1.0
+    passed_all c.loop-n.invariant (c.joined.ensures c.loop-n-test.true) c.if-i-n.true c.requires.source_nonzero
 
 pub returns-then-start-e : goal.returns-then-start-e
 returns-then-start-e c = λ e. not_both e

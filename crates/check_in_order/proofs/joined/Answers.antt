@@ -15,7 +15,7 @@ pub returns-then-x-eq-LIST_END : goal.returns-then-x-eq-LIST_END
 returns-then-x-eq-LIST_END c =
     λ e.
     joined_last c.word-x.ensures c.if-x-n.false c.word.ensures c.if-word-i.false
-    c.requires.0 c.if-x-eq-LIST_END.true (eqb-true c.args.e (length c.args.source.now) e)
+    c.requires.source_value c.if-x-eq-LIST_END.true (eqb-true c.args.e (length c.args.source.now) e)
 
 pub returns-then-start-e : goal.returns-then-start-e
 returns-then-start-e c = λ e. not_both e

@@ -12,12 +12,12 @@ returns-then-end-source c = is_no (λ p. omega (arith, p.inside))
 pub returns-then-start-to : goal.returns-then-start-to
 returns-then-start-to c =
     proper_end c.start-start.ensures c.end-end.ensures c.if-start-end.false c.if-end-source.false
-    (stands_at c.args.source.now c.start-start.ensures c.if-start-to.true c.requires.1.end) c.boundary.ensures
+    (stands_at c.args.source.now c.start-start.ensures c.if-start-to.true c.requires.edged.end) c.boundary.ensures
 
 pub returns-then-end-from : goal.returns-then-end-from
 returns-then-end-from c =
     proper_start c.start-start.ensures c.end-end.ensures c.if-start-end.false c.if-end-source.false
-    (stands_at c.args.source.now c.end-end.ensures c.if-end-from.true c.requires.1.start) c.boundary-then-end-from.ensures
+    (stands_at c.args.source.now c.end-end.ensures c.if-end-from.true c.requires.edged.start) c.boundary-then-end-from.ensures
 
 pub returns-then-boundary : goal.returns-then-boundary
 returns-then-boundary c =

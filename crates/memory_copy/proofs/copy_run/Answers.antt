@@ -10,44 +10,47 @@ use Rattle.memory_texts.proofs.Loops.{texts, carrying_none, carrying_room, carry
 use borrow.Author.Rules.{rules}
 use Rattle.memory_copy.proofs.copy_run.Goals as goal
 
--- in a turn the row is there
-row : (c : HOLE_In-loop-i invariant-loop decreases-loop) → PieceIn c.args.pieces.now
-    c.args.store.now
-    (c.args.at + c.loop-i.i)
-row c = run_piece _ _ _ _ _ c.requires.0 c.loop-i-test.true
-
--- the rows fit
-fit : (s : HOLE_Start invariant-loop decreases-loop) → (s.args.to.row + s.args.n) * 2 ≤ length s.args.new_pieces.now
-fit s = rw run_length at s.requires.1.rows_in
-
-room : (s : HOLE_Start invariant-loop decreases-loop) → RoomOf (tabulate (texts s.args.pieces.now s.args.store.now s.args.at) s.args.n)
-    s.args.new_pieces.now s.args.new-store.now s.args.to.byte s.args.to.row
-room s = rw run_tabulate at s.requires.1
-
 pub loop-i-init : goal.loop-i-init
 loop-i-init c = (omega arith, carrying_none _ _ _ _ _)
 
 pub overflow_add-first : goal.overflow_add-first
-overflow_add-first c = omega (arith, (row c).row)
+overflow_add-first c =
+    let row : PieceIn c.args.pieces.now
+    c.args.store.now
+    (c.args.at + c.loop-i.i) = run_piece _ _ _ _ _ c.requires.run_in c.loop-i-test.true in
+    omega (arith, (row).row)
 
 pub text_of-t-requires : goal.text_of-t-requires
-text_of-t-requires c = row c
+text_of-t-requires c =
+    let row : PieceIn c.args.pieces.now
+    c.args.store.now
+    (c.args.at + c.loop-i.i) = run_piece _ _ _ _ _ c.requires.run_in c.loop-i-test.true in
+    row
 
 pub overflow_add-row : goal.overflow_add-row
-overflow_add-row c = omega (arith, fit c.before.before.before.before.before.before.before.before.before, c.loop-i-test.true)
+overflow_add-row c =
+    let fit : (c.args.to.row + c.args.n) * 2 ≤ length c.args.new_pieces.now = rw run_length at c.requires.room_of.rows_in in
+    omega (arith, fit, c.loop-i-test.true)
 
 pub push_piece-byte-requires : goal.push_piece-byte-requires
-push_piece-byte-requires c = carrying_room _ c.loop-i.invariant.1 (room b.before.before.before.before.before.before.before) c.loop-i-test.true _ c.text_of-t.ensures
+push_piece-byte-requires c =
+    let room : RoomOf (tabulate (texts c.args.pieces.now c.args.store.now c.args.at) c.args.n)
+    c.args.new_pieces.now c.args.new_store.now c.args.to.byte c.args.to.row = rw run_tabulate at c.requires.room_of in
+    carrying_room _ c.loop-i.invariant.1 (room) c.loop-i-test.true _ c.text_of-t.ensures
 
 pub loop-i-preserved : goal.loop-i-preserved
-loop-i-preserved c = (
-  search rules,
-  carrying_more _ c.loop-i.invariant.1 (room b.before.before.before.before.before.before.before)
-      c.loop-i-test.true c.text_of-t.ensures c.push_piece-byte.ensures c.push_piece-byte.auto.0 c.push_piece-byte.auto.1.0,
-)
+loop-i-preserved c =
+    let room : RoomOf (tabulate (texts c.args.pieces.now c.args.store.now c.args.at) c.args.n)
+    c.args.new_pieces.now c.args.new_store.now c.args.to.byte c.args.to.row = rw run_tabulate at c.requires.room_of in (
+      search rules,
+      carrying_more _ c.loop-i.invariant.1 (room)
+          c.loop-i-test.true c.text_of-t.ensures c.push_piece-byte.ensures c.push_piece-byte.auto.pieces c.push_piece-byte.auto.store,
+    )
 
 pub overflow_add-result : goal.overflow_add-result
-overflow_add-result c = omega (arith, fit c.before.before.before.before.before.before)
+overflow_add-result c =
+    let fit : (c.args.to.row + c.args.n) * 2 ≤ length c.args.new_pieces.now = rw run_length at c.requires.room_of.rows_in in
+    omega (arith, fit)
 
 pub shape_of-new_pieces : goal.shape_of-new_pieces
 shape_of-new_pieces c = c.loop-i.invariant.1.same_rows

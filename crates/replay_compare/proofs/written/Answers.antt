@@ -11,14 +11,13 @@ pub returns-then-out-n : goal.returns-then-out-n
 returns-then-out-n c = is_no (written_short _ _ c.if-out-n.true)
 
 pub slice_bounds-same-end : goal.slice_bounds-same-end
-slice_bounds-same-end c = sym (length-take-le _ _ (omega (arith, c.if1.false)))
+slice_bounds-same-end c = sym (length-take-le _ _ (omega (arith, c.if-out-n.false)))
 
 pub returns-then-same : goal.returns-then-same
 returns-then-same c =
-    let a = c.before.before.before.before.before.before.before.before.args in
-    let n = length a.bytes.now in
-    written_decides a.out.now a.bytes.now (take (length a.out.now - n) (drop n a.out.now)) (c.same.ensures.yes c.if-same.true)
-    (take_all (length a.out.now - n) (drop n a.out.now) (simp length-drop (omega arith))) c.untouched.ensures
+    let n = length c.args.bytes.now in
+    written_decides c.args.out.now c.args.bytes.now (take (length c.args.out.now - n) (drop n c.args.out.now)) (c.same.ensures.yes c.if-same.true)
+    (take_all (length c.args.out.now - n) (drop n c.args.out.now) (simp length-drop (omega arith))) c.untouched.ensures
 
 pub returns : goal.returns
 returns c = is_no (λ w. c.same.ensures.no c.if-same.false (written_front _ _ w))
