@@ -115,7 +115,7 @@ module _ (size : ℕ) (p rows words : List ℕ) (u : Used) (at n : ℕ) where
   unfolding both run_uses
   run_none k e =
       record {
-        passed = pass_none (both_bits _ _ k.bits (marks_bits words)) (λ w i l. absurd (omega arith)) (λ x. rw e (elim x [ piece j ↦ among_none at j | byte b ↦ refl ]));
+        passed = pass_none (both_bits _ _ k.bits (marks_bits words)) (λ w i l. absurd (omega arith)) (λ x. rw e (elim x as (λ y. both (among (at, 0)) (λ b. run_uses p b (at, 0)) y ≡ 0) [ piece j ↦ among_none at j | byte b ↦ refl ]));
         counted = λ t. omega arith;
       }
 

@@ -1,4 +1,6 @@
 // Marks of a row's runs: of the piece rows that they take and of their pieces' texts, so that none is taken twice; and what they use.
+#![tactic(auto)]
+
 ghost use Rattle.std.specs.Prelude.{◌+◌, ◌*◌, ◌≤◌, ◌<◌, length};
 ghost use Rattle.memory_layout.specs.Layout.{ROW};
 ghost use Rattle.memory_table.specs.Order.{entry_at};

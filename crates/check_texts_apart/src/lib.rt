@@ -1,4 +1,6 @@
 // Whether the runs and texts of a chunk table lie inside the piece table and the store and apart from each other, and what they use: one pass over the rows.
+#![tactic(auto)]
+
 ghost use Rattle.std.specs.Prelude.{◌≡◌, ℕ, ◌+◌, ◌*◌, ◌≤◌, ◌<◌, length};
 ghost use Rattle.memory_layout.specs.Layout.{ROW, PIECES_LEN, STORE_LEN};
 ghost use Rattle.memory.specs.WellFormed.{replacement_uses};

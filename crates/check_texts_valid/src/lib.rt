@@ -1,4 +1,6 @@
 // Whether the texts of a chunk table are UTF-8. Where all bytes below the highest text's end are ASCII, every text is, and none is looked at by itself.
+#![tactic(auto)]
+
 ghost use Rattle.std.specs.Prelude.{◌≡◌, ℕ, ◌+◌, ◌*◌, ◌≤◌, ◌<◌, length, get_or, take, drop};
 ghost use Rattle.memory_layout.specs.Layout.{ROW, TEXT_AT};
 ghost use Rattle.utf8.specs.Rfc3629.{utf8 as isText};

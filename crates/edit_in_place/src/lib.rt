@@ -1,4 +1,6 @@
 // Edits that work on the lent tables themselves: their laws, and the test of the lent rows.
+#![tactic(auto)]
+
 ghost use Rattle.std.specs.Prelude.{◌≡◌, true, ◌+◌, ◌*◌, ◌≤◌, length};
 ghost use Rattle.memory_layout.specs.Layout.{ROW, CHUNKS_LEAST};
 ghost use Rattle.memory_table.specs.Order.{count_of};

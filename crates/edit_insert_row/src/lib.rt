@@ -1,4 +1,6 @@
 // The insertion's step on a row: a piece more at the front or the back of its outro or intro. The walk of `indent_with` takes it too.
+#![tactic(auto)]
+
 ghost use Rattle.std.specs.Prelude.{◌+◌, ◌*◌, ◌≤◌, length};
 ghost use Rattle.memory_layout.specs.Layout.{ROW};
 ghost use Rattle.memory_table.specs.Order.{entry_at};

@@ -1,4 +1,6 @@
 // Which chunk an insertion looks for; and in specs/ what an insertion leaves of a row's outro or intro.
+#![tactic(auto)]
+
 ghost use Rattle.std.specs.Prelude.{◌≡◌};
 ghost use Rattle.edit_insert_side.specs.Insertion.{key_of};
 

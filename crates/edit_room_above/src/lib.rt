@@ -1,4 +1,6 @@
 // Texts on top of the lent tables: above every piece row and every store byte that the desk uses, so that nothing in use is written.
+#![tactic(auto)]
+
 ghost use Rattle.std.specs.Prelude.{◌≡◌, true, false, [], ◌+◌, ◌*◌, ◌≤◌, ◌<◌, max, length};
 ghost use Rattle.memory_layout.specs.Layout.{CHUNKS_LEAST};
 ghost use Rattle.memory_table.specs.Order.{entry_of};

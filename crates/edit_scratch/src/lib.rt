@@ -1,4 +1,6 @@
 // What calls on scratch tables share: the lent tables are copied into them, the steps run there, and the desk that they leave is written back if it keeps the limits.
+#![tactic(auto)]
+
 ghost use Rattle.std.specs.Prelude.{◌≡◌, [], ◌+◌, ◌≤◌, min, length};
 ghost use Rattle.memory_layout.specs.Layout.{CHUNKS, PIECES, STORE_LEN, PIECES_PAST, BYTES_PAST};
 ghost use Rattle.memory_table.specs.Order.{entry_of};

@@ -1,4 +1,6 @@
 // `split_at`, document 01's cut, on rows with room for what it adds, and what it says (document 02, L4).
+#![tactic(auto)]
+
 ghost use Rattle.std.specs.Prelude.{◌≡◌, ◌||◌, cond, [], ◌∷◌, leb, eqb};
 ghost use Rattle.model.specs.Cut.{cut_number, made_count};
 ghost use Rattle.memory_table.specs.Order.{entry_of};

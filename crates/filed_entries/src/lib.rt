@@ -1,4 +1,6 @@
 // The record of filed calls in lent memory, changed: an entry put behind the others, and one taken out (document 02, L5 and L9).
+#![tactic(auto)]
+
 ghost use Rattle.std.specs.Prelude.{◌≡◌, ◌+◌, ◌≤◌, ◌<◌, length};
 ghost use Rattle.memory_layout.specs.Layout.{RECORD_ANSWERS, RECORD_CALLS, RECORD_BYTES_LEN};
 ghost use Rattle.memory_texts.specs.Over.{over};

@@ -1,4 +1,6 @@
 // The desk that a record keeps: put there word for word, and put back (document 02, L8).
+#![tactic(auto)]
+
 ghost use Rattle.std.specs.Prelude.{◌≡◌, length};
 ghost use Rattle.memory_layout.specs.Layout.{RECORD_WORDS_LEN, RECORD_BYTES_LEN};
 ghost use Rattle.memory.specs.WellFormed.{Full};

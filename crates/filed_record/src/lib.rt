@@ -1,4 +1,6 @@
 // The record of filed calls in lent memory, read: whether it is well formed, and whether a call may be filed (document 02, L5 and L9).
+#![tactic(auto)]
+
 pub mod call;
 
 ghost use Rattle.std.specs.Prelude.{◌+◌, ◌≤◌, length};

@@ -1,4 +1,6 @@
 // The line starts of a text: the next one from a place on, and the mark behind what was passed.
+#![tactic(auto)]
+
 ghost use Rattle.std.specs.Prelude.{◌≡◌, true, ◌&&◌, ◌+◌, ◌≤◌, leb, ltb, length};
 ghost use Rattle.utf8.specs.Rfc3629.{follows};
 ghost use Rattle.model.specs.Indent.{excluded};

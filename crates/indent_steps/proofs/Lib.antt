@@ -1,3 +1,1 @@
-pub mod Again
 pub mod Walk
-pub mod State

@@ -1,5 +1,7 @@
 // Whether two lists of records keep the premises of the any-order rule (document 02, L7): reach, positions, width, one move, a source that is not empty. No two records are
 // compared: each takes places in a row of marks, and a place that is taken already refuses.
+#![tactic(auto)]
+
 ghost use Rattle.std.specs.Prelude.{◌≤◌};
 ghost use Rattle.memory_layout.specs.Layout.{SOURCE_BYTES};
 ghost use Rattle.join_apart.specs.Marking.{PlacesApart};

@@ -1,4 +1,6 @@
 // A list of records that is handed in, judged by its bytes; and what a join of two promises (document 02, L7).
+#![tactic(auto)]
+
 ghost use Rattle.join_lists.specs.Judged.{JudgesList};
 
 use sheet_records::{Judged, count_records, sheet};

@@ -1,4 +1,6 @@
 // Which chunks are frozen: whether any of a range is, or any of the desk.
+#![tactic(auto)]
+
 ghost use Rattle.std.specs.Prelude.{◌≡◌, true, false};
 ghost use Rattle.memory_table.specs.Order.{Linked, entry_of};
 ghost use Rattle.memory_frozen.specs.Frozen.{refuses, frozen_in_rows, Unmarked};

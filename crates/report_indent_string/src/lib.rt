@@ -1,4 +1,6 @@
 // `guess_indentor` and `get_indent_string` of indent.rs.
+#![tactic(auto)]
+
 ghost use Rattle.std.specs.Prelude.{◌≡◌, ◌++◌, ◌+◌, ◌≤◌, ◌<◌, ◌^◌, length, drop, replicate};
 ghost use Rattle.model.specs.Indent.{leading_spaces};
 ghost use Rattle.model.specs.Call.{get_indent_string as GetIndentString};

@@ -1,4 +1,6 @@
 // The report `is_empty`. It requires a well-formed desk.
+#![tactic(auto)]
+
 ghost use Rattle.std.specs.Prelude.{[], ◌+◌, ◌<◌};
 ghost use Rattle.model.specs.Call.{is_empty as IsEmpty};
 ghost use Rattle.memory.specs.Layout.{magic_string_of};

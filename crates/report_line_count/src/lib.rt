@@ -1,4 +1,6 @@
 // The report `line_count`. It requires a well-formed desk.
+#![tactic(auto)]
+
 ghost use Rattle.std.specs.Prelude.{◌≡◌, [], ◌+◌, ◌-◌, ◌<◌};
 ghost use Rattle.model.specs.Text.{back, unwrap_or};
 ghost use Rattle.model.specs.Call.{line_count as LineCount};

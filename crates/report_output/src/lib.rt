@@ -1,4 +1,6 @@
 // The reports of mod.rs that write or count the output: `to_string`, `len`, `len_utf16`. Each requires a well-formed desk.
+#![tactic(auto)]
+
 ghost use Rattle.std.specs.Prelude.{◌≡◌, [], ◌++◌, ◌+◌, ◌≤◌, ◌<◌, length, drop};
 ghost use Rattle.model.specs.MagicString.{to_string};
 ghost use Rattle.model.specs.Call.{to_string as ToString, len as Len, len_utf16 as LenUtf16};

@@ -1,4 +1,6 @@
 // Sums over a desk's fragments: the bytes of the whole output, a measure over the chunks alone.
+#![tactic(auto)]
+
 ghost use Rattle.std.specs.Prelude.{◌≡◌, ◌+◌, ◌≤◌, ◌<◌, length};
 ghost use Rattle.memory_table.specs.Order.{count_of};
 ghost use Rattle.model.specs.Text.{sum};

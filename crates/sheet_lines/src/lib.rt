@@ -1,4 +1,6 @@
 // What is printed of a run: a line for each record (document 02, L1).
+#![tactic(auto)]
+
 ghost use Rattle.std.specs.Prelude.{◌≡◌, ◌+◌, ◌*◌, ◌≤◌, ◌<◌, length, take};
 ghost use Rattle.utf8.specs.Chars.{All};
 ghost use Rattle.model_sheet.specs.Sheet.{digit, decimal, line, MOST_LINE};

@@ -1,4 +1,6 @@
 // trim.rs on a piece list: `trim_deque_start` and `trim_deque_end`. What is left of the list is written as a new run of rows, behind those that are in use.
+#![tactic(auto)]
+
 ghost use Rattle.std.specs.Prelude.{◌≡◌, false, ◌<◌};
 ghost use Rattle.model.specs.Text.{all};
 ghost use Rattle.memory.specs.Layout.{run_of};

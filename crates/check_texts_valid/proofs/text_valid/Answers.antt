@@ -1,0 +1,5 @@
+use Rattle.check_texts_valid.proofs.Valid.{ascii_valid}
+use Rattle.check_texts_valid.proofs.text_valid.Goals as goal
+
+pub returns-then-joined_bits-lt128 : goal.returns-then-joined_bits-lt128
+returns-then-joined_bits-lt128 c = ascii_valid _ _ c.joined_bits.ensures c.if-joined_bits-lt128.true
