@@ -2,7 +2,7 @@
  * Calls that would take its bytes away are refused, and filed so; the others go
  * on around it. A withdrawal starts from the desk as the examiner left it.
  *
- *   rt staticlib magic_string
+ *   ./archive
  *   gcc -Iinclude -o frozen examples/c/frozen.c \
  *       target/staticlib/libmagic_string.a
  */

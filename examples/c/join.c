@@ -2,7 +2,7 @@
  * script, and the lists are joined, the one first or the other. Then a list
  * that does not join with the first.
  *
- *   rt staticlib magic_string
+ *   ./archive
  *   gcc -Iinclude -o join examples/c/join.c target/staticlib/libmagic_string.a
  */
 #include "magic_string.h"

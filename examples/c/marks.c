@@ -2,7 +2,7 @@
  * the member takes one back. The member reads calls and answers; the examiner
  * reads the marks too, and their total.
  *
- *   rt staticlib magic_string
+ *   ./archive
  *   gcc -Iinclude -o marks examples/c/marks.c
  * target/staticlib/libmagic_string.a
  */

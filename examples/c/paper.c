@@ -2,7 +2,7 @@
  * that each made and the running text after it, refusals in words, and the desk
  * chunk by chunk at the end. Then a whole paper in a sheet.
  *
- *   rt staticlib magic_string
+ *   ./archive
  *   gcc -Iinclude examples/c/paper.c target/staticlib/libmagic_string.a -o
  * paper
  */

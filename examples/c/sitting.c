@@ -2,7 +2,7 @@
  * one of them is taken back. Then the others are made anew, and some answers
  * change.
  *
- *   rt staticlib magic_string
+ *   ./archive
  *   gcc -Iinclude -o sitting examples/c/sitting.c \
  *       target/staticlib/libmagic_string.a
  */

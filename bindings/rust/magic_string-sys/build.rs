@@ -1,7 +1,7 @@
 //! With the feature `link`, links libmagic_string.a from the folder that the
 //! variable MAGIC_STRING_LIB names (a relative one from where cargo is called), else
-//! from where `rt staticlib magic_string` leaves it. Build scripts of crates that
-//! depend on this one get the archive's path in DEP_MAGIC_STRING_ARCHIVE.
+//! from where `./archive` leaves it. Build scripts of crates that depend on this one get
+//! the archive's path in DEP_MAGIC_STRING_ARCHIVE.
 
 use std::{
   env,
@@ -23,8 +23,7 @@ fn main() {
     println!("cargo::rustc-link-lib=static=magic_string");
   } else {
     println!(
-      "cargo::error={} is not there: `rt staticlib magic_string` builds it, \
-       or MAGIC_STRING_LIB names its folder",
+      "cargo::error={} is not there: `./archive` builds it, or MAGIC_STRING_LIB names its folder",
       archive.display()
     );
   }

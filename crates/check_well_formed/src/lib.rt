@@ -1,4 +1,6 @@
 // Whether lent memory holds a well-formed desk: the check of every exported call, which gives answer 2.
+#![tactic(auto)]
+
 ghost use Rattle.std.specs.Prelude.{◌≡◌, true, ◌+◌, ◌*◌, ◌≤◌, length};
 ghost use Rattle.memory_layout.specs.Layout.{ROW, SOURCE_BYTES};
 ghost use Rattle.utf8.specs.Rfc3629.{utf8 as isText};

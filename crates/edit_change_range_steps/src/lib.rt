@@ -1,4 +1,6 @@
 // The change of a range that `remove`, `reset` and `freeze` share: two cuts, then every chunk of the range is cleared, or frozen.
+#![tactic(auto)]
+
 ghost use Rattle.std.specs.Prelude.{◌≡◌, ◌<◌};
 ghost use Rattle.memory_table.specs.Order.{Linked};
 ghost use Rattle.edit_scratch.specs.Tables.{Roomy};

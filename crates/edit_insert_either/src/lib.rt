@@ -1,4 +1,6 @@
 // A piece more at the front or the back of a chunk's intro or outro, or of the head or the tail.
+#![tactic(auto)]
+
 ghost use Rattle.std.specs.Prelude.{◌+◌};
 ghost use Rattle.memory_used.specs.Above.{Above, Desk};
 ghost use Rattle.edit_insert_side.specs.Calls.{InsertRan, WholeRan};

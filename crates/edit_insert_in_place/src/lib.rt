@@ -1,4 +1,6 @@
 // A piece more at the front or the back of a chunk's intro or outro, or of the head or the tail: on the lent tables themselves.
+#![tactic(auto)]
+
 ghost use Rattle.std.specs.Prelude.{◌≡◌, ◌+◌, ◌*◌, ◌^◌, ◌≤◌, ◌<◌, length, take};
 ghost use Rattle.memory_layout.specs.Layout.{ROW, PIECES_LEN};
 ghost use Rattle.memory_table.specs.Order.{entry_at, count_of};

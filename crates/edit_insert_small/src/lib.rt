@@ -1,4 +1,6 @@
 // A piece more at the front or the back of a chunk's intro or outro, or of the head or the tail: on small tables, for a small desk without room above.
+#![tactic(auto)]
+
 ghost use Rattle.std.specs.Prelude.{◌≡◌, true, false, []};
 ghost use Rattle.memory_layout.specs.Layout.{SMALL_CHUNKS, SMALL_PIECES, SMALL_STORE_LEN};
 ghost use Rattle.model.specs.Limits.{within};

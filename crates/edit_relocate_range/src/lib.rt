@@ -1,5 +1,7 @@
 // The walk that `relocate` and `update_with` share: from the chunk that starts at a position along the list, as long as each next chunk starts where the one before it ends, up to the
 // chunk that ends at another position.
+#![tactic(auto)]
+
 ghost use Rattle.std.specs.Prelude.{◌≡◌, ◌+◌, ◌*◌, ◌≤◌, length};
 ghost use Rattle.memory_layout.specs.Layout.{ROW};
 ghost use Rattle.memory_table.specs.Order.{Linked};

@@ -1,4 +1,6 @@
 // movement.rs: the cuts and the move of `relocate`, on rows with room for three chunks more.
+#![tactic(auto)]
+
 ghost use Rattle.std.specs.Prelude.{[], ◌∷◌};
 ghost use Rattle.memory_table.specs.Order.{Linked};
 ghost use Rattle.edit_scratch.specs.Tables.{Roomy};

@@ -1,4 +1,6 @@
 // movement.rs: `remove`, and the change of a range as a call, which `reset` and `freeze` share.
+#![tactic(auto)]
+
 ghost use Rattle.std.specs.Prelude.{◌<◌};
 ghost use Rattle.model.specs.Call.{remove};
 ghost use Rattle.memory_used.specs.Above.{Above, Desk, Leaves};

@@ -1,4 +1,6 @@
 // reset.rs: `reset`, and its tests, which `freeze` shares.
+#![tactic(auto)]
+
 ghost use Rattle.model.specs.Call.{reset};
 ghost use Rattle.memory_used.specs.Above.{Desk, Leaves};
 ghost use Rattle.edit_reset.specs.Within.{edit_of, Resets};

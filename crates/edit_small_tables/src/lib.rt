@@ -1,5 +1,7 @@
 // Small tables for a small desk without room above: the desk is laid out there, edited, and laid out anew in the lent tables. Clearing and filling them takes a tenth of the
 // time that tables as long as the lent ones take.
+#![tactic(auto)]
+
 ghost use Rattle.std.specs.Prelude.{◌≡◌};
 ghost use Rattle.memory.specs.WellFormed.{Readable};
 ghost use Rattle.memory_used.specs.Above.{Above};

@@ -1,4 +1,6 @@
 // update.rs: `update_with` past its tests, on scratch tables.
+#![tactic(auto)]
+
 ghost use Rattle.std.specs.Prelude.{◌≡◌, ◌<◌};
 ghost use Rattle.model.specs.Call.{update_with, refused_before};
 ghost use Rattle.memory.specs.Layout.{magic_string_of};

@@ -1,4 +1,6 @@
 // update.rs: the steps of `update_with`: two cuts, the walk, and the edit of the first chunk.
+#![tactic(auto)]
+
 ghost use Rattle.std.specs.Prelude.{◌+◌, ◌*◌, ◌≤◌, length};
 ghost use Rattle.memory_layout.specs.Layout.{ROW, STORE_LEN};
 ghost use Rattle.memory_table.specs.Order.{Linked};

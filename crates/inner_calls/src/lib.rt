@@ -227,13 +227,7 @@ fn all(
 }
 
 // Opens a desk in tables of any size: 2 where their sizes are no desk's.
-#[unsafe(no_mangle)]
-pub extern "C" fn inner_open(
-    source: &[u8],
-    chunks: &mut [u32],
-    pieces: &mut [u32],
-    store: &mut [u8],
-) -> Answer
+pub fn inner_open(source: &[u8], chunks: &mut [u32], pieces: &mut [u32], store: &mut [u8]) -> Answer
     ensures { result.number ≡ 0 → WellFormed source.now chunks.new pieces.new store.new }
 {
     if check_well_formed::sized(chunks, pieces, store) {
@@ -252,8 +246,7 @@ pub extern "C" fn inner_open(
 // Makes the calls of a list on a desk in tables of any size: 2 where there is none. A call is six words: its kind (1 to 15, as in crates/replay_read/src/names.rt),
 // its numbers, and where its text lies among the texts. The value is how many calls were made; `numbers` has their numbers,
 // and from bit 8 on their cuts.
-#[unsafe(no_mangle)]
-pub extern "C" fn inner_paper(
+pub fn inner_paper(
     source: &[u8],
     chunks: &mut [u32],
     pieces: &mut [u32],

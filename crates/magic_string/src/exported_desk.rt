@@ -6,8 +6,7 @@ ghost use Rattle.memory.specs.Calls.{Checked};
 use memory::Answer;
 use memory_layout::numbers;
 
-#[unsafe(no_mangle)]
-pub extern "C" fn magic_string_open(
+pub fn magic_string_open(
     source: &[u8],
     chunks: &mut [u32],
     pieces: &mut [u32],
@@ -20,8 +19,7 @@ pub extern "C" fn magic_string_open(
     Answer { number, value: 0 }
 }
 
-#[unsafe(no_mangle)]
-pub extern "C" fn magic_string_well_formed(
+pub fn magic_string_well_formed(
     source: &[u8],
     chunks: &[u32],
     pieces: &[u32],

@@ -7,8 +7,7 @@ use check_well_formed::Seen;
 use memory::Answer;
 use memory_layout::numbers;
 
-#[unsafe(no_mangle)]
-pub extern "C" fn magic_string_remove(
+pub fn magic_string_remove(
     source: &[u8],
     chunks: &mut [u32],
     pieces: &mut [u32],
@@ -32,8 +31,7 @@ pub extern "C" fn magic_string_remove(
     }
 }
 
-#[unsafe(no_mangle)]
-pub extern "C" fn magic_string_update_with(
+pub fn magic_string_update_with(
     source: &[u8],
     chunks: &mut [u32],
     pieces: &mut [u32],
@@ -62,8 +60,7 @@ pub extern "C" fn magic_string_update_with(
     }
 }
 
-#[unsafe(no_mangle)]
-pub extern "C" fn magic_string_reset(
+pub fn magic_string_reset(
     source: &[u8],
     chunks: &mut [u32],
     pieces: &mut [u32],
@@ -88,8 +85,7 @@ pub extern "C" fn magic_string_reset(
 }
 
 // Left of the position or right, at the front of the piece list or the back: any value but 0 is yes.
-#[unsafe(no_mangle)]
-pub extern "C" fn magic_string_insert(
+pub fn magic_string_insert(
     source: &[u8],
     chunks: &mut [u32],
     pieces: &mut [u32],
@@ -119,8 +115,7 @@ pub extern "C" fn magic_string_insert(
     }
 }
 
-#[unsafe(no_mangle)]
-pub extern "C" fn magic_string_append(
+pub fn magic_string_append(
     source: &[u8],
     chunks: &mut [u32],
     pieces: &mut [u32],
@@ -143,8 +138,7 @@ pub extern "C" fn magic_string_append(
     }
 }
 
-#[unsafe(no_mangle)]
-pub extern "C" fn magic_string_prepend(
+pub fn magic_string_prepend(
     source: &[u8],
     chunks: &mut [u32],
     pieces: &mut [u32],
@@ -167,8 +161,7 @@ pub extern "C" fn magic_string_prepend(
     }
 }
 
-#[unsafe(no_mangle)]
-pub extern "C" fn magic_string_relocate(
+pub fn magic_string_relocate(
     source: &[u8],
     chunks: &mut [u32],
     pieces: &mut [u32],
@@ -193,8 +186,7 @@ pub extern "C" fn magic_string_relocate(
     }
 }
 
-#[unsafe(no_mangle)]
-pub extern "C" fn magic_string_trim(
+pub fn magic_string_trim(
     source: &[u8],
     chunks: &mut [u32],
     pieces: &mut [u32],
@@ -217,8 +209,7 @@ pub extern "C" fn magic_string_trim(
     }
 }
 
-#[unsafe(no_mangle)]
-pub extern "C" fn magic_string_trim_start(
+pub fn magic_string_trim_start(
     source: &[u8],
     chunks: &mut [u32],
     pieces: &mut [u32],
@@ -241,8 +232,7 @@ pub extern "C" fn magic_string_trim_start(
     }
 }
 
-#[unsafe(no_mangle)]
-pub extern "C" fn magic_string_trim_end(
+pub fn magic_string_trim_end(
     source: &[u8],
     chunks: &mut [u32],
     pieces: &mut [u32],
@@ -265,8 +255,7 @@ pub extern "C" fn magic_string_trim_end(
     }
 }
 
-#[unsafe(no_mangle)]
-pub extern "C" fn magic_string_trim_lines(
+pub fn magic_string_trim_lines(
     source: &[u8],
     chunks: &mut [u32],
     pieces: &mut [u32],
@@ -288,8 +277,7 @@ pub extern "C" fn magic_string_trim_lines(
     }
 }
 
-#[unsafe(no_mangle)]
-pub extern "C" fn magic_string_indent_with(
+pub fn magic_string_indent_with(
     source: &[u8],
     chunks: &mut [u32],
     pieces: &mut [u32],

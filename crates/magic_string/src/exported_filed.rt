@@ -3,8 +3,7 @@ ghost use Rattle.filed_record.specs.Promises.{CallFiled, CallWithdrawn, CallFroz
 
 use memory::Answer;
 
-#[unsafe(no_mangle)]
-pub extern "C" fn magic_string_file(
+pub fn magic_string_file(
     source: &[u8],
     chunks: &mut [u32],
     pieces: &mut [u32],
@@ -19,8 +18,7 @@ pub extern "C" fn magic_string_file(
     filed_checked::file(source, chunks, pieces, store, words, bytes, call)
 }
 
-#[unsafe(no_mangle)]
-pub extern "C" fn magic_string_withdraw(
+pub fn magic_string_withdraw(
     source: &[u8],
     chunks: &mut [u32],
     pieces: &mut [u32],
@@ -35,8 +33,7 @@ pub extern "C" fn magic_string_withdraw(
     filed_checked::withdraw(source, chunks, pieces, store, words, bytes, k)
 }
 
-#[unsafe(no_mangle)]
-pub extern "C" fn magic_string_freeze(
+pub fn magic_string_freeze(
     source: &[u8],
     chunks: &mut [u32],
     pieces: &mut [u32],

@@ -3,8 +3,7 @@ ghost use Rattle.join_lists.specs.Promises.{Joined};
 
 use memory::Answer;
 
-#[unsafe(no_mangle)]
-pub extern "C" fn magic_string_join(
+pub fn magic_string_join(
     source: &[u8],
     chunks: &mut [u32],
     pieces: &mut [u32],

@@ -3,8 +3,7 @@ ghost use Rattle.filed_record.specs.Marks.{CallMarked, EntryRead, MarkedEntryRea
 
 use memory::Answer;
 
-#[unsafe(no_mangle)]
-pub extern "C" fn magic_string_set_marks(
+pub fn magic_string_set_marks(
     source: &[u8],
     words: &[u32],
     bytes: &mut [u8],
@@ -16,8 +15,7 @@ pub extern "C" fn magic_string_set_marks(
     filed_marks::set_marks(source, words, bytes, k, marks)
 }
 
-#[unsafe(no_mangle)]
-pub extern "C" fn magic_string_entry(
+pub fn magic_string_entry(
     source: &[u8],
     words: &[u32],
     bytes: &[u8],
@@ -29,8 +27,7 @@ pub extern "C" fn magic_string_entry(
     filed_marks::reading::show_entry(source, words, bytes, k, false, out)
 }
 
-#[unsafe(no_mangle)]
-pub extern "C" fn magic_string_marked_entry(
+pub fn magic_string_marked_entry(
     source: &[u8],
     words: &[u32],
     bytes: &[u8],
@@ -42,8 +39,7 @@ pub extern "C" fn magic_string_marked_entry(
     filed_marks::reading::show_entry(source, words, bytes, k, true, out)
 }
 
-#[unsafe(no_mangle)]
-pub extern "C" fn magic_string_total(source: &[u8], words: &[u32], bytes: &[u8]) -> Answer
+pub fn magic_string_total(source: &[u8], words: &[u32], bytes: &[u8]) -> Answer
     ensures { TotalRead source.now words.now bytes.now result }
 {
     filed_marks::total(source, words, bytes)

@@ -10,8 +10,7 @@ ghost use Rattle.memory.specs.Calls.{flag};
 use memory::Answer;
 use memory_layout::numbers;
 
-#[unsafe(no_mangle)]
-pub extern "C" fn magic_string_to_string<'a>(
+pub fn magic_string_to_string<'a>(
     source: &'a [u8],
     chunks: &[u32],
     pieces: &[u32],
@@ -30,8 +29,7 @@ pub extern "C" fn magic_string_to_string<'a>(
     }
 }
 
-#[unsafe(no_mangle)]
-pub extern "C" fn magic_string_slice<'a>(
+pub fn magic_string_slice<'a>(
     source: &'a [u8],
     chunks: &[u32],
     pieces: &[u32],
@@ -54,8 +52,7 @@ pub extern "C" fn magic_string_slice<'a>(
     }
 }
 
-#[unsafe(no_mangle)]
-pub extern "C" fn magic_string_last_line<'a>(
+pub fn magic_string_last_line<'a>(
     source: &'a [u8],
     chunks: &[u32],
     pieces: &[u32],
@@ -74,8 +71,7 @@ pub extern "C" fn magic_string_last_line<'a>(
     }
 }
 
-#[unsafe(no_mangle)]
-pub extern "C" fn magic_string_get_indent_string<'a>(
+pub fn magic_string_get_indent_string<'a>(
     source: &'a [u8],
     chunks: &[u32],
     pieces: &[u32],
@@ -94,8 +90,7 @@ pub extern "C" fn magic_string_get_indent_string<'a>(
     }
 }
 
-#[unsafe(no_mangle)]
-pub extern "C" fn magic_string_len<'a>(
+pub fn magic_string_len<'a>(
     source: &'a [u8],
     chunks: &[u32],
     pieces: &[u32],
@@ -112,8 +107,7 @@ pub extern "C" fn magic_string_len<'a>(
     }
 }
 
-#[unsafe(no_mangle)]
-pub extern "C" fn magic_string_len_utf16<'a>(
+pub fn magic_string_len_utf16<'a>(
     source: &'a [u8],
     chunks: &[u32],
     pieces: &[u32],
@@ -130,8 +124,7 @@ pub extern "C" fn magic_string_len_utf16<'a>(
     }
 }
 
-#[unsafe(no_mangle)]
-pub extern "C" fn magic_string_line_count<'a>(
+pub fn magic_string_line_count<'a>(
     source: &'a [u8],
     chunks: &[u32],
     pieces: &[u32],
@@ -148,8 +141,7 @@ pub extern "C" fn magic_string_line_count<'a>(
     }
 }
 
-#[unsafe(no_mangle)]
-pub extern "C" fn magic_string_is_empty<'a>(
+pub fn magic_string_is_empty<'a>(
     source: &'a [u8],
     chunks: &[u32],
     pieces: &[u32],
@@ -166,8 +158,7 @@ pub extern "C" fn magic_string_is_empty<'a>(
     }
 }
 
-#[unsafe(no_mangle)]
-pub extern "C" fn magic_string_has_changed<'a>(
+pub fn magic_string_has_changed<'a>(
     source: &'a [u8],
     chunks: &[u32],
     pieces: &[u32],
@@ -184,8 +175,7 @@ pub extern "C" fn magic_string_has_changed<'a>(
     }
 }
 
-#[unsafe(no_mangle)]
-pub extern "C" fn magic_string_is_range_within_edited_chunk<'a>(
+pub fn magic_string_is_range_within_edited_chunk<'a>(
     source: &'a [u8],
     chunks: &[u32],
     pieces: &[u32],
@@ -206,8 +196,7 @@ pub extern "C" fn magic_string_is_range_within_edited_chunk<'a>(
     }
 }
 
-#[unsafe(no_mangle)]
-pub extern "C" fn magic_string_last_char<'a>(
+pub fn magic_string_last_char<'a>(
     source: &'a [u8],
     chunks: &[u32],
     pieces: &[u32],

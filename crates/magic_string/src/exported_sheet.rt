@@ -4,8 +4,7 @@ ghost use Rattle.sheet_run.specs.SheetRan.{SheetRan};
 use memory::Answer;
 use memory_layout::numbers;
 
-#[unsafe(no_mangle)]
-pub extern "C" fn magic_string_run_sheet(
+pub fn magic_string_run_sheet(
     sheet: &[u8],
     chunks: &mut [u32],
     pieces: &mut [u32],

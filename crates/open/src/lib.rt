@@ -1,4 +1,6 @@
 // Opening a desk: `MagicString::new` on lent memory.
+#![tactic(auto)]
+
 ghost use Rattle.std.specs.Prelude.{◌≤◌, length, ◌≡◌};
 ghost use Rattle.memory_layout.specs.Layout.{CHUNKS_LEAST};
 ghost use Rattle.memory.specs.WellFormed.{Sized};

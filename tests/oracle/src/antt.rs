@@ -25,7 +25,7 @@ pub fn desk(desk: &DeskData) -> String {
 fn chunk(chunk: &ChunkData) -> String {
   let replacement = chunk.edited_content.as_ref().map(|content| text(content.as_bytes()));
   format!(
-    "chunk-of {} {} {} (record {{ intro = {}; outro = {}; edited-content = {} }})",
+    "chunk_from {} {} {} (record {{ intro = {}; outro = {}; edited_content = {} }})",
     chunk.start,
     chunk.end,
     chunk.frozen,
@@ -60,14 +60,14 @@ const LONG: u32 = 100_000;
 fn call_term(call: &Call) -> String {
   match call {
     Call::Open { source } => format!("«open» {}", text(source)),
-    _ => format!("on-desk ({})", desk_call_term(call)),
+    _ => format!("on_desk ({})", desk_call_term(call)),
   }
 }
 
 fn desk_call_term(call: &Call) -> String {
   use Call::*;
   let name = call.to_string();
-  let name = name.split(' ').next().unwrap_or_default().replace('_', "-");
+  let name = name.split(' ').next().unwrap_or_default();
   match call {
     Remove { start, end } | Reset { start, end } | Freeze { start, end } => {
       format!("change ({name} {start} {end})")

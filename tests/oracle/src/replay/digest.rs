@@ -1,4 +1,4 @@
-//! A digest of a desk: `digest-of` of crates/replay/specs/Digest.antt.
+//! A digest of a desk: `digest_of` of crates/replay_digest/specs/Digest.antt.
 
 use desk_data::DeskData;
 

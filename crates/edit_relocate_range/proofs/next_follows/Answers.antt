@@ -1,0 +1,13 @@
+use mathlib.Core.Path.{ap}
+use borrow.Author.Tests.{eq-eqb, ne_eqb}
+use Rattle.memory_table.specs.declared.Row.{Row}
+use Rattle.edit_relocate_range.specs.Range.{goes_on}
+use Rattle.edit_relocate_range.proofs.next_follows.Goals as goal
+
+pub returns-then-c-eq-LIST_END : goal.returns-then-c-eq-LIST_END
+unfolding goes_on
+returns-then-c-eq-LIST_END c = rw (eq-eqb _ _ c.if-c-eq-LIST_END.true)
+
+pub returns : goal.returns
+unfolding goes_on
+returns c = rw (ne_eqb _ _ c.if-c-eq-LIST_END.false, ap (λ (r : Row). r.start) c.get_row-d.ensures)
