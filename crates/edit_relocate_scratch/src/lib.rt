@@ -1,4 +1,6 @@
 // `relocate` past its tests, on scratch tables.
+#![tactic(auto)]
+
 ghost use Rattle.model.specs.Call.{relocate};
 ghost use Rattle.memory.specs.WellFormed.{WellFormed};
 ghost use Rattle.memory_used.specs.Above.{Leaves};

@@ -1,5 +1,6 @@
 use mathlib.Core.Path.{refl, sym, ap, ◌∙◌, subst}
 use denote.Enum.Declared.{tag_of}
+use borrow.Enum.Refused.{opened}
 use Rattle.memory_table.specs.declared.Row.{Row}
 use Rattle.edit_relocate_range.specs.contracts.Range.{the_type}
 use Rattle.edit_relocate_range.specs.Range.{RangeIn}
@@ -7,7 +8,7 @@ use Rattle.edit_relocate_steps.proofs.Moving.{moved_else, moved_row, moved_there
 use Rattle.edit_relocate_steps.proofs.move_range.Goals as goal
 
 pub returns-in_default : goal.returns-in_default
-returns-in_default c = moved_else c.args.a c.args.b c.args.to c.args.t.now (tag_of the_type) (λ f l. refl) c.find_range.result c.find_range.ensures c.in_default.in_default-own.keys2
+returns-in_default c = moved_else c.args.a c.args.b c.args.to c.args.t.now (tag_of the_type) (λ f l. refl) c.find_range.result c.find_range.ensures (opened c.in_default.in_default-own.keys2)
 
 pub get_row-l-requires : goal.get_row-l-requires
 get_row-l-requires c =

@@ -30,7 +30,7 @@ pub shape_of-t : goal.shape_of-t
 shape_of-t c = c.update_steps-steps.auto.t ∙ c.load.auto.t
 
 pub shape_of-p : goal.shape_of-p
-shape_of-p c = c.load.kept.1.1.1.1.0
+shape_of-p c = c.load.auto.p
 
 pub returns : goal.returns
 returns c =
