@@ -10,10 +10,8 @@ part-k-requires c = c.requires.row_ready
 
 pub trim_run-n-requires : goal.trim_run-n-requires
 trim_run-n-requires c =
-    let e = entry_of c.args.r in
-    let b = c.part-k.ensures.stops_near c.if-k-eq0.true in
-    asks_at c.args.pattern c.args.p.now c.args.s.now c.args.top c.near-q.ensures
-    (near_asks c.args.front c.args.pattern c.args.source.now c.args.p.now c.args.s.now e c.args.top c.args.byte c.requires.row_ready c.requires.row_fits b) b
+    let e = entry_of c.args.r in let b = c.part-k.ensures.stops_near c.if-k-eq0.true in let asked = asks_at c.args.pattern c.args.p.now c.args.s.now c.args.top c.near-q.ensures
+    (near_asks c.args.front c.args.pattern c.args.source.now c.args.p.now c.args.s.now e c.args.top c.args.byte c.requires.row_ready c.requires.row_fits b) b in record { run_ready = asked.0; row_room = asked.1.0; n_value = asked.1.1 }
 
 pub returns-then-k-eq0 : goal.returns-then-k-eq0
 returns-then-k-eq0 c =
@@ -41,11 +39,9 @@ returns-then-k-eq1 c =
 
 pub trim_run-f-requires : goal.trim_run-f-requires
 trim_run-f-requires c =
-    let e = entry_of c.args.r in
-    let b = far_stays c.args.front c.args.pattern c.args.source.now c.args.p.now c.args.s.now e c.args.top c.args.byte c.requires.row_ready c.requires.row_fits c.part-k.result
-    c.part-k.ensures c.if-k-eq0.false c.if-k-eq1.false c.requires.r_value in
-    asks_at c.args.pattern c.args.p.now c.args.s.now c.args.top c.far-q.ensures
-    (far_asks c.args.front c.args.pattern c.args.source.now c.args.p.now c.args.s.now e c.args.top c.args.byte c.requires.row_ready c.requires.row_fits b) b
+    let e = entry_of c.args.r in let b = far_stays c.args.front c.args.pattern c.args.source.now c.args.p.now c.args.s.now e c.args.top c.args.byte c.requires.row_ready c.requires.row_fits c.part-k.result
+    c.part-k.ensures c.if-k-eq0.false c.if-k-eq1.false c.requires.r_value in let asked = asks_at c.args.pattern c.args.p.now c.args.s.now c.args.top c.far-q.ensures
+    (far_asks c.args.front c.args.pattern c.args.source.now c.args.p.now c.args.s.now e c.args.top c.args.byte c.requires.row_ready c.requires.row_fits b) b in record { run_ready = asked.0; row_room = asked.1.0; n_value = asked.1.1 }
 
 pub cleared_text-requires : goal.cleared_text-requires
 cleared_text-requires c = c.requires.row_ready.span.ordered
