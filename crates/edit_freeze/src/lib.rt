@@ -1,4 +1,6 @@
 // Document 02, L8: `freeze`.
+#![tactic(auto)]
+
 ghost use Rattle.model.specs.Call.{freeze};
 ghost use Rattle.memory_used.specs.Above.{Desk, Leaves};
 

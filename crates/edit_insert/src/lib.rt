@@ -1,4 +1,6 @@
 // The insertions as calls: the tests of the text and the position, then the piece.
+#![tactic(auto)]
+
 ghost use Rattle.model.specs.Call.{insert};
 ghost use Rattle.memory_used.specs.Above.{Desk, Leaves};
 ghost use Rattle.edit_insert.specs.Addition.{addition};

@@ -1,4 +1,6 @@
 // update.rs: `update_with`, with `keep_original` false, on lent memory.
+#![tactic(auto)]
+
 ghost use Rattle.std.specs.Prelude.{◌≡◌, ◌<◌};
 ghost use Rattle.model.specs.Call.{update_with, refused_before};
 ghost use Rattle.memory.specs.Layout.{magic_string_of};

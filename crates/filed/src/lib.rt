@@ -1,4 +1,6 @@
 // Calls filed and withdrawn, on a desk and a record in lent memory (document 02, L5 and L8).
+#![tactic(auto)]
+
 ghost use Rattle.std.specs.Prelude.{◌≡◌, length, take, ◌≤◌};
 ghost use Rattle.memory_layout.specs.Layout.{RECORD_ANSWERS, RECORD_BYTES_LEN};
 ghost use Rattle.model_filed.specs.Filed.{MOST_CALLS};

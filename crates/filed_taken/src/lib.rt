@@ -1,4 +1,6 @@
 // The check of answer 2 for a record beside a desk: its calls, and where it has some the desk that it keeps (document 02, L5 and L8).
+#![tactic(auto)]
+
 ghost use Rattle.std.specs.Prelude.{◌≡◌, length};
 ghost use Rattle.memory_layout.specs.Layout.{RECORD_WORDS_LEN, RECORD_BYTES_LEN};
 ghost use Rattle.memory.specs.WellFormed.{Taken};

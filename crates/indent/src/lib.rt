@@ -1,4 +1,6 @@
 // indent.rs: `indent_with`.
+#![tactic(auto)]
+
 ghost use Rattle.std.specs.Prelude.{◌≡◌, true, [], ◌∷◌};
 ghost use Rattle.std.proofs.Math.Option.{none, some};
 ghost use Rattle.utf8.specs.Rfc3629.{utf8, between};

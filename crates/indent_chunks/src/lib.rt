@@ -1,5 +1,7 @@
 // A chunk on the walk of `indent_with`, on scratch tables: a source chunk is cut at its line starts, and each part that begins at one gets the indentor as its
 // first piece; a replacement is written anew behind the texts in use.
+#![tactic(auto)]
+
 ghost use Rattle.std.specs.Prelude.{◌≡◌};
 ghost use Rattle.memory_layout.specs.Layout.{NONE};
 ghost use Rattle.memory_table.specs.Order.{entry_at};

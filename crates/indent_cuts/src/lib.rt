@@ -1,4 +1,6 @@
 // A chunk cut at its line starts, on scratch tables: each part that begins at one gets the indentor as its first piece.
+#![tactic(auto)]
+
 ghost use Rattle.std.specs.Prelude.{◌≡◌, ◌≤◌, leb, length};
 ghost use Rattle.memory_layout.specs.Layout.{ROW, CHUNKS};
 ghost use Rattle.memory_table.specs.Order.{Linked, count_of};

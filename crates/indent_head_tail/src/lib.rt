@@ -1,4 +1,6 @@
 // indent.rs on a piece of the head or the tail, written behind the texts in use with the indentor put in; and the indentor laid there.
+#![tactic(auto)]
+
 ghost use Rattle.std.specs.Prelude.{◌≡◌, true};
 ghost use Rattle.utf8.specs.Rfc3629.{utf8 as isText};
 ghost use Rattle.model.specs.Indent.{indent_frag};

@@ -1,4 +1,6 @@
 // A chunk with a replacement, which is written anew behind the texts in use.
+#![tactic(auto)]
+
 ghost use Rattle.std.specs.Prelude.{◌≡◌, true, false, ◌+◌, ◌≤◌, ◌<◌, length};
 ghost use Rattle.utf8.specs.Rfc3629.{utf8 as isText};
 ghost use Rattle.memory_table.specs.Order.{entry_of};

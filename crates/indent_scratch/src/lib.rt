@@ -1,4 +1,6 @@
 // indent.rs: `indent_with` past its tests, by an indentor, on scratch tables.
+#![tactic(auto)]
+
 ghost use Rattle.std.specs.Prelude.{◌≡◌, ◌-◌, ◌≤◌, length};
 ghost use Rattle.memory_layout.specs.Layout.{ROW};
 ghost use Rattle.memory_table.specs.Order.{count_of};

@@ -1,4 +1,6 @@
 // A chunk without a replacement and with a line start: the first at its own start, or inside, and the cuts behind it.
+#![tactic(auto)]
+
 ghost use Rattle.std.specs.Prelude.{false, ◌+◌};
 ghost use Rattle.memory_table.specs.Order.{entry_at};
 ghost use Rattle.model.specs.Indent.{then_start};

@@ -1,4 +1,6 @@
 // indent.rs: the steps of `indent_with` on scratch tables: the head, the chunks, the tail, text by text. One state lives through the walk, and each turn is lent it.
+#![tactic(auto)]
+
 ghost use Rattle.std.specs.Prelude.{true, ◌<◌};
 ghost use Rattle.indent_turns.specs.Steps.{StepsReady, IndentSteps};
 ghost use Rattle.indent_turns.specs.Walk.{Walking, TurnReady, Turned};

@@ -2,6 +2,8 @@
 // The walk is one pass and not an `insert` at each line start: an insertion looks for its chunk from the list's front, so that as many as there are lines would
 // take time by the square. The walk stands at the chunk already, and takes the insertion's two steps on rows there, the cut and the piece. The indentor is laid
 // in the store once and every piece names it, until the rebuild at the end copies it for each.
+#![tactic(auto)]
+
 ghost use Rattle.std.specs.Prelude.{◌≡◌, true, ◌+◌, ◌≤◌, ◌<◌, length};
 ghost use Rattle.memory_layout.specs.Layout.{ROW};
 ghost use Rattle.memory_table.specs.Table.{row_at};

@@ -1,4 +1,6 @@
 // Two lists of records joined on a desk: both are judged, every premise of the any-order rule is tested, then the calls of the first and of the second are made (document 02, L7).
+#![tactic(auto)]
+
 pub mod run;
 
 ghost use Rattle.std.specs.Prelude.{◌≡◌};

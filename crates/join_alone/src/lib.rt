@@ -1,4 +1,6 @@
 // Each call of a list of records, tried alone on a desk that stays as it is (document 02, L7).
+#![tactic(auto)]
+
 ghost use Rattle.std.specs.Prelude.{◌≡◌, cond, ◌<◌, length};
 ghost use Rattle.memory.specs.WellFormed.{Lengths, WellFormed};
 ghost use Rattle.join_alone.specs.Alone.{Accepted, TriedAt, AllAlone};

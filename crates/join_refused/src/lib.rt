@@ -1,4 +1,6 @@
 // The premises of the any-order rule on two lists and a desk, tested in the order of their numbers (document 02, L7).
+#![tactic(auto)]
+
 ghost use Rattle.memory.specs.WellFormed.{WellFormed};
 ghost use Rattle.join_refused.specs.Refused.{BothAlone, RefusedWith};
 

@@ -1,4 +1,6 @@
 // The space that two lists of records are reckoned to need, all of it (document 02, L7).
+#![tactic(auto)]
+
 ghost use Rattle.memory.specs.WellFormed.{Sized, Readable};
 ghost use Rattle.join_space.specs.Space.{NewPieces, NewBytes, Needed, Reckoned, Spaced};
 

@@ -1,4 +1,6 @@
 // A sheet run on lent tables: the whole sheet is judged, its source opened, then one core call made per record (document 02, L1).
+#![tactic(auto)]
+
 pub mod core_call;
 pub mod records;
 

@@ -1,4 +1,6 @@
 // trim.rs: `trim`, `trim_start`, `trim_end` and `trim_lines`. Each is told what the desk uses, and hands back what the desk that it leaves uses.
+#![tactic(auto)]
+
 ghost use Rattle.std.specs.Prelude.{◌≡◌, true};
 ghost use Rattle.model.specs.Call.{trim, trim_start, trim_end, trim_lines};
 ghost use Rattle.memory_table.specs.Order.{Linked};

@@ -1,4 +1,6 @@
 // trim.rs at one chunk: what is blank is cleared; at the first chunk that is not, what is left is written behind the rows and bytes that are in use.
+#![tactic(auto)]
+
 ghost use Rattle.std.specs.Prelude.{◌≡◌, true, false, ◌+◌, ◌≤◌, length};
 ghost use Rattle.memory_layout.specs.Layout.{TRIM_STORE_LEN};
 ghost use Rattle.memory_texts.specs.Over.{over};

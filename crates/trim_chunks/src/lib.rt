@@ -1,4 +1,6 @@
 // trim.rs along the chunk list: the loops of `trim_start_aborted` and `trim_end_aborted`.
+#![tactic(auto)]
+
 ghost use Rattle.std.specs.Prelude.{◌≡◌};
 ghost use Rattle.memory_table.specs.Ring.{Each};
 ghost use Rattle.memory_table.specs.Order.{Linked, entry_at, order};

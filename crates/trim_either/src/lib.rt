@@ -1,4 +1,6 @@
 // What the trims of trim.rs share as calls, past their test of the pattern.
+#![tactic(auto)]
+
 ghost use Rattle.memory_used.specs.Above.{Above, Desk};
 ghost use Rattle.trim_scratch.specs.Call.{TrimRan};
 

@@ -1,4 +1,6 @@
 // The trims past their test of the pattern, on the lent tables themselves: new rows and bytes stand above all that the desk uses.
+#![tactic(auto)]
+
 ghost use Rattle.std.specs.Prelude.{length};
 ghost use Rattle.memory.specs.WellFormed.{WellFormed};
 ghost use Rattle.memory_used.specs.Above.{Above};

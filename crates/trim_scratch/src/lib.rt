@@ -1,4 +1,6 @@
 // The trims past their test of the pattern, on scratch tables: new rows and bytes stand behind the loaded ones. What the desk uses is counted where it is written back.
+#![tactic(auto)]
+
 ghost use Rattle.memory.specs.WellFormed.{WellFormed};
 ghost use Rattle.memory_used.specs.Above.{Above};
 ghost use Rattle.edit_scratch.specs.Tables.{Scratch};

@@ -1,4 +1,6 @@
 // trim.rs on lent tables: `trim_start`, `trim_end`, or one after the other. New rows stand from row top on and a new text from `byte` on, behind all that the desk uses.
+#![tactic(auto)]
+
 ghost use Rattle.trim_steps.specs.Side.{desk_pieces, SideReady, SideTrimmed, OwnReady, OwnTrimmed};
 ghost use Rattle.trim_steps.specs.Both.{SidesReady, SidesTrimmed};
 
