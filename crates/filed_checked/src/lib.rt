@@ -1,4 +1,6 @@
 // Filing, withdrawing and freezing on any memory: 2 where it holds no well-formed desk or no well-formed record, then the call (document 02, L5 and L8).
+#![tactic(auto)]
+
 ghost use Rattle.std.specs.Prelude.{◌≡◌};
 ghost use Rattle.filed_record.specs.Promises.{CallFiled, CallWithdrawn, CallFrozen};
 

@@ -1,4 +1,6 @@
 // The examiner's column, on any memory: marks written, entries read, and the total (document 02, L9).
+#![tactic(auto)]
+
 ghost use Rattle.std.specs.Prelude.{◌≡◌, ◌≤◌, length};
 ghost use Rattle.memory_layout.specs.Layout.{RECORD_CALLS, RECORD_BYTES_LEN};
 ghost use Rattle.filed_record.specs.Marks.{CallMarked, TotalRead};

@@ -1,5 +1,7 @@
 // For tests alone: the inner functions behind two exported ones, on tables of any size. A paper's calls are made one after the other behind one check, and
 // what the desk uses is handed from each to the next.
+#![tactic(auto)]
+
 ghost use Rattle.std.specs.Prelude.{◌+◌, ◌*◌, ◌≤◌, length, ◌≡◌};
 ghost use Rattle.memory.specs.WellFormed.{WellFormed};
 ghost use Rattle.memory_used.specs.Above.{Desk};

@@ -1,4 +1,6 @@
 // Joining on any memory: 2 where it holds no well-formed desk, then the call (document 02, L7).
+#![tactic(auto)]
+
 ghost use Rattle.join_lists.specs.Promises.{Joined};
 
 use check_well_formed::Seen;

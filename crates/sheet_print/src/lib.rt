@@ -1,4 +1,6 @@
 // What the sheet program prints, written into a lent buffer (document 02, L1).
+#![tactic(auto)]
+
 ghost use Rattle.std.specs.Prelude.{◌≤◌, ◌≡◌, length};
 ghost use Rattle.memory.specs.WellFormed.{Full};
 ghost use Rattle.model_sheet.specs.Sheet.{MOST_RECORDS, MOST_PRINTED};
