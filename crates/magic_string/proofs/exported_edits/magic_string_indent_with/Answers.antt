@@ -1,0 +1,17 @@
+use mathlib.Core.Path.{ap}
+use mathlib.Core.Bool.{Bool}
+use Rattle.model.specs.Call.{indent_with}
+use Rattle.memory.specs.Calls.{indentor_of}
+use Rattle.magic_string.proofs.Exported.{seen_none, seen_taken, seen_desk, edited_yes, edited_no, edited_as}
+use Rattle.magic_string.proofs.exported_edits.magic_string_indent_with.Goals as goal
+
+pub returns-in_default : goal.returns-in_default
+returns-in_default c = edited_no (seen_none c.args.source.now c.args.chunks.now c.args.pieces.now c.args.store.now c.in_default.is c.taken.ensures)
+
+pub indent_with-o-requires : goal.indent_with-o-requires
+indent_with-o-requires c = seen_desk c.args.source.now c.args.chunks.now c.args.pieces.now c.args.store.now c.in-Desk.used c.in-Desk.is c.taken.ensures
+
+pub returns : goal.returns
+returns c =
+    edited_as (ap (λ (o : Bool). indent_with (indentor_of o c.args.indentor.now) c.args.exclude.now) c.flag-given.ensures)
+    (edited_yes (seen_taken c.args.source.now c.args.chunks.now c.args.pieces.now c.args.store.now c.in-Desk.used c.in-Desk.is c.taken.ensures) c.indent_with-o.ensures.ran)
