@@ -3,12 +3,15 @@
 // number, its value, the bytes that it wrote and the tables that it left are compared with the
 // record. A line that differs is printed with its number; at the end, how many calls of each kind
 // and of each number were replayed, and how many of them differ.
+#![tactic(auto)]
+
 mod play;
 mod record;
 
-ghost use Rattle.std.specs.Prelude.{◌≤◌, length};
+ghost use Rattle.std.specs.Prelude.{◌≤◌, length, IfOk};
 
-use libc::STDIN_FILENO;
+use std::io;
+use std::io::{Read, Write};
 
 // Whether a line is empty or a comment.
 fn is_comment(line: &[u8]) -> bool {
@@ -19,7 +22,8 @@ fn is_comment(line: &[u8]) -> bool {
 }
 
 // One line, with the first n bytes of `source` in use. Answers how many are in use behind it.
-fn line(
+fn line<W: Write>(
+    out: &mut W,
     s: &[u8],
     place: u32,
     source: &mut [u8],
@@ -28,32 +32,34 @@ fn line(
     pieces: &mut [u32],
     store: &mut [u8],
     tally: &mut [u32],
-) -> usize
+) -> io::Result<usize>
     requires { n ≤ length source.old }
-    ensures { result ≤ length source.new }
+    ensures { IfOk result (λ m. m ≤ length source.new) }
 {
     if is_comment(s) {
-        return n;
+        return Ok(n);
     }
     let t = record::record(s, source, n, chunks, pieces, store);
-    replay_tell::tell(place, t, tally);
-    t.source
+    replay_tell::tell(out, place, t, tally)?;
+    Ok(t.source)
 }
 
-fn lines(
+fn lines<W: Write>(
+    out: &mut W,
     input: &[u8],
     source: &mut [u8],
     chunks: &mut [u32],
     pieces: &mut [u32],
     store: &mut [u8],
     tally: &mut [u32],
-) {
+) -> io::Result<()> {
     let mut at: usize = 0;
     let mut place: u32 = 1;
     let mut n: usize = 0;
     while at < input.len() {
         let end = replay_read::find(input, at, b'\n');
         n = line(
+            out,
             &input[at..end],
             place,
             source,
@@ -62,17 +68,18 @@ fn lines(
             pieces,
             store,
             tally,
-        );
+        )?;
         if end == input.len() {
-            return;
+            return Ok(());
         }
         at = end + 1;
-        place = std::num::wrapping_add_u32(place, 1);
+        place = place.wrapping_add(1);
     }
+    Ok(())
 }
 
 // Tables, a source and counts, all zeros at first.
-fn replay(input: &[u8], tally: &mut [u32]) {
+fn replay<W: Write>(out: &mut W, input: &[u8], tally: &mut [u32]) -> io::Result<()> {
     let most = 20480usize;
     let words = memory_layout::CHUNKS_LEN;
     let rows = memory_layout::PIECES_LEN;
@@ -82,33 +89,34 @@ fn replay(input: &[u8], tally: &mut [u32]) {
     let mut pieces = [0u32; memory_layout::PIECES_LEN];
     let mut store = [0u8; memory_layout::STORE_LEN];
     lines(
+        out,
         input,
         &mut source[..most],
         &mut chunks[..words],
         &mut pieces[..rows],
         &mut store[..size],
         tally,
-    );
+    )
 }
 
-fn replay_and_tell(input: &[u8], tally: &mut [u32]) {
-    replay(input, tally);
-    replay_tell::print_tally(tally);
+fn replay_and_tell<W: Write>(out: &mut W, input: &[u8], tally: &mut [u32]) -> io::Result<()> {
+    replay(out, input, tally)?;
+    replay_tell::print_tally(out, tally)
 }
 
-fn with_tally(input: &[u8]) {
+fn with_tally<W: Write>(out: &mut W, input: &[u8]) -> io::Result<()> {
     let cells = 1024usize;
     let mut tally = [0u32; 1024];
-    replay_and_tell(input, &mut tally[..cells]);
+    replay_and_tell(out, input, &mut tally[..cells])
 }
 
-fn with_input(input: &mut [u8]) {
-    let n = io::read_full(STDIN_FILENO, input);
-    with_tally(&input[..n]);
+fn with_input<R: Read, W: Write>(from: &mut R, out: &mut W, input: &mut [u8]) -> io::Result<()> {
+    let n = read_input::read_full(from, input)?;
+    with_tally(out, &input[..n])
 }
 
-fn main() {
+fn main(rt: HostRuntime) -> io::Result<()> {
     let room = 262144usize;
     let mut input = [0u8; 262144];
-    with_input(&mut input[..room]);
+    with_input(&mut rt.stdin(), &mut rt.stdout(), &mut input[..room])
 }

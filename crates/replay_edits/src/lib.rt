@@ -1,4 +1,6 @@
 // Kinds 0 to 10 of crates/replay_read/src/names.rt: an opening, an edit of a range, an insertion or an update, made through the exported functions.
+#![tactic(auto)]
+
 use magic_string::{exported_desk, exported_edits};
 use memory::Answer;
 use replay_record::Call;

@@ -1,4 +1,6 @@
 // A call judged: whether its answer, its buffer and the tables are as the file says.
+#![tactic(auto)]
+
 ghost use Rattle.std.specs.Prelude.{◌≡◌, true, false};
 ghost use Rattle.memory_counting.specs.Counts.{Decides};
 ghost use Rattle.replay_compare.specs.Compare.{Kept};

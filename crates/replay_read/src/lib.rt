@@ -1,4 +1,6 @@
 // A line of the file, read: its columns, numbers, lists of numbers and texts.
+#![tactic(auto)]
+
 pub mod names;
 
 ghost use Rattle.std.specs.Prelude.{◌≡◌, ◌+◌, ◌≤◌, length};

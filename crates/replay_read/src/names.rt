@@ -1,5 +1,6 @@
 // The kinds of record: their numbers, names and how many numbers each has. 0 to 27 are the exported calls; 28 damages a table.
-use libc::STDOUT_FILENO;
+use std::io;
+use std::io::Write;
 
 // No kind.
 pub const UNKNOWN: u32 = 29;
@@ -24,8 +25,9 @@ pub fn kind_of(s: &[u8]) -> u32 {
     kind
 }
 
-pub fn print_name(kind: u32) {
-    io::write_all(STDOUT_FILENO, crate::column(&NAMES, kind as usize));
+// Writes the name of this kind, or nothing where there is no such kind.
+pub fn print_name<W: Write>(out: &mut W, kind: u32) -> io::Result<()> {
+    out.write_all(crate::column(&NAMES, kind as usize))
 }
 
 // Whether a record of this kind has so many numbers.

@@ -1,4 +1,6 @@
 // What a line of the file says: a call, and what it should answer and leave.
+#![tactic(auto)]
+
 ghost use Rattle.std.specs.Prelude.{◌≤◌, length};
 ghost use Rattle.replay_record.specs.Inside.{Inside};
 

@@ -1,4 +1,6 @@
 // Kinds 11 to 28 of crates/replay_read/src/names.rt: a trim, an indent or a report, made through the exported functions, or one word set.
+#![tactic(auto)]
+
 use magic_string::{exported_desk, exported_edits, exported_reports};
 use memory::Answer;
 use replay_record::Call;

@@ -1,7 +1,10 @@
 // What is printed: each difference with its line, and how many calls of each kind and number were replayed.
+#![tactic(auto)]
+
 ghost use Rattle.std.specs.Prelude.{◌≤◌};
 
-use libc::STDOUT_FILENO;
+use std::io;
+use std::io::Write;
 
 // What came of a line: the record's kind and the number that the file has for it, what the call
 // gave, whether all agrees, and how long the source in use now is.
@@ -20,12 +23,12 @@ const DIFFER: usize = 512;
 
 const MALFORMED: usize = 1000;
 
-fn print(text: &[u8]) {
-    io::write_all(STDOUT_FILENO, text);
+fn print<W: Write>(out: &mut W, text: &[u8]) -> io::Result<()> {
+    out.write_all(text)
 }
 
-fn print_number(n: u32) {
-    io::print_decimal(STDOUT_FILENO, n as u64);
+fn print_number<W: Write>(out: &mut W, n: u32) -> io::Result<()> {
+    write!(out, "{n}")
 }
 
 fn word(t: &[u32], i: usize) -> u32 {
@@ -49,71 +52,70 @@ fn cell(kind: u32, number: u32) -> usize
     kind as usize * 16 + number as usize
 }
 
-fn print_difference(line: u32, t: Told) {
-    print(b"line ");
-    print_number(line);
-    print(b": ");
-    replay_read::names::print_name(t.kind);
-    print_gave(t);
+fn print_difference<W: Write>(out: &mut W, line: u32, t: Told) -> io::Result<()> {
+    print(out, b"line ")?;
+    print_number(out, line)?;
+    print(out, b": ")?;
+    replay_read::names::print_name(out, t.kind)?;
+    print_gave(out, t)
 }
 
-fn print_gave(t: Told) {
-    print(b" gave number ");
-    print_number(t.number);
-    print(b" and value ");
-    print_number(t.value);
-    print(b", or its buffer or tables differ\n");
+fn print_gave<W: Write>(out: &mut W, t: Told) -> io::Result<()> {
+    print(out, b" gave number ")?;
+    print_number(out, t.number)?;
+    print(out, b" and value ")?;
+    print_number(out, t.value)?;
+    print(out, b", or its buffer or tables differ\n")
 }
 
-fn print_malformed(line: u32) {
-    print(b"line ");
-    print_number(line);
-    print(b": no record\n");
+fn print_malformed<W: Write>(out: &mut W, line: u32) -> io::Result<()> {
+    print(out, b"line ")?;
+    print_number(out, line)?;
+    print(out, b": no record\n")
 }
 
 // Counts what came of a line, and prints it if it is not as the file has it.
-pub fn tell(line: u32, t: Told, tally: &mut [u32]) {
+pub fn tell<W: Write>(out: &mut W, line: u32, t: Told, tally: &mut [u32]) -> io::Result<()> {
     if t.kind == replay_read::names::UNKNOWN {
         count(tally, MALFORMED);
-        print_malformed(line);
-        return;
+        return print_malformed(out, line);
     }
     count(tally, cell(t.kind, t.expected));
     if !t.agrees {
         count(tally, DIFFER + cell(t.kind, t.expected));
-        print_difference(line, t);
+        print_difference(out, line, t)?;
     }
+    Ok(())
 }
 
 // One kind and number: how many, and how many of them differ.
-fn print_cell(tally: &[u32], kind: u32, number: u32) {
+fn print_cell<W: Write>(out: &mut W, tally: &[u32], kind: u32, number: u32) -> io::Result<()> {
     let n = word(tally, cell(kind, number));
     if n == 0 {
-        return;
+        return Ok(());
     }
-    print(b" ");
-    print_number(number);
-    print(b":");
-    print_number(n);
-    print_differ(word(tally, DIFFER + cell(kind, number)));
+    print(out, b" ")?;
+    print_number(out, number)?;
+    print(out, b":")?;
+    print_number(out, n)?;
+    print_differ(out, word(tally, DIFFER + cell(kind, number)))
 }
 
-fn print_differ(n: u32) {
+fn print_differ<W: Write>(out: &mut W, n: u32) -> io::Result<()> {
     if n != 0 {
-        print(b" (");
-        print_number(n);
-        print(b" differ)");
+        print(out, b" (")?;
+        print_number(out, n)?;
+        print(out, b" differ)")?;
     }
+    Ok(())
 }
 
-fn print_kind(tally: &[u32], kind: u32) {
-    replay_read::names::print_name(kind);
-    let mut number: u32 = 0;
-    while number < 16 {
-        print_cell(tally, kind, number);
-        number += 1;
+fn print_kind<W: Write>(out: &mut W, tally: &[u32], kind: u32) -> io::Result<()> {
+    replay_read::names::print_name(out, kind)?;
+    for number in 0..16 {
+        print_cell(out, tally, kind, number)?;
     }
-    print(b"\n");
+    print(out, b"\n")
 }
 
 // The calls of every kind with this number, from a place in the counts on.
@@ -121,10 +123,8 @@ fn sum_number(tally: &[u32], from: usize, number: u32) -> u64
     requires { from ≤ 1000 }
 {
     let mut n: u64 = 0;
-    let mut kind: u32 = 0;
-    while kind < 28 {
-        n = std::num::wrapping_add_u64(n, word(tally, from + cell(kind, number)) as u64);
-        kind += 1;
+    for kind in 0..28 {
+        n = n.wrapping_add(word(tally, from + cell(kind, number)) as u64);
     }
     n
 }
@@ -133,50 +133,43 @@ fn sum(tally: &[u32], from: usize) -> u64
     requires { from ≤ 1000 }
 {
     let mut n: u64 = 0;
-    let mut number: u32 = 0;
-    while number < 16 {
-        n = std::num::wrapping_add_u64(n, sum_number(tally, from, number));
-        number += 1;
+    for number in 0..16 {
+        n = n.wrapping_add(sum_number(tally, from, number));
     }
     n
 }
 
-fn print_sums(replayed: u64, differ: u64) {
-    io::print_decimal(STDOUT_FILENO, replayed);
-    print(b" replayed, ");
-    io::print_decimal(STDOUT_FILENO, differ);
-    print(b" differ");
+fn print_sums<W: Write>(out: &mut W, replayed: u64, differ: u64) -> io::Result<()> {
+    write!(out, "{replayed} replayed, {differ} differ")
 }
 
-fn print_of_number(tally: &[u32], number: u32) {
-    print(b"number ");
-    print_number(number);
-    print(b": ");
+fn print_of_number<W: Write>(out: &mut W, tally: &[u32], number: u32) -> io::Result<()> {
+    print(out, b"number ")?;
+    print_number(out, number)?;
+    print(out, b": ")?;
     print_sums(
+        out,
         sum_number(tally, 0, number),
         sum_number(tally, DIFFER, number),
-    );
-    print(b"\n");
+    )?;
+    print(out, b"\n")
 }
 
-fn print_total(tally: &[u32]) {
-    print(b"calls: ");
-    print_sums(sum(tally, 0), sum(tally, DIFFER));
-    print(b"; lines that are no record: ");
-    print_number(word(tally, MALFORMED));
-    print(b"\n");
+fn print_total<W: Write>(out: &mut W, tally: &[u32]) -> io::Result<()> {
+    print(out, b"calls: ")?;
+    print_sums(out, sum(tally, 0), sum(tally, DIFFER))?;
+    print(out, b"; lines that are no record: ")?;
+    print_number(out, word(tally, MALFORMED))?;
+    print(out, b"\n")
 }
 
-pub fn print_tally(tally: &[u32]) {
-    let mut kind: u32 = 0;
-    while kind < replay_read::names::UNKNOWN {
-        print_kind(tally, kind);
-        kind += 1;
+// How many calls of each kind and number were replayed, and how many of them differ; then the same of each number, and of all.
+pub fn print_tally<W: Write>(out: &mut W, tally: &[u32]) -> io::Result<()> {
+    for kind in 0..replay_read::names::UNKNOWN {
+        print_kind(out, tally, kind)?;
     }
-    let mut number: u32 = 0;
-    while number < 16 {
-        print_of_number(tally, number);
-        number += 1;
+    for number in 0..16 {
+        print_of_number(out, tally, number)?;
     }
-    print_total(tally);
+    print_total(out, tally)
 }

@@ -3,24 +3,25 @@
 // `valid` and `valid_by_character` agree, the codes decoded up to the end or to the first byte that
 // begins no character, and for a valid text the places between characters and where the last
 // character begins. At the end it writes every code that is white space.
+#![tactic(auto)]
+
 ghost use Rattle.std.specs.Prelude.{◌≡◌, true, ◌≤◌, ◌<◌, length};
 ghost use Rattle.utf8.specs.Rfc3629.{utf8};
 
-use libc::{STDIN_FILENO, STDOUT_FILENO};
+use std::io;
+use std::io::Write;
 use utf8::Decoded;
 
-fn print(text: &[u8]) {
-    io::write_all(STDOUT_FILENO, text);
+fn print<W: Write>(out: &mut W, text: &[u8]) -> io::Result<()> {
+    out.write_all(text)
 }
 
-fn print_code(code: u32) {
-    print(b" ");
-    io::print_hex(STDOUT_FILENO, code as u64, 1);
+fn print_code<W: Write>(out: &mut W, code: u32) -> io::Result<()> {
+    write!(out, " {code:x}")
 }
 
-fn print_place(p: usize) {
-    print(b" ");
-    io::print_decimal(STDOUT_FILENO, p as u64);
+fn print_place<W: Write>(out: &mut W, p: usize) -> io::Result<()> {
+    write!(out, " {p}")
 }
 
 // The first place of the byte b in s from `from` on, or s's length.
@@ -82,101 +83,99 @@ fn byte(line: &[u8], n: usize) -> u32 {
 }
 
 // The codes from the start on, and the place where they stop if that is not the end.
-fn print_codes(s: &[u8]) {
+fn print_codes<W: Write>(out: &mut W, s: &[u8]) -> io::Result<()> {
     let mut i: usize = 0;
     loop {
         match utf8::decode(s, i) {
             Decoded::Char { code, width } => {
-                print_code(code);
+                print_code(out, code)?;
                 i += width;
             }
             Decoded::Invalid => {
-                print(b" stops");
-                print_place(i);
-                return;
+                print(out, b" stops")?;
+                return print_place(out, i);
             }
             Decoded::End => {
-                return;
+                return Ok(());
             }
         }
     }
 }
 
 // The places between characters, and where the last character begins.
-fn print_places(s: &[u8])
+fn print_places<W: Write>(out: &mut W, s: &[u8]) -> io::Result<()>
     requires { utf8 s.now ≡ true }
 {
-    print(b" boundaries");
-    let mut p: usize = 0;
-    while p < s.len() {
+    print(out, b" boundaries")?;
+    for p in 0..s.len() {
         if utf8::boundary(s, p) {
-            print_place(p);
+            print_place(out, p)?;
         }
-        p += 1;
     }
-    if utf8::boundary(s, p) {
-        print_place(p);
+    if utf8::boundary(s, s.len()) {
+        print_place(out, s.len())?;
     }
     if 0 < s.len() {
-        print(b" last");
-        print_place(utf8::last_start(s));
+        print(out, b" last")?;
+        print_place(out, utf8::last_start(s))?;
     }
+    Ok(())
 }
 
-fn report(s: &[u8]) {
+fn report<W: Write>(out: &mut W, s: &[u8]) -> io::Result<()> {
     let whole = utf8::valid(s);
     if whole == utf8::valid_by_character(s) {
-        print(b"agree ");
+        print(out, b"agree ")?;
     } else {
-        print(b"differ ");
+        print(out, b"differ ")?;
     }
     if whole {
-        print(b"valid");
-        print_codes(s);
-        print_places(s);
+        print(out, b"valid")?;
+        print_codes(out, s)?;
+        print_places(out, s)
     } else {
-        print(b"invalid");
-        print_codes(s);
+        print(out, b"invalid")?;
+        print_codes(out, s)
     }
 }
 
-fn print_line(line: &[u8]) {
+fn print_line<W: Write>(out: &mut W, line: &[u8]) -> io::Result<()> {
     let mut bytes = [0u8; 128];
     let n = parse(line, &mut bytes);
-    report(&bytes[..n]);
-    print(b" ");
+    report(out, &bytes[..n])?;
+    print(out, b" ")?;
     let note = find(line, 0, b';');
-    print(&line[note..]);
-    print(b"\n");
+    print(out, &line[note..])?;
+    print(out, b"\n")
 }
 
-fn print_lines(s: &[u8]) {
+fn print_lines<W: Write>(out: &mut W, s: &[u8]) -> io::Result<()> {
     let mut at: usize = 0;
     while at < s.len() {
         let end = find(s, at, b'\n');
-        print_line(&s[at..end]);
+        print_line(out, &s[at..end])?;
         if end == s.len() {
-            return;
+            return Ok(());
         }
         at = end + 1;
     }
+    Ok(())
 }
 
-fn print_white_space() {
-    print(b"white space");
-    let mut code: u32 = 0;
-    while code < 0x110000 {
+fn print_white_space<W: Write>(out: &mut W) -> io::Result<()> {
+    print(out, b"white space")?;
+    for code in 0..0x110000 {
         if utf8::is_white_space(code) {
-            print_code(code);
+            print_code(out, code)?;
         }
-        code += 1;
     }
-    print(b"\n");
+    print(out, b"\n")
 }
 
-fn main() {
-    let mut input = io::large_buffer();
-    let n = io::read_full(STDIN_FILENO, &mut input);
-    print_lines(&input[..n]);
-    print_white_space();
+fn main(rt: HostRuntime) -> io::Result<()> {
+    let mut input = [0u8; 65536];
+    let n = read_input::read_full(&mut rt.stdin(), &mut input)?;
+    let mut out = rt.stdout();
+    print_lines(&mut out, &input[..n])?;
+    print_white_space(&mut out)
 }
