@@ -8,7 +8,7 @@
 mod play;
 mod record;
 
-ghost use Rattle.std.specs.Prelude.{◌≤◌, length, IfOk};
+ghost use Rattle.std.specs.Prelude.{◌≡◌, ◌≤◌, length, IfOk, IfErr};
 
 use std::io;
 use std::io::{Read, Write};
@@ -21,7 +21,7 @@ fn is_comment(line: &[u8]) -> bool {
     line[0] == b'#'
 }
 
-// One line, with the first n bytes of `source` in use. Answers how many are in use behind it.
+// One line, with the first n bytes of `source` in use. Answers how many are in use behind it. Where the line cannot be told, that is the writer's error, and the tables are as the line left them.
 fn line<W: Write>(
     out: &mut W,
     s: &[u8],
@@ -34,7 +34,8 @@ fn line<W: Write>(
     tally: &mut [u32],
 ) -> io::Result<usize>
     requires { n ≤ length source.old }
-    ensures { IfOk result (λ m. m ≤ length source.new) }
+    ensures in_bounds { IfOk result (λ m. m ≤ length source.new) }
+    ensures failed { IfErr result (λ _. length source.new ≡ length source.old) }
 {
     if is_comment(s) {
         return Ok(n);

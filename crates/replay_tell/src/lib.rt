@@ -1,7 +1,7 @@
 // What is printed: each difference with its line, and how many calls of each kind and number were replayed.
 #![tactic(auto)]
 
-ghost use Rattle.std.specs.Prelude.{◌≤◌};
+ghost use Rattle.std.specs.Prelude.{◌≡◌, ◌≤◌, length, IfErr};
 
 use std::io;
 use std::io::Write;
@@ -74,8 +74,10 @@ fn print_malformed<W: Write>(out: &mut W, line: u32) -> io::Result<()> {
     print(out, b": no record\n")
 }
 
-// Counts what came of a line, and prints it if it is not as the file has it.
-pub fn tell<W: Write>(out: &mut W, line: u32, t: Told, tally: &mut [u32]) -> io::Result<()> {
+// Counts what came of a line, and prints it if it is not as the file has it. The one error is the writer's; the line is counted then, too.
+pub fn tell<W: Write>(out: &mut W, line: u32, t: Told, tally: &mut [u32]) -> io::Result<()>
+    ensures { IfErr result (λ _. length tally.new ≡ length tally.old) }
+{
     if t.kind == replay_read::names::UNKNOWN {
         count(tally, MALFORMED);
         return print_malformed(out, line);
