@@ -5,6 +5,8 @@ use mathlib.Core.List.{List}
 use Prim.Native.Nat.{ℕ, ◌+◌, ◌*◌, ◌-◌, ◌/◌, ◌%◌, ◌^◌, ◌≤◌, ◌<◌}
 use native.Mathlib.Omega.{arith}
 use native.Mathlib.Decide.{ℕ_discrete, dec_lt}
+use borrow.Author.Tests.{eq-eqb, ne_eqb}
+use Rattle.std.proofs.Common.{nat_eq}
 use lib.Bits.{bit_and, bit_or}
 use lib.ListN.{length, get_or, set, length-set, replicate}
 use lib.Seq.{get_or-set_same, get_or-set_other}
@@ -135,16 +137,6 @@ pub record Whole (ws₀ : List ℕ) (first i : ℕ) (ws : List ℕ) (seen : ℕ)
   pub least : (j : ℕ) → first ≤ j → j < i → get_or ws₀ j 0 ≤ seen
   pub free : ((j : ℕ) → first ≤ j → j < i → (k : ℕ) → k < 64 → bit (get_or ws₀ j 0) k ≡ 0) → seen ≡ 0
 
-pub whole_none : (ws : List ℕ) (first : ℕ) → Whole ws first first ws 0
-whole_none ws first =
-    record {
-      same = refl;
-      full = λ j h k. absurd (omega arith);
-      others = λ j h. refl;
-      least = λ j h k. absurd (omega arith);
-      free = λ h. refl;
-    }
-
 pub whole_more : {ws₀ ws : List ℕ} {first i seen : ℕ} → Whole ws₀ first i ws seen → first ≤ i → i < length ws → get_or ws i 0 < 2 ^ 64
     → Whole ws₀ first (i + 1) (set ws i 18446744073709551615) (bit_or seen (get_or ws i 0))
 whole_more {ws₀} {ws} {first} {i} {seen} w f h small =
@@ -188,7 +180,7 @@ module _ {ws₀ ws : List ℕ} {first i seen : ℕ} (w : Whole ws₀ first i ws 
         ]
       ]
 
-  pub whole_done : seen ≡ 0 → Stretch true ws₀ (first * 64) ((end - first) * 64) ws
+  whole_done : seen ≡ 0 → Stretch true ws₀ (first * 64) ((end - first) * 64) ws
   unfolding Bits
   whole_done z =
       rw (sym e) (record {
@@ -196,7 +188,7 @@ module _ {ws₀ ws : List ℕ} {first i seen : ℕ} (w : Whole ws₀ first i ws 
         marks = λ t b. whole_at z b;
       })
 
-  pub whole_twice : (ws' : List ℕ) → (seen ≡ 0 → ⊥) → Stretch false ws₀ (first * 64) ((end - first) * 64) ws'
+  whole_twice : (ws' : List ℕ) → (seen ≡ 0 → ⊥) → Stretch false ws₀ (first * 64) ((end - first) * 64) ws'
   whole_twice ws' ne =
       rw (sym e) (refused (λ z. ne (w.free (λ j x y k h.
       let b : ℕ = j * 64 + k in
@@ -204,6 +196,14 @@ module _ {ws₀ ws : List ℕ} {first i seen : ℕ} (w : Whole ws₀ first i ws 
       let g : b % 64 ≡ k = omega arith in
       let q : bit (get_or ws₀ (b / 64) 0) (b % 64) ≡ bit (get_or ws₀ j 0) k = rw (d, g) in
       omega (arith, z.free b, marks_at ws₀ b, whole_in b (omega arith) (omega arith))))))
+
+  -- whether none of them had a mark
+  pub whole_tells : Stretch (nat_eq seen 0) ws₀ (first * 64) ((end - first) * 64) ws
+  whole_tells =
+      elim (ℕ_discrete seen 0) [
+        | yes z ↦ rw (eq-eqb seen 0 z) (whole_done z)
+        | no ne ↦ rw (ne_eqb seen 0 ne) (whole_twice ws ne)
+      ]
 
 -- ── the end of the first word, whole words, the front of the last ──
 module _ (ws ws₁ : List ℕ) (at n : ℕ) (h : 64 < at % 64 + n) {r : Bool} (a : Stretch r ws at (64 - at % 64) ws₁) where

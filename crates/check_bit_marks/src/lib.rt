@@ -9,7 +9,7 @@ fn part(lo: usize, n: usize) -> u64
     requires { (0 < n) × (lo + n ≤ 64) }
     ensures { result ≡ part_of lo n }
 {
-    0xFFFF_FFFF_FFFF_FFFF >> 64 - n << lo
+    u64::MAX >> 64 - n << lo
 }
 
 // Marks n places from at on, all in one word. False if one is marked already.
@@ -32,16 +32,11 @@ fn mark_words(words: &mut [u64], first: usize, end: usize) -> bool
     ensures { Stretch result words.old (first * 64) ((end - first) * 64) words.new }
 {
     let mut seen: u64 = 0;
-    let mut i = first;
-    while i < end {
+    for i in first..end {
         seen |= words[i];
-        words[i] = 0xFFFF_FFFF_FFFF_FFFF;
-        i += 1;
+        words[i] = u64::MAX;
     }
-    if seen != 0 {
-        return false;
-    }
-    true
+    seen == 0
 }
 
 // Marks the first n places of word i.
@@ -50,10 +45,7 @@ fn mark_tail(words: &mut [u64], i: usize, n: usize) -> bool
     requires n_bound { (n < 64) × (i * 64 + n ≤ length words.old * 64) }
     ensures { Stretch result words.old (i * 64) n words.new }
 {
-    if n == 0 {
-        return true;
-    }
-    mark_part(words, i * 64, n)
+    n == 0 || mark_part(words, i * 64, n)
 }
 
 // Marks n places from at on, which do not lie in one word: the end of the first word, whole words, the front of the last.
@@ -62,12 +54,9 @@ fn mark_long(words: &mut [u64], at: usize, n: usize) -> bool
     ensures { Stretch result words.old at n words.new }
 {
     let end = (at + n) / 64;
-    if mark_part(words, at, 64 - at % 64) {
-        if mark_words(words, at / 64 + 1, end) {
-            return mark_tail(words, end, (at + n) % 64);
-        }
-    }
-    false
+    mark_part(words, at, 64 - at % 64)
+        && mark_words(words, at / 64 + 1, end)
+        && mark_tail(words, end, (at + n) % 64)
 }
 
 // Marks n places from at on. False if one is marked already.

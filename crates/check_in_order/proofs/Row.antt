@@ -1,14 +1,13 @@
 -- What the tests of one row tell.
 use mathlib.Core.Path.{◌≡◌, ap, sym, ◌∙◌}
-use mathlib.Core.Bool.{Bool, true}
+use mathlib.Core.Bool.{true}
 use mathlib.Core.List.{List}
-use Prim.Native.Nat.{ℕ, ◌≤◌, ◌<◌}
+use Prim.Native.Nat.{ℕ, ◌≤◌}
 use native.Mathlib.Omega.{arith}
 use lib.ListN.{length}
-use Rattle.utf8.specs.Rfc3629.{utf8, between}
+use Rattle.utf8.specs.Rfc3629.{utf8}
 use Rattle.utf8.proofs.Boundaries.{between_past}
 use Rattle.memory_table.specs.Order.{next_of, prev_of}
-use Rattle.check_spans.specs.Spans.{start_of}
 use Rattle.check_in_order.specs.Joined.{Joined}
 
 back_is : (t : List ℕ) (i x y : ℕ) → x ≡ next_of t i → y ≡ prev_of t x → y ≡ i → prev_of t (next_of t i) ≡ i
@@ -24,14 +23,4 @@ module _ {source t : List ℕ} {n i e x y : ℕ} (ex : x ≡ next_of t i) (near 
     last = λ w. q;
     inside = omega arith;
     edge = between_past source e u (omega arith);
-  }
-
-  pub joined_on : {a : ℕ} {b : Bool} → (x ≡ 0 → ⊥) → a ≡ start_of t x → a ≡ e → e < length source → b ≡ between source e → b ≡ true → Joined source t n i e
-  joined_on ne ea q h eb w = record {
-    near = omega arith;
-    back = back_is t i x y ex ey back;
-    start = λ k. ap (start_of t) (sym ex) ∙ sym ea ∙ q;
-    last = λ z. absurd (ne (ex ∙ z));
-    inside = omega arith;
-    edge = sym eb ∙ w;
   }

@@ -14,22 +14,13 @@ fn joined(source: &[u8], t: &[u32], n: u32, i: u32, e: usize) -> bool
     ensures { result ≡ true → Joined source.now t.now n i e }
 {
     let x = check_spans::word(t, i, memory_layout::NEXT);
-    if x > n {
-        return false;
-    }
-    if check_spans::word(t, x, memory_layout::PREV) != i {
+    if x > n || check_spans::word(t, x, memory_layout::PREV) != i {
         return false;
     }
     if x == memory_layout::LIST_END {
         return e == source.len();
     }
-    if check_spans::start(t, x) != e {
-        return false;
-    }
-    if e >= source.len() {
-        return false;
-    }
-    utf8::boundary(source, e)
+    check_spans::start(t, x) == e && e < source.len() && utf8::boundary(source, e)
 }
 
 // Whether the chunks 1 to n stand in one list and their spans in its order: the first starts at 0, each where the one before ends, and the last ends at the source's end.
@@ -40,17 +31,15 @@ pub fn in_order(source: &[u8], t: &[u32], n: u32) -> bool
     requires n_in_bounds { n * ROW + ROW ≤ length t.now }
     ensures { result ≡ true → Listed source.now t.now n }
 {
-    let mut i = 0;
     let mut e = 0;
-    while joined(source, t, n, i, e) {
-        if i == n {
-            return true;
+    for i in 0..n {
+        if !joined(source, t, n, i, e) {
+            return false;
         }
-        i += 1;
-        e = check_spans::end(t, i);
-        if check_spans::start(t, i) >= e {
+        e = check_spans::end(t, i + 1);
+        if check_spans::start(t, i + 1) >= e {
             return false;
         }
     }
-    false
+    joined(source, t, n, n, e)
 }

@@ -1,7 +1,7 @@
 -- A list that holds each byte of the source once is one whose spans cover it.
-use mathlib.Core.Path.{◌≡◌, refl, sym, ◌∙◌}
+use mathlib.Core.Path.{◌≡◌, sym, ◌∙◌}
 use mathlib.Core.Bool.{Bool, true}
-use mathlib.Core.List.{List, [], ◌∷◌}
+use mathlib.Core.List.{List}
 use Prim.Native.Nat.{ℕ, ◌+◌, ◌<◌}
 use native.Mathlib.Omega.{arith}
 use native.Mathlib.Decide.{dec_lt}
@@ -9,7 +9,7 @@ use lib.ListN.{length}
 use Rattle.utf8.specs.Rfc3629.{utf8}
 use Rattle.utf8.proofs.Boundaries.{between_past}
 use Rattle.utf8.specs.Chars.{All}
-use Rattle.memory_table.specs.Ring.{Edge, Ring, follow}
+use Rattle.memory_table.specs.Ring.{follow}
 use Rattle.memory_table.proofs.Ring.{length_follow, ring_of}
 use Rattle.memory_table.specs.Order.{next_of, prev_of}
 use Rattle.model.specs.Text.{sum}
@@ -18,7 +18,7 @@ use Rattle.memory_counting.specs.Counts.{Decides, indicator, sum_to}
 use Rattle.memory_counting.proofs.Sums.{decides_by, sum_zero, sum_same, sum_tight, sum_indicator, indicator_after}
 use Rattle.memory_counting.proofs.Lists.{sum_swap}
 use Rattle.memory_counting.proofs.Once.{Once, sum_once, all_once, once_all, ring_once}
-use Rattle.check_spans.specs.Spans.{start_of, end_of, chunk_starts_of, ends_of, Empty, Listed}
+use Rattle.check_spans.specs.Spans.{start_of, end_of, chunk_starts_of, ends_of, Listed}
 use Rattle.check_spans.proofs.Spans.{sum_ones_is}
 use Rattle.check_row.specs.Row.{Proper}
 use Rattle.check_links.specs.Walk.{Alone}
@@ -84,19 +84,6 @@ module _ {source t : List ℕ} {n : ℕ} (pos : 0 < length source) where
 
 -- ── an empty source ──
 module _ (t : List ℕ) (n : ℕ) where
-  pub alone_yes : Empty t n → Edge (next_of t) (prev_of t) 0 1 → Edge (next_of t) (prev_of t) 1 0 → Alone t n
-  alone_yes e x y =
-      record {
-        span = e;
-        ring = rw e.single (ring_of (next_of t) (prev_of t) 1 (1 ∷ []) refl (x, y) ((omega arith, omega arith), tt)).1;
-      }
-
-  pub alone_edges : Alone t n → Edge (next_of t) (prev_of t) 0 1 × Edge (next_of t) (prev_of t) 1 0
-  alone_edges a =
-      let r : Ring (next_of t) (prev_of t) 1 = rw a.span.single at a.ring in
-      let q : next_of t 0 ≡ 1 = omega (arith, r.inside.0) in
-      (rw q at r.links.0, rw q at r.links.1)
-
   pub alone_decided : {r : Bool} (source : List ℕ) → utf8 source ≡ true → length source ≡ 0 → Decides r (Alone t n) → Decides r (Listed source t n)
   alone_decided source u z d =
       decides_by

@@ -1,5 +1,6 @@
 -- The walk: after each step, what is left of the list decides.
 use mathlib.Core.Path.{◌≡◌, refl, ap, sym, subst, ◌∙◌}
+use Rattle.std.specs.Prelude.{Some, None}
 use mathlib.Core.Bool.{Bool, true}
 use mathlib.Core.List.{List, [], ◌∷◌, reverse}
 use Prim.Native.Nat.{ℕ, suc, ◌+◌, ◌-◌, ◌≤◌, ◌<◌}
@@ -181,17 +182,16 @@ module _ {source t : List ℕ} {n i k : ℕ} {m : ℕ → ℕ} {near far : Side}
   before : i < n → Whole source t n → Rest source t n k (suc (n - (i + 1))) near.row far.row (held_by m near far) (size_by near far) near.left
   before h y = let e : n - i ≡ suc (n - (i + 1)) = omega arith in rw e at (w.from y)
 
-  module _ {m' : ℕ → ℕ} {side : Side} (h : i < n) (s : Stepped source t n k m near m' side) where
-    pub walking_stop : side.row ≡ 0 → Whole source t n → ⊥
-    walking_stop z y =
+  module _ (m' : ℕ → ℕ) (h : i < n) where
+    pub walking_stop : Stepped source t n k m near m' None → Whole source t n → ⊥
+    walking_stop s y =
         let r = before h y in
         let a = ahead_of r.rows r.count r.between in
-        s.none z a.row a.behind a.proper (record { once = λ c. omega (arith, a.once c); within = omega (arith, a.within) })
+        s a.row a.behind a.proper (record { once = λ c. omega (arith, a.once c); within = omega (arith, a.within) })
 
-    pub walking_more : (side.row ≡ 0 → ⊥) → (k' : ℕ) → k' ≡ 5 - k
+    pub walking_more : {side : Side} → Stepped source t n k m near m' (Some side) → (k' : ℕ) → k' ≡ 5 - k
         → Walking source t n (i + 1) k' m' (record { row = far.row; from = far.from; to = far.to; left = side.left }) side
-    walking_more ne k' q =
-        let went = s.some ne in
+    walking_more {side} went k' q =
         let g = went.grown in
         let e : n - i ≡ suc (n - (i + 1)) = omega arith in
         let up : Rest source t n k (suc (n - (i + 1))) near.row far.row (held_by m near far) (size_by near far) near.left → Whole source t n = rw e at w.to in

@@ -1,5 +1,5 @@
 -- A walk along the chunk list from both of its ends: what a step promises. Spans that follow one another are pending until one does not; then their bytes are marked at once.
-use Rattle.std.specs.Prelude.{◌≡◌, List, ℕ, ◌+◌, ◌-◌, ◌≤◌, length}
+use Rattle.std.specs.Prelude.{◌≡◌, Option, Some, None, List, ℕ, ◌+◌, ◌-◌, ◌≤◌, length}
 use Rattle.memory_table.specs.Ring.{Ring}
 use Rattle.memory_table.specs.Order.{next_of, prev_of}
 use Rattle.memory_counting.specs.Counts.{indicator}
@@ -31,11 +31,14 @@ pub record Grown (a e : ℕ) (m : ℕ → ℕ) (s : Side) (m' : ℕ → ℕ) (s'
   pub size : pending_size s' + s.left ≡ pending_size s + (e - a) + s'.left
   pub sound : (source : List ℕ) → e ≤ length source → Edged source a e → Sound source s → Sound source s'
 
--- it is, at row i, unless what was pending did not fit: then the row is 0
-pub record Turned (i a e : ℕ) (m : ℕ → ℕ) (s : Side) (m' : ℕ → ℕ) (s' : Side) : Type 0 where
-  pub row : (s'.row ≡ 0 → ⊥) → s'.row ≡ i
-  pub on : (s'.row ≡ 0 → ⊥) → Grown a e m s m' s'
-  pub off : s'.row ≡ 0 → Fits m s → ⊥
+-- it is, at row i; none if what was pending did not fit
+pub record Passed (i a e : ℕ) (m : ℕ → ℕ) (s : Side) (m' : ℕ → ℕ) (s' : Side) : Type 0 where
+  pub row : s'.row ≡ i
+  pub grown : Grown a e m s m' s'
+
+abbrev pub Turned : ℕ → ℕ → ℕ → (ℕ → ℕ) → Side → (ℕ → ℕ) → Option Side → Type 0
+Turned i a e m s m' (Some s') = Passed i a e m s m' s'
+Turned i a e m s m' None = Fits m s → ⊥
 
 -- a step by word k, to a row whose span is proper and held
 pub record Went (source t : List ℕ) (n k : ℕ) (m : ℕ → ℕ) (s : Side) (m' : ℕ → ℕ) (s' : Side) : Type 0 where
@@ -43,10 +46,10 @@ pub record Went (source t : List ℕ) (n k : ℕ) (m : ℕ → ℕ) (s : Side) (
   pub proper : Proper source t s'.row
   pub grown : Grown (start_of t s'.row) (end_of t s'.row) m s m' s'
 
--- or none, and the row is 0
-pub record Stepped (source t : List ℕ) (n k : ℕ) (m : ℕ → ℕ) (s : Side) (m' : ℕ → ℕ) (s' : Side) : Type 0 where
-  pub some : (s'.row ≡ 0 → ⊥) → Went source t n k m s m' s'
-  pub none : s'.row ≡ 0 → (y : ℕ) → Behind t n k s.row y → Proper source t y → Fits m s → ⊥
+-- or none
+abbrev pub Stepped : List ℕ → List ℕ → ℕ → ℕ → (ℕ → ℕ) → Side → (ℕ → ℕ) → Option Side → Type 0
+Stepped source t n k m s m' (Some s') = Went source t n k m s m' s'
+Stepped source t n k m s m' None = (y : ℕ) → Behind t n k s.row y → Proper source t y → Fits m s → ⊥
 
 -- the two sides meet, and what is pending is all that is left
 pub record Ended (t : List ℕ) (k : ℕ) (m : ℕ → ℕ) (near far : Side) : Type 0 where

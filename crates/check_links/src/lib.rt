@@ -8,7 +8,10 @@ ghost use Rattle.memory_counting.specs.Counts.{Decides, indicator};
 ghost use Rattle.check_spans.specs.Spans.{Listed};
 ghost use Rattle.check_marks.specs.Marks.{Marked};
 ghost use Rattle.check_bit_marks.specs.BitMarks.{bit_at};
+ghost use Rattle.check_row.specs.Row.{word_of};
 ghost use Rattle.check_links.specs.Walk.{pending_size, Sound, Turned, Stepped, Ended, Alone};
+
+use check_row::Link;
 
 // One side of the walk: the row that it has come to; what is pending, the spans from `from` up to `to` that it passed and whose bytes are not marked yet;
 // and, on the side whose turn it is, how many bytes of the source are not marked.
@@ -20,81 +23,74 @@ struct Side {
     left: usize,
 }
 
+impl Side {
+    // How many bytes are pending.
+    fn pending(self) -> usize
+        requires { self.from ≤ self.to }
+        ensures { result ≡ pending_size self }
+    {
+        self.to - self.from
+    }
+}
+
 // Marks what is pending. False if it is more than is left, or a byte is marked already.
 fn mark_pending(side: Side, marks: &mut [u64]) -> bool
     requires { (side.from ≤ side.to) × (side.to ≤ length marks.old * 64) × (length marks.old < 0x400_0000_0000_0000) }
     ensures { Marked result (bit_at marks.old) (pending_size side ≤ side.left) (indicator side.from side.to) (bit_at marks.new) }
 {
-    let size = side.to - side.from;
-    if size > side.left {
-        return false;
-    }
-    check_bit_marks::mark_range(marks, side.from, size)
+    let size = side.pending();
+    size <= side.left && check_bit_marks::mark_range(marks, side.from, size)
 }
 
-// The span of row i goes on from what is pending, at either end, or that is marked and the span is pending instead. Row 0 if it cannot be marked.
-fn turn(side: Side, i: u32, start: usize, end: usize, marks: &mut [u64]) -> Side
+// The span of row i goes on from what is pending, at either end, or that is marked and the span is pending instead. None if it cannot be marked.
+fn turn(side: Side, i: u32, start: usize, end: usize, marks: &mut [u64]) -> Option<Side>
     requires from_le_to { (side.from ≤ side.to) × (side.to ≤ length marks.old * 64) × (length marks.old < 0x400_0000_0000_0000) }
     requires start_lt_end { (start < end) × (0 < i) }
     ensures { Turned i start end (bit_at marks.old) side (bit_at marks.new) result }
 {
     if start == side.to {
-        return Side {
+        return Some(Side {
             row: i,
-            from: side.from,
             to: end,
-            left: side.left,
-        };
+            ..side
+        });
     }
     if end == side.from {
-        return Side {
+        return Some(Side {
             row: i,
             from: start,
-            to: side.to,
-            left: side.left,
-        };
+            ..side
+        });
     }
-    if mark_pending(side, marks) {
-        return Side {
-            row: i,
-            from: start,
-            to: end,
-            left: side.left - (side.to - side.from),
-        };
+    if !mark_pending(side, marks) {
+        return None;
     }
-    Side {
-        row: memory_layout::LIST_END,
-        from: 0,
-        to: 0,
-        left: 0,
-    }
+    Some(Side {
+        row: i,
+        from: start,
+        to: end,
+        left: side.left - side.pending(),
+    })
 }
 
-// A step of one side by word k. Row 0 if the list does not go on, or the next span is not proper or cannot be marked.
-fn step(source: &[u8], t: &[u32], n: u32, k: usize, side: Side, marks: &mut [u64]) -> Side
+// A step of one side by a link. None if the list does not go on, or the next span is not proper or cannot be marked.
+fn step(source: &[u8], t: &[u32], n: u32, link: Link, side: Side, marks: &mut [u64]) -> Option<Side>
     requires source_value { (isText source.now ≡ true) × Sound source.now side }
-    requires n_in_bounds { (n * ROW + ROW ≤ length t.now) × (side.row ≤ n) × (k ≤ 5) }
+    requires n_in_bounds { (n * ROW + ROW ≤ length t.now) × (side.row ≤ n) }
     requires source_in_bounds { (length source.now ≤ length marks.old * 64) × (length marks.old < 0x400_0000_0000_0000) }
-    ensures { Stepped source.now t.now n k (bit_at marks.old) side (bit_at marks.new) result }
+    ensures { Stepped source.now t.now n (word_of link) (bit_at marks.old) side (bit_at marks.new) result }
 {
-    let i = check_row::linked_row(t, n, k, side.row);
-    if i != memory_layout::LIST_END {
-        if check_row::proper(source, t, i, side.from, side.to) {
-            return turn(
-                side,
-                i,
-                check_spans::start(t, i),
-                check_spans::end(t, i),
-                marks,
-            );
-        }
+    let i = check_row::linked_row(t, n, link, side.row)?;
+    if !check_row::proper(source, t, i, side.from, side.to) {
+        return None;
     }
-    Side {
-        row: memory_layout::LIST_END,
-        from: 0,
-        to: 0,
-        left: 0,
-    }
+    turn(
+        side,
+        i,
+        check_spans::start(t, i),
+        check_spans::end(t, i),
+        marks,
+    )
 }
 
 // Marks what is pending, if it is all that is left.
@@ -102,26 +98,20 @@ fn mark_rest(side: Side, left: usize, marks: &mut [u64]) -> bool
     requires { (side.from ≤ side.to) × (side.to ≤ length marks.old * 64) × (length marks.old < 0x400_0000_0000_0000) }
     ensures { Marked result (bit_at marks.old) (pending_size side ≡ left) (indicator side.from side.to) (bit_at marks.new) }
 {
-    let size = side.to - side.from;
-    if size != left {
-        return false;
-    }
-    check_bit_marks::mark_range(marks, side.from, size)
+    let size = side.pending();
+    size == left && check_bit_marks::mark_range(marks, side.from, size)
 }
 
 // Whether the walk may end: the two sides meet, and what is pending is all that is left and can be marked.
-fn ended(t: &[u32], k: usize, near: Side, far: Side, marks: &mut [u64]) -> bool
-    requires row_in_bounds { (near.row * ROW + ROW ≤ length t.now) × (far.row * ROW + ROW ≤ length t.now) × (k ≤ 5) }
+fn ended(t: &[u32], link: Link, near: Side, far: Side, marks: &mut [u64]) -> bool
+    requires row_in_bounds { (near.row * ROW + ROW ≤ length t.now) × (far.row * ROW + ROW ≤ length t.now) }
     requires from_le_to { (near.from ≤ near.to) × (near.to ≤ length marks.old * 64) × (length marks.old < 0x400_0000_0000_0000) }
     requires from_le_to_2 { (far.from ≤ far.to) × (far.to ≤ length marks.old * 64) }
-    ensures { Decides result (Ended t.now k (bit_at marks.old) near far) }
+    ensures { Decides result (Ended t.now (word_of link) (bit_at marks.old) near far) }
 {
-    if check_row::edge(t, k, near.row, far.row) {
-        if mark_pending(near, marks) {
-            return mark_rest(far, near.left - (near.to - near.from), marks);
-        }
-    }
-    false
+    check_row::edge(t, link, near.row, far.row)
+        && mark_pending(near, marks)
+        && mark_rest(far, near.left - near.pending(), marks)
 }
 
 // Whether n steps along the list, from both of its ends by turns, pass spans that hold each byte of the source once, and the two sides meet. The marks are clear.
@@ -146,24 +136,19 @@ fn walk(source: &[u8], t: &[u32], n: u32, marks: &mut [u64]) -> bool
         to: size,
         left: size,
     };
-    let mut word = memory_layout::NEXT;
-    let mut k = 0;
-    while k < n {
-        let side = step(source, t, n, word, near, marks);
-        if side.row == memory_layout::LIST_END {
+    let mut link = Link::Next;
+    for _ in 0..n {
+        let Some(side) = step(source, t, n, link, near, marks) else {
             return false;
-        }
+        };
         near = Side {
-            row: far.row,
-            from: far.from,
-            to: far.to,
             left: side.left,
+            ..far
         };
         far = side;
-        word = 5 - word;
-        k += 1;
+        link = link.back();
     }
-    ended(t, word, near, far, marks)
+    ended(t, link, near, far, marks)
 }
 
 // The same with marks of its own.
@@ -182,12 +167,9 @@ fn alone(t: &[u32], n: u32) -> bool
     requires { n * ROW + ROW ≤ length t.now }
     ensures { Decides result (Alone t.now n) }
 {
-    if check_row::span_empty(t, n) {
-        if check_row::edge(t, memory_layout::NEXT, memory_layout::LIST_END, 1) {
-            return check_row::edge(t, memory_layout::NEXT, 1, memory_layout::LIST_END);
-        }
-    }
-    false
+    check_row::span_empty(t, n)
+        && check_row::edge(t, Link::Next, memory_layout::LIST_END, 1)
+        && check_row::edge(t, Link::Next, 1, memory_layout::LIST_END)
 }
 
 // Whether the chunks 1 to n stand in one list and cover the source. Only where a chunk was moved are marks needed.
@@ -197,11 +179,8 @@ pub fn listed(source: &[u8], t: &[u32], n: u32) -> bool
     requires n_in_bounds { n * ROW + ROW ≤ length t.now }
     ensures { Decides result (Listed source.now t.now n) }
 {
-    if source.len() == 0 {
+    if source.is_empty() {
         return alone(t, n);
     }
-    if check_in_order::in_order(source, t, n) {
-        return true;
-    }
-    walked(source, t, n)
+    check_in_order::in_order(source, t, n) || walked(source, t, n)
 }

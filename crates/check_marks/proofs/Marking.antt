@@ -1,11 +1,13 @@
 -- Marking: one stretch of a list, one after another, and in a loop.
-use mathlib.Core.Path.{◌≡◌, refl, ◌∙◌}
+use mathlib.Core.Path.{◌≡◌, ◌∙◌}
 use mathlib.Core.Bool.{Bool, true, false}
 use mathlib.Core.List.{List}
 use Prim.Native.Nat.{ℕ, suc, ◌+◌, ◌≤◌, ◌<◌}
 use native.Mathlib.Omega.{arith}
 use native.Mathlib.Numerals.{add-one}
 use native.Mathlib.Decide.{ℕ_discrete, dec_lt}
+use borrow.Author.Tests.{eq-eqb, ne_eqb}
+use Rattle.std.proofs.Common.{nat_eq}
 use lib.Bits.{bit_or}
 use lib.ListN.{length, get_or, set, length-set}
 use lib.Seq.{get_or-set_same, get_or-set_other}
@@ -26,44 +28,34 @@ unfolding Bits
 marked_none h x z = record { decides = is_yes (record { fits = x; free = λ b. omega (arith, h b, z b) }); marks = λ t b. omega (arith, z b) }
 
 -- ── one stretch ──
--- after i places: they have a mark, the others what they had; `seen` is 0 exactly if none had one
+-- the places from at up to i have a mark, the others what they had; `seen` is 0 exactly if none of them had one
 pub record Marking (m₀ : List ℕ) (at i : ℕ) (m : List ℕ) (seen : ℕ) : Type 0 where
   pub same : length m ≡ length m₀
-  pub held : (b : ℕ) → at ≤ b → b < at + i → get_or m b 0 ≡ 1
-  pub least : (b : ℕ) → at ≤ b → b < at + i → get_or m₀ b 0 ≤ seen
-  pub others : (b : ℕ) → (at ≤ b → b < at + i → ⊥) → get_or m b 0 ≡ get_or m₀ b 0
-  pub free : ((b : ℕ) → at ≤ b → b < at + i → get_or m₀ b 0 ≡ 0) → seen ≡ 0
+  pub held : (b : ℕ) → at ≤ b → b < i → get_or m b 0 ≡ 1
+  pub least : (b : ℕ) → at ≤ b → b < i → get_or m₀ b 0 ≤ seen
+  pub others : (b : ℕ) → (at ≤ b → b < i → ⊥) → get_or m b 0 ≡ get_or m₀ b 0
+  pub free : ((b : ℕ) → at ≤ b → b < i → get_or m₀ b 0 ≡ 0) → seen ≡ 0
 
-pub marking_none : (m : List ℕ) (at : ℕ) → Marking m at 0 m 0
-marking_none m at =
-    record {
-      same = refl;
-      held = λ b h k. absurd (omega arith);
-      least = λ b h k. absurd (omega arith);
-      others = λ b h. refl;
-      free = λ h. refl;
-    }
-
-pub marking_more : {m₀ : List ℕ} {at i : ℕ} {m : List ℕ} {seen : ℕ} → Marking m₀ at i m seen → at + i < length m
-    → Marking m₀ at (i + 1) (set m (at + i) 1) (bit_or seen (get_or m (at + i) 0))
-marking_more {m₀} {at} {i} {m} {seen} k h =
-    let here : get_or m (at + i) 0 ≡ get_or m₀ (at + i) 0 = k.others (at + i) (λ l n. omega arith) in
+pub marking_more : {m₀ : List ℕ} {at i : ℕ} {m : List ℕ} {seen : ℕ} → Marking m₀ at i m seen → at ≤ i → i < length m
+    → Marking m₀ at (i + 1) (set m i 1) (bit_or seen (get_or m i 0))
+marking_more {m₀} {at} {i} {m} {seen} k p h =
+    let here : get_or m i 0 ≡ get_or m₀ i 0 = k.others i (λ l n. omega arith) in
     record {
       same = simp length-set k.same;
-      held = λ b l n. elim (ℕ_discrete b (at + i)) [
-        | yes e ↦ rw e (get_or-set_same m (at + i) 1 0 h)
-        | no ne ↦ get_or-set_other m (at + i) b 1 0 ne ∙ k.held b l (omega arith)
+      held = λ b l n. elim (ℕ_discrete b i) [
+        | yes e ↦ rw e (get_or-set_same m i 1 0 h)
+        | no ne ↦ get_or-set_other m i b 1 0 ne ∙ k.held b l (omega arith)
       ];
-      least = λ b l n. elim (ℕ_discrete b (at + i)) [
-        | yes e ↦ rw (e, ← here) (or_right seen (get_or m (at + i) 0))
-        | no ne ↦ omega (arith, k.least b l (omega arith), or_left seen (get_or m (at + i) 0))
+      least = λ b l n. elim (ℕ_discrete b i) [
+        | yes e ↦ rw (e, ← here) (or_right seen (get_or m i 0))
+        | no ne ↦ omega (arith, k.least b l (omega arith), or_left seen (get_or m i 0))
       ];
-      others = λ b n. get_or-set_other m (at + i) b 1 0 (λ e. n (omega arith) (omega arith)) ∙ k.others b (λ l o. n l (omega arith));
-      free = λ z. rw (k.free (λ b l n. z b l (omega arith)), here, z (at + i) (omega arith) (omega arith));
+      others = λ b n. get_or-set_other m i b 1 0 (λ e. n (omega arith) (omega arith)) ∙ k.others b (λ l o. n l (omega arith));
+      free = λ z. rw (k.free (λ b l n. z b l (omega arith)), here, z i (omega arith) (omega arith));
     }
 
-module _ {m₀ : List ℕ} {at i n : ℕ} {m : List ℕ} {seen : ℕ} (k : Marking m₀ at i m seen) (e : i ≡ n) where
-  pub marking_done : Bits (mark_at m₀) → at + n ≤ length m₀ → seen ≡ 0 → Marked true (mark_at m₀) (at + n ≤ length m₀) (among (at, n)) (mark_at m)
+module _ {m₀ : List ℕ} {at i : ℕ} (n : ℕ) {m : List ℕ} {seen : ℕ} (k : Marking m₀ at i m seen) (e : i ≡ at + n) where
+  marking_done : Bits (mark_at m₀) → at + n ≤ length m₀ → seen ≡ 0 → Marked true (mark_at m₀) (at + n ≤ length m₀) (among (at, n)) (mark_at m)
   unfolding Bits mark_at
   marking_done h l z =
       let in? : (b : ℕ) → (get_or m₀ b 0 + among (at, n) b ≤ 1) × (get_or m b 0 ≡ get_or m₀ b 0 + among (at, n) b) =
@@ -80,9 +72,17 @@ module _ {m₀ : List ℕ} {at i n : ℕ} {m : List ℕ} {seen : ℕ} (k : Marki
       record { decides = is_yes (record { fits = l; free = λ b. (in? b).0 }); marks = λ t b. (in? b).1 }
 
   -- a place that is marked already
-  pub marking_twice : (seen ≡ 0 → ⊥) → Free (mark_at m₀) (at + n ≤ length m₀) (among (at, n)) → ⊥
+  marking_twice : (seen ≡ 0 → ⊥) → Free (mark_at m₀) (at + n ≤ length m₀) (among (at, n)) → ⊥
   unfolding mark_at
   marking_twice ne f = ne (k.free (λ b l h. omega (arith, f.free b, among_in at n b l (omega arith))))
+
+  -- whether none was
+  pub marking_tells : Bits (mark_at m₀) → at + n ≤ length m₀ → Marked (nat_eq seen 0) (mark_at m₀) (at + n ≤ length m₀) (among (at, n)) (mark_at m)
+  marking_tells h l =
+      elim (ℕ_discrete seen 0) [
+        | yes z ↦ rw (eq-eqb seen 0 z) (marking_done h l z)
+        | no ne ↦ rw (ne_eqb seen 0 ne) (refused (marking_twice ne))
+      ]
 
 -- ── one after another ──
 module _ {B : Type 0} {m m₁ : B → ℕ} {F : Type 0} {f : B → ℕ} {r : Bool} (a : Marked r m F f m₁) where

@@ -1,5 +1,5 @@
 -- A pass that marks and raises a bound: one part after another, and in a loop.
-use mathlib.Core.Path.{◌≡◌}
+use mathlib.Core.Path.{◌≡◌, refl}
 use mathlib.Core.Bool.{Bool, true, false}
 use Prim.Native.Nat.{ℕ, ◌+◌, ◌<◌}
 use native.Mathlib.Omega.{arith}
@@ -28,6 +28,11 @@ module _ {W : Type 0} {le : W → W → Type 0} {top top₁ : W} {E : W → Type
 pub stopped : {B W : Type 0} {le : W → W → Type 0} {size top top' : W} {E : W → Type 0} {m f m' : B → ℕ}
     → (Free m (E size) f → ⊥) → Passed false le size m top E f m' top'
 stopped x = record { marked = refused x; raised = λ e. not_both e }
+
+-- one whose answer says nothing more
+pub stopped_as : {B W : Type 0} {le : W → W → Type 0} {size top t t' : W} {E : W → Type 0} {m f m₁ m' : B → ℕ}
+    → Passed false le size m top E f m₁ t → Passed false le size m top E f m' t'
+stopped_as a = stopped (a.marked.decides.no refl)
 
 -- nothing to mark, and nothing to see
 pub pass_none : {B W : Type 0} {le : W → W → Type 0} {size top : W} {E : W → Type 0} {m f : B → ℕ}

@@ -1,5 +1,5 @@
 -- What marking promises: nothing gets a second mark. And what a pass over a table has seen: a bound above it all.
-use Rattle.std.specs.Prelude.{◌≡◌, Bool, true, List, ℕ, ◌+◌, ◌*◌, ◌≤◌, get_or}
+use Rattle.std.specs.Prelude.{◌≡◌, Bool, true, false, Option, Some, None, List, ℕ, ◌+◌, ◌*◌, ◌≤◌, get_or}
 use Rattle.memory_layout.specs.Layout.{ROW}
 use Rattle.memory_table.specs.Order.{Entry, entry_at}
 use Rattle.memory.specs.Layout.{Place}
@@ -46,3 +46,8 @@ pub record Raised {W : Type 0} (le : W → W → Type 0) (top : W) (E : W → Ty
 pub record Passed {B W : Type 0} (r : Bool) (le : W → W → Type 0) (size : W) (m : B → ℕ) (top : W) (E : W → Type 0) (f m' : B → ℕ) (top' : W) : Type 0 where
   pub marked : Marked r m (E size) f m'
   pub raised : r ≡ true → Raised le top E top'
+
+-- by an answer that is the bound then, or none
+abbrev pub Answered : {W : Type 0} → (Bool → W → Type 0) → W → Option W → Type 0
+Answered P top (Some w) = P true w
+Answered P top None = P false top

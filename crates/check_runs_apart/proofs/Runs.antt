@@ -1,5 +1,6 @@
 -- Marks of rows and of bytes as one pass: a run and its texts, and two runs.
-use mathlib.Core.Path.{◌≡◌, refl, sym, subst, ◌∙◌}
+use mathlib.Core.Path.{◌≡◌, refl, subst, ◌∙◌}
+use Rattle.std.specs.Prelude.{Some, None}
 use mathlib.Core.Bool.{Bool, true, false}
 use mathlib.Core.List.{List}
 use Prim.Native.Nat.{ℕ, ◌+◌, ◌-◌, ◌*◌, ◌/◌, ◌≤◌, ◌<◌, max}
@@ -10,22 +11,20 @@ use lib.ListN.{length}
 use Rattle.memory_layout.specs.Layout.{INTRO_AT, PIECE_ROWS, PIECES_LEN}
 use Rattle.memory_table.specs.Order.{entry_at}
 use Rattle.memory.specs.Layout.{Place}
-use Rattle.memory.specs.WellFormed.{among, run_uses}
+use Rattle.memory.specs.WellFormed.{among, run_uses, piece_uses, list_uses}
 use Rattle.memory.proofs.Desks.{among_none}
 use Rattle.memory_used.specs.declared.Used.{Used}
 use Rattle.memory_used.specs.Below.{Below}
 use Rattle.memory_counting.specs.Counts.{sum_to}
 use Rattle.memory_counting.proofs.Sums.{not_both}
-use Rattle.check_marks.specs.Marks.{place_at, mark_at, Bits, Marked, Passed}
+use Rattle.check_marks.specs.Marks.{place_at, mark_at, Bits, Marked, Passed, entry_piece_count}
 use Rattle.check_marks.proofs.Marking.{then_bits, to_bits}
-use Rattle.check_marks.proofs.Passing.{pass_none, pass_on, pass_no, pass_by, PassesTo, passes_none, passes_more, passes_no, passes_done}
+use Rattle.check_marks.proofs.Passing.{stopped_as, pass_none, pass_on, pass_no, pass_by, PassesTo, passes_none, passes_more, passes_no, passes_done}
 use Rattle.check_bit_marks.specs.BitMarks.{bit_at}
 use Rattle.check_bit_marks.proofs.Marking.{marks_bits}
-use Rattle.check_text_marks.specs.declared.Top.{Top}
 use Rattle.check_text_marks.specs.Texts.{RunEnds, TextsPassed}
 use Rattle.check_text_marks.proofs.Marking.{enough_kept}
-use Rattle.check_runs_apart.specs.declared.Step.{Step}
-use Rattle.check_runs_apart.specs.Runs.{Spot, piece, byte, both, Markable, Lower, sizes, RunsPassed, RunPassed, ListsPassed}
+use Rattle.check_runs_apart.specs.Runs.{Spot, piece, byte, both, Markable, Lower, sizes, RunsPassed, RunPassed}
 
 -- no marks
 abbrev pub none : ℕ → ℕ
@@ -111,7 +110,7 @@ module _ (p : List ℕ) (at n : ℕ) (pos : 0 < n) where
 
 module _ (size : ℕ) (p rows words : List ℕ) (u : Used) (at n : ℕ) where
   -- an empty run, wherever it is
-  pub run_none : Markable size p rows words → n ≡ 0 → RunPassed (record { ok = true; used = u }) size p rows words u (at, n) rows words
+  pub run_none : Markable size p rows words → n ≡ 0 → RunPassed (Some u) size p rows words u (at, n) rows words
   unfolding both run_uses
   run_none k e =
       record {
@@ -125,9 +124,9 @@ module _ (size : ℕ) (p rows words : List ℕ) (u : Used) (at n : ℕ) where
         (record { pieces = i; row = row'; byte = u.byte })
     rows_passed row' i d = lift_rows size p u (bit_at words) at n (length rows) row' i (marks_bits words) k.rows_are d a
 
-    pub some_yes : r ≡ true → (words' : List ℕ) (top : Top) (row' : ℕ) → row' ≡ max u.row (at + n)
-        → TextsPassed top size words u.byte (RunEnds p (at, n)) (λ b. run_uses p b (at, n)) words'
-        → RunPassed (record { ok = top.ok; used = record { pieces = u.pieces + n; row = row'; byte = top.byte } }) size p rows words u (at, n) rows' words'
+    pub some_yes : r ≡ true → (words' : List ℕ) (top row' : ℕ) → row' ≡ max u.row (at + n)
+        → TextsPassed (Some top) size words u.byte (RunEnds p (at, n)) (λ b. run_uses p b (at, n)) words'
+        → RunPassed (Some (record { pieces = u.pieces + n; row = row'; byte = top })) size p rows words u (at, n) rows' words'
     some_yes t words' top row' d x =
         let u₁ : Used = record { pieces = 0; row = row'; byte = u.byte } in
         let y = pass_on (rows_passed row' 0 d) t (lift_texts size p u₁ (mark_at rows') (u.pieces + n) (then_bits a t) x) in
@@ -136,7 +135,19 @@ module _ (size : ℕ) (p rows words : List ℕ) (u : Used) (at n : ℕ) where
           counted = λ e. refl;
         }
 
-    pub some_no : r ≡ false → (words' : List ℕ) → RunPassed (record { ok = false; used = u }) size p rows words u (at, n) rows' words'
+    -- its texts do not fit, or it does not
+    pub some_stop : r ≡ true → (words' words'' : List ℕ) → TextsPassed None size words u.byte (RunEnds p (at, n)) (λ b. run_uses p b (at, n)) words'
+        → RunPassed None size p rows words u (at, n) rows' words''
+    some_stop t words' words'' x =
+        let row' = max u.row (at + n) in
+        let u₁ : Used = record { pieces = 0; row = row'; byte = u.byte } in
+        let y = pass_on (rows_passed row' 0 refl) t (lift_texts size p u₁ (mark_at rows') 0 (then_bits a t) x) in
+        record {
+          passed = stopped_as (pass_by y (λ w. ends_below p at n pos w.byte w.row) (λ w. below_ends p at n pos w.byte w.row) _ (both_none (among (at, n)) (λ b. run_uses p b (at, n))));
+          counted = λ t. not_both t;
+        }
+
+    pub some_no : r ≡ false → (words' : List ℕ) → RunPassed None size p rows words u (at, n) rows' words'
     some_no e words' =
         let y = pass_no (rows_passed (max u.row (at + n)) 0 refl) (λ w. RunEnds p (at, n) w.byte) (both none (λ b. run_uses p b (at, n))) e in
         record {
@@ -170,29 +181,29 @@ module _ {size : ℕ} {p rows₀ words₀ : List ℕ} (m : Markable size p rows�
     steps_markable =
         record { rows_are = a.rows_same ∙ m.rows_are; few = m.few; bits = rows_bits _ _ (to_bits a.passes.marks); enough = enough_kept a.words_same m.enough }
 
-    module _ {rows' words' : List ℕ} {r : Step} (b : RunsPassed r size p rows words u (E k) (f k) (c k) rows' words') where
-      pub steps_more : r.ok ≡ true → c k ≤ PIECES_LEN → length rows' ≡ length rows → length words' ≡ length words → StepsTo size p rows₀ words₀ u₀ E f c (k + 1) rows' words' r.used
-      steps_more s h lr lw =
-          record {
-            rows_same = lr ∙ a.rows_same;
-            words_same = lw ∙ a.words_same;
-            passes = passes_more a.passes b.passed s;
-            counted = rw add-one (omega (arith, b.counted s, a.counted));
-            few = omega (arith, b.counted s, a.few);
-          }
+    pub steps_more : {rows' words' : List ℕ} {v : Used} → RunsPassed true v size p rows words u (E k) (f k) (c k) rows' words'
+        → c k ≤ PIECES_LEN → length rows' ≡ length rows → length words' ≡ length words → StepsTo size p rows₀ words₀ u₀ E f c (k + 1) rows' words' v
+    steps_more b h lr lw =
+        record {
+          rows_same = lr ∙ a.rows_same;
+          words_same = lw ∙ a.words_same;
+          passes = passes_more a.passes b.passed refl;
+          counted = rw add-one (omega (arith, b.counted refl, a.counted));
+          few = omega (arith, b.counted refl, a.few);
+        }
 
-      pub steps_no : (n : ℕ) → k < n → r.ok ≡ false → (rows'' words'' : List ℕ)
-          → RunsPassed r size p rows₀ words₀ u₀ (λ byte row. (i : ℕ) → i < n → E i byte row) (λ x. sum_to (λ i. f i x) n) (sum_to c n) rows'' words''
-      steps_no n l g rows'' words'' = record { passed = rw g (passes_no a.passes n b.passed g l); counted = λ s. not_both (sym g ∙ s) }
+    pub steps_no : {rows' words' : List ℕ} {v : Used} → RunsPassed false v size p rows words u (E k) (f k) (c k) rows' words' → (n : ℕ) → k < n → (rows'' words'' : List ℕ)
+        → RunsPassed false u₀ size p rows₀ words₀ u₀ (λ byte row. (i : ℕ) → i < n → E i byte row) (λ x. sum_to (λ i. f i x) n) (sum_to c n) rows'' words''
+    steps_no b n l rows'' words'' = record { passed = passes_no a.passes n b.passed refl l; counted = λ s. not_both s }
 
     pub steps_done : (n : ℕ) → k ≡ n
-        → RunsPassed (record { ok = true; used = u }) size p rows₀ words₀ u₀ (λ byte row. (i : ℕ) → i < n → E i byte row) (λ x. sum_to (λ i. f i x) n) (sum_to c n) rows words
+        → RunsPassed true u size p rows₀ words₀ u₀ (λ byte row. (i : ℕ) → i < n → E i byte row) (λ x. sum_to (λ i. f i x) n) (sum_to c n) rows words
     steps_done n e = record { passed = passes_done a.passes n e; counted = λ s. rw e at a.counted }
 
 -- what must lie below, what is marked and how many pieces there are may be said in another way
-pub passed_by : {size : ℕ} {p rows words rows' words' : List ℕ} {u : Used} {E : ℕ → ℕ → Type 0} {f : Spot → ℕ} {c : ℕ} {r : Step}
-    → RunsPassed r size p rows words u E f c rows' words' → (G : ℕ → ℕ → Type 0) → ((b row : ℕ) → E b row → G b row) → ((b row : ℕ) → G b row → E b row)
-    → (g : Spot → ℕ) → ((x : Spot) → g x ≡ f x) → (d : ℕ) → d ≡ c → RunsPassed r size p rows words u G g d rows' words'
+pub passed_by : {size : ℕ} {p rows words rows' words' : List ℕ} {u : Used} {E : ℕ → ℕ → Type 0} {f : Spot → ℕ} {c : ℕ} {ok : Bool} {v : Used}
+    → RunsPassed ok v size p rows words u E f c rows' words' → (G : ℕ → ℕ → Type 0) → ((b row : ℕ) → E b row → G b row) → ((b row : ℕ) → G b row → E b row)
+    → (g : Spot → ℕ) → ((x : Spot) → g x ≡ f x) → (d : ℕ) → d ≡ c → RunsPassed ok v size p rows words u G g d rows' words'
 passed_by a G x y g h d e =
     record { passed = pass_by a.passed (λ w. x w.byte w.row) (λ w. y w.byte w.row) g h; counted = λ s. omega (arith, a.counted s) }
 
@@ -202,9 +213,9 @@ pub run_small : (p : List ℕ) (b row : ℕ) (x : Place) → Below p b row x →
 run_small p b row x h =
     elim (dec_lt 0 x.1) [ yes l ↦ let y = (h (x.1 - 1) (omega arith)).0 in omega arith | no l ↦ omega arith ]
 
-pub run_few : {size : ℕ} {p rows words rows' words' : List ℕ} {u : Used} {r : Step} (x : Place)
-    → Markable size p rows words → RunPassed r size p rows words u x rows' words' → r.ok ≡ true → x.1 ≤ PIECE_ROWS
-run_few {size = size} {p = p} x k a t = omega (arith, run_small p size (length p / 2) x (a.passed.marked.decides.yes t).fits, k.few)
+pub run_few : {size : ℕ} {p rows words rows' words' : List ℕ} {u v : Used} (x : Place)
+    → Markable size p rows words → RunPassed (Some v) size p rows words u x rows' words' → x.1 ≤ PIECE_ROWS
+run_few {size = size} {p = p} x k a = omega (arith, run_small p size (length p / 2) x (a.passed.marked.decides.yes refl).fits, k.few)
 
 -- run k of row i: the first, and the second
 abbrev pub run_at : List ℕ → ℕ → ℕ → Place
@@ -222,10 +233,12 @@ unfolding both
 both_two f g f' g' (piece j) = omega arith
 both_two f g f' g' (byte b) = omega arith
 
-pub lists_passed : {size : ℕ} {p rows words rows' words' : List ℕ} {u : Used} {r : Step} (t : List ℕ) (i : ℕ)
-    → RunsPassed r size p rows words u (λ b row. (k : ℕ) → k < 2 → Below p b row (run_at t i k))
-    (λ x. sum_to (λ k. both (among (run_at t i k)) (λ b. run_uses p b (run_at t i k)) x) 2) (sum_to (λ k. (run_at t i k).1) 2) rows' words'
-    → ListsPassed r size p rows words u (entry_at t i) rows' words'
-lists_passed {p = p} t i a =
-    passed_by a _ (λ b row h. (h 0 (omega arith), h 1 (omega arith))) (λ b row h. two (λ k. Below p b row (run_at t i k)) h.0 h.1) _
-    (both_two (among (run_at t i 0)) (λ b. run_uses p b (run_at t i 0)) (among (run_at t i 1)) (λ b. run_uses p b (run_at t i 1))) _ (omega arith)
+module _ {size : ℕ} {p rows words rows' words' : List ℕ} {u : Used} (t : List ℕ) (i : ℕ) where
+  pub lists_passed : {ok : Bool} {v : Used}
+      → RunsPassed ok v size p rows words u (λ b row. (k : ℕ) → k < 2 → Below p b row (run_at t i k))
+      (λ x. sum_to (λ k. both (among (run_at t i k)) (λ b. run_uses p b (run_at t i k)) x) 2) (sum_to (λ k. (run_at t i k).1) 2) rows' words'
+      → RunsPassed ok v size p rows words u (λ b row. Below p b row (entry_at t i).intro × Below p b row (entry_at t i).outro)
+      (both (λ j. piece_uses j (entry_at t i)) (λ b. list_uses p b (entry_at t i))) (entry_piece_count (entry_at t i)) rows' words'
+  lists_passed a =
+      passed_by a _ (λ b row h. (h 0 (omega arith), h 1 (omega arith))) (λ b row h. two (λ k. Below p b row (run_at t i k)) h.0 h.1) _
+      (both_two (among (run_at t i 0)) (λ b. run_uses p b (run_at t i 0)) (among (run_at t i 1)) (λ b. run_uses p b (run_at t i 1))) _ (omega arith)

@@ -9,14 +9,7 @@ ghost use Rattle.check_runs_apart.specs.Runs.{Markable, RunPassed, ListsPassed};
 
 use memory_used::Used;
 
-// Whether runs and their texts lie inside the tables and apart from those before; and what all of them use.
-#[derive(Clone, Copy)]
-pub struct Step {
-    pub ok: bool,
-    pub used: Used,
-}
-
-// Marks a run that is not empty, and its texts.
+// Marks a run that is not empty, and its texts: what it uses, and those before. None if they do not lie inside the tables and apart from those before.
 fn mark_some(
     pieces: &[u32],
     rows: &mut [u8],
@@ -25,23 +18,20 @@ fn mark_some(
     at: usize,
     n: usize,
     used: Used,
-) -> Step
+) -> Option<Used>
     requires markable { Markable size pieces.now rows.old marks.old }
     requires n_nonzero { (0 < n) × (used.pieces ≤ 0x2000_0000_0000) }
     ensures { RunPassed result size pieces.now rows.old marks.old used (at, n) rows.new marks.new }
 {
-    if check_marks::mark(rows, at, n) {
-        let top = check_text_marks::mark_texts(pieces, marks, size, at, n, used.byte);
-        return Step {
-            ok: top.ok,
-            used: Used {
-                pieces: used.pieces + n,
-                row: check_marks::larger(used.row, at + n),
-                byte: top.byte,
-            },
-        };
+    if !check_marks::mark(rows, at, n) {
+        return None;
     }
-    Step { ok: false, used }
+    let byte = check_text_marks::mark_texts(pieces, marks, size, at, n, used.byte)?;
+    Some(Used {
+        pieces: used.pieces + n,
+        row: used.row.max(at + n),
+        byte,
+    })
 }
 
 // Marks the run whose place stands at word k of row i, and its texts.
@@ -54,18 +44,18 @@ fn mark_run(
     marks: &mut [u64],
     size: usize,
     used: Used,
-) -> Step
+) -> Option<Used>
     requires i_in_bounds { (i * ROW + ROW ≤ length t.now) × (k < 11) }
     requires markable { Markable size pieces.now rows.old marks.old }
     requires pieces_bound { used.pieces ≤ 0x2000_0000_0000 }
     ensures { RunPassed result size pieces.now rows.old marks.old used (place_at t.now i k)
         rows.new marks.new }
 {
-    let n = check_marks::word(t, i, k + 1);
+    let n = check_spans::word(t, i, k + 1) as usize;
     if n == 0 {
-        return Step { ok: true, used };
+        return Some(used);
     }
-    let at = check_marks::word(t, i, k);
+    let at = check_spans::word(t, i, k) as usize;
     mark_some(pieces, rows, marks, size, at, n, used)
 }
 
@@ -78,47 +68,17 @@ pub fn mark_lists(
     marks: &mut [u64],
     size: usize,
     used: Used,
-) -> Step
+) -> Option<Used>
     requires i_in_bounds { i * ROW + ROW ≤ length t.now }
     requires markable { Markable size pieces.now rows.old marks.old }
     requires pieces_bound { used.pieces ≤ 0x1000_0000_0000 }
     ensures { ListsPassed result size pieces.now rows.old marks.old used (entry_at t.now i)
         rows.new marks.new }
 {
-    let mut count = used.pieces;
-    let mut row = used.row;
-    let mut byte = used.byte;
-    let mut k = 0;
-    while k < 2 {
-        let a = mark_run(
-            t,
-            i,
-            memory_layout::INTRO_AT + k * 2,
-            pieces,
-            rows,
-            marks,
-            size,
-            Used {
-                pieces: count,
-                row,
-                byte,
-            },
-        );
-        if a.ok {
-            count = a.used.pieces;
-            row = a.used.row;
-            byte = a.used.byte;
-            k += 1;
-        } else {
-            return a;
-        }
+    let mut all = used;
+    for k in 0..2 {
+        let word = memory_layout::INTRO_AT + k * 2;
+        all = mark_run(t, i, word, pieces, rows, marks, size, all)?;
     }
-    Step {
-        ok: true,
-        used: Used {
-            pieces: count,
-            row,
-            byte,
-        },
-    }
+    Some(all)
 }

@@ -17,12 +17,12 @@ pub fn start(t: &[u32], i: u32) -> usize
     requires { i * ROW + ROW ≤ length t.now }
     ensures { result ≡ start_of t.now i }
 {
-    memory_layout::wide(t[i as usize * memory_layout::ROW])
+    word(t, i, memory_layout::START) as usize
 }
 
 pub fn end(t: &[u32], i: u32) -> usize
     requires { i * ROW + ROW ≤ length t.now }
     ensures { result ≡ end_of t.now i }
 {
-    memory_layout::wide(t[i as usize * memory_layout::ROW + memory_layout::END])
+    word(t, i, memory_layout::END) as usize
 }

@@ -1,9 +1,8 @@
 -- What marking texts of the store promises.
-use Rattle.std.specs.Prelude.{List, ℕ, ◌+◌, ◌*◌, ◌≤◌, ◌<◌, length}
+use Rattle.std.specs.Prelude.{Option, List, ℕ, ◌+◌, ◌*◌, ◌≤◌, ◌<◌, length}
 use Rattle.memory.specs.Layout.{Place, piece_at}
-use Rattle.check_marks.specs.Marks.{Passed}
+use Rattle.check_marks.specs.Marks.{Passed, Answered}
 use Rattle.check_bit_marks.specs.BitMarks.{bit_at}
-use Rattle.check_text_marks.specs.declared.Top.{Top}
 
 -- words with a mark for each byte of a store of this size
 pub record Enough (size : ℕ) (words : List ℕ) : Type 0 where
@@ -15,5 +14,5 @@ abbrev pub RunEnds : List ℕ → Place → ℕ → Type 0
 RunEnds p r byte = (k : ℕ) → k < r.1 → (piece_at p (r.0 + k)).0 + (piece_at p (r.0 + k)).1 ≤ byte
 
 -- texts that lie inside the store, as E says of its size, are marked as often as f says; and the byte behind them all
-abbrev pub TextsPassed : Top → ℕ → List ℕ → ℕ → (ℕ → Type 0) → (ℕ → ℕ) → List ℕ → Type 0
-TextsPassed r size words byte E f words' = Passed r.ok ◌≤◌ size (bit_at words) byte E f (bit_at words') r.byte
+abbrev pub TextsPassed : Option ℕ → ℕ → List ℕ → ℕ → (ℕ → Type 0) → (ℕ → ℕ) → List ℕ → Type 0
+TextsPassed r size words byte E f words' = Answered (λ ok top. Passed ok ◌≤◌ size (bit_at words) byte E f (bit_at words') top) byte r

@@ -6,42 +6,37 @@ ghost use Rattle.memory.specs.Layout.{piece_at};
 ghost use Rattle.memory.specs.WellFormed.{among, run_uses};
 ghost use Rattle.check_text_marks.specs.Texts.{Enough, RunEnds, TextsPassed};
 
-// Whether texts lie inside the store and apart from those before; and the byte behind them all.
-#[derive(Clone, Copy)]
-pub struct Top {
-    pub ok: bool,
-    pub byte: usize,
-}
-
-// Marks one text of a store of `size` bytes.
-pub fn mark_text(marks: &mut [u64], size: usize, at: usize, n: usize, byte: usize) -> Top
+// Marks one text of a store of `size` bytes: the byte behind it and behind those before. None if it does not lie inside the store and apart from those before.
+pub fn mark_text(marks: &mut [u64], size: usize, at: usize, n: usize, byte: usize) -> Option<usize>
     requires enough { Enough size marks.old }
     requires at_bound { (at < 4294967296) × (n < 4294967296) }
     ensures { TextsPassed result size marks.old byte (λ w. at + n ≤ w) (among (at, n)) marks.new }
 {
     let end = at + n;
     if end > size {
-        return Top { ok: false, byte };
+        return None;
     }
-    if check_bit_marks::mark_range(marks, at, n) {
-        return Top {
-            ok: true,
-            byte: check_marks::larger(byte, end),
-        };
+    if !check_bit_marks::mark_range(marks, at, n) {
+        return None;
     }
-    Top { ok: false, byte }
+    Some(byte.max(end))
 }
 
 // Marks the text of one row of the piece table.
-fn mark_piece(pieces: &[u32], marks: &mut [u64], size: usize, row: usize, byte: usize) -> Top
+fn mark_piece(
+    pieces: &[u32],
+    marks: &mut [u64],
+    size: usize,
+    row: usize,
+    byte: usize,
+) -> Option<usize>
     requires row_in_bounds { row * 2 + 2 ≤ length pieces.now }
     requires enough { Enough size marks.old }
     ensures { TextsPassed result size marks.old byte (λ w. (piece_at pieces.now row).0 + (piece_at pieces.now row).1 ≤ w)
         (among (piece_at pieces.now row)) marks.new }
 {
     let q = memory_table::piece_at(pieces, row);
-    let at = memory_layout::wide(q.at);
-    mark_text(marks, size, at, memory_layout::wide(q.n), byte)
+    mark_text(marks, size, q.at as usize, q.n as usize, byte)
 }
 
 // Marks the texts of n rows from at on.
@@ -52,25 +47,15 @@ pub fn mark_texts(
     at: usize,
     n: usize,
     byte: usize,
-) -> Top
+) -> Option<usize>
     requires n_in_bounds { (at + n) * 2 ≤ length pieces.now }
     requires enough { Enough size marks.old }
     ensures { TextsPassed result size marks.old byte (RunEnds pieces.now (at, n))
         (λ b. run_uses pieces.now b (at, n)) marks.new }
 {
     let mut top = byte;
-    let mut i = 0;
-    while i < n {
-        let r = mark_piece(pieces, marks, size, at + i, top);
-        if r.ok {
-            top = r.byte;
-            i += 1;
-        } else {
-            return Top { ok: false, byte };
-        }
+    for i in 0..n {
+        top = mark_piece(pieces, marks, size, at + i, top)?;
     }
-    Top {
-        ok: true,
-        byte: top,
-    }
+    Some(top)
 }

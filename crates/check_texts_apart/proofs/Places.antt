@@ -1,6 +1,7 @@
 -- A pass over the rows: a replacement, a row, rows one after another; and what it decides on marks that are clear.
 use mathlib.Core.Path.{◌≡◌, refl, sym, ap, subst, ◌∙◌}
-use mathlib.Core.Bool.{Bool, true, false}
+use Rattle.std.specs.Prelude.{Option, Some, None}
+use mathlib.Core.Bool.{Bool, true}
 use mathlib.Core.List.{List}
 use Prim.Native.Nat.{ℕ, zero, suc, ◌+◌, ◌/◌, ◌≤◌, ◌<◌}
 use native.Mathlib.Omega.{arith}
@@ -17,13 +18,11 @@ use Rattle.memory_used.specs.declared.Used.{Used}
 use Rattle.memory_used.specs.Below.{EntryBelow}
 use Rattle.check_marks.specs.Marks.{cell, entry_piece_count, mark_at, Bits, Passed}
 use Rattle.check_marks.proofs.Marking.{then_bits}
-use Rattle.check_marks.proofs.Passing.{pass_none, pass_on, pass_no, pass_by}
+use Rattle.check_marks.proofs.Passing.{stopped_as, pass_none, pass_on, pass_no, pass_by}
 use Rattle.check_bit_marks.specs.BitMarks.{bit_at}
 use Rattle.check_bit_marks.proofs.Marking.{marks_clear}
-use Rattle.check_text_marks.specs.declared.Top.{Top}
 use Rattle.check_text_marks.specs.Texts.{TextsPassed}
-use Rattle.check_runs_apart.specs.declared.Step.{Step}
-use Rattle.check_runs_apart.specs.Runs.{Spot, piece, byte, both, Markable, sizes, ListsPassed}
+use Rattle.check_runs_apart.specs.Runs.{Spot, piece, byte, both, Markable, Lower, sizes, ListsPassed}
 use Rattle.check_runs_apart.proofs.Runs.{none, rows_bits, lift_texts, run_small, StepsTo}
 use Rattle.check_texts_apart.specs.Places.{RowsBelow, Apart, Places, nothing, TextBelow, text_start, entry_of_row, EntryPassed, RowsPassed}
 
@@ -32,10 +31,15 @@ pub replacement_none : {size top : ℕ} {m : ℕ → ℕ} (at n : ℕ) → Bits 
 unfolding replacement_uses
 replacement_none at n h e = pass_none h (λ w ne. absurd (ne e)) (λ b. rw (eq-eqb at NONE e))
 
-pub replacement_some : {r : Bool} {size top top' : ℕ} {m m' : ℕ → ℕ} (at n : ℕ) → (at ≡ NONE → ⊥) → Passed r ◌≤◌ size m top (λ w. at + n ≤ w) (among (at, n)) m' top'
+replacement_some : {r : Bool} {size top top' : ℕ} {m m' : ℕ → ℕ} (at n : ℕ) → (at ≡ NONE → ⊥) → Passed r ◌≤◌ size m top (λ w. at + n ≤ w) (among (at, n)) m' top'
     → Passed r ◌≤◌ size m top (TextBelow (at, n)) (λ b. replacement_uses b (at, n)) m' top'
 unfolding replacement_uses
 replacement_some at n ne a = pass_by a (λ w x y. x) (λ w x. x ne) _ (λ b. rw (ne_eqb at NONE ne))
+
+pub replacement_told : (size low : ℕ) (words words' : List ℕ) (at n : ℕ) → (at ≡ NONE → ⊥) → (r : Option ℕ)
+    → TextsPassed r size words low (λ w. at + n ≤ w) (among (at, n)) words' → TextsPassed r size words low (TextBelow (at, n)) (λ b. replacement_uses b (at, n)) words'
+replacement_told size low words words' at n ne (Some top) a = replacement_some at n ne a
+replacement_told size low words words' at n ne None a = replacement_some at n ne a
 
 -- ── a row ──
 both_texts : (f g h : ℕ → ℕ) (x : Spot) → both f (λ b. g b + h b) x ≡ both f g x + both none h x
@@ -43,30 +47,38 @@ unfolding both
 both_texts f g h (piece j) = omega arith
 both_texts f g h (byte b) = refl
 
-module _ {size : ℕ} {p rows words rows₁ words₁ : List ℕ} {u : Used} (e : Entry) {r : Step} (a : ListsPassed r size p rows words u e rows₁ words₁) where
-  pub entry_yes : r.ok ≡ true → (words₂ : List ℕ) (top : Top) → TextsPassed top size words₁ r.used.byte (TextBelow e.text) (λ b. replacement_uses b e.text) words₂
-      → EntryPassed (record { ok = top.ok; used = record { pieces = r.used.pieces; row = r.used.row; byte = top.byte } }) size p rows words u e rows₁ words₂
-  entry_yes t words₂ top x =
-      let bits = rows_bits (mark_at rows₁) (bit_at words₁) (then_bits a.passed.marked t) in
-      let y = pass_on a.passed t (lift_texts size p r.used (mark_at rows₁) r.used.pieces bits x) in
+module _ {size : ℕ} {p rows words rows₁ words₁ : List ℕ} {u : Used} (e : Entry) where
+  module _ {v : Used} (a : ListsPassed (Some v) size p rows words u e rows₁ words₁) where
+    -- a replacement after two runs that lie so
+    texts_on : {q : Bool} {top : ℕ} (words₂ : List ℕ) → Passed q ◌≤◌ size (bit_at words₁) v.byte (TextBelow e.text) (λ b. replacement_uses b e.text) (bit_at words₂) top
+        → Passed q Lower (sizes size p) (both (mark_at rows) (bit_at words)) u (λ w. EntryBelow p w.byte w.row e) (both (λ j. piece_uses j e) (λ b. byte_uses p b e))
+        (both (mark_at rows₁) (bit_at words₂)) (record { pieces = v.pieces; row = v.row; byte = top })
+    texts_on words₂ x =
+        let bits = rows_bits (mark_at rows₁) (bit_at words₁) (then_bits a.passed.marked refl) in
+        let y = pass_on a.passed refl (lift_texts size p v (mark_at rows₁) v.pieces bits x) in
+        pass_by y (λ w z. record { intro = z.0.0; outro = z.0.1; text = z.1 }) (λ w z. ((z.intro, z.outro), z.text)) _ (both_texts _ _ _)
+
+    pub entry_yes : (words₂ : List ℕ) {top : ℕ} → TextsPassed (Some top) size words₁ v.byte (TextBelow e.text) (λ b. replacement_uses b e.text) words₂
+        → EntryPassed (Some (record { pieces = v.pieces; row = v.row; byte = top })) size p rows words u e rows₁ words₂
+    entry_yes words₂ x = record { passed = texts_on words₂ x; counted = λ s. a.counted refl }
+
+    pub entry_stop : (words₂ : List ℕ) → TextsPassed None size words₁ v.byte (TextBelow e.text) (λ b. replacement_uses b e.text) words₂
+        → EntryPassed None size p rows words u e rows₁ words₂
+    entry_stop words₂ x = record { passed = stopped_as (texts_on words₂ x); counted = λ t. not_both t }
+
+  pub entry_no : ListsPassed None size p rows words u e rows₁ words₁ → (rows₂ words₂ : List ℕ) → EntryPassed None size p rows words u e rows₂ words₂
+  entry_no a rows₂ words₂ =
+      let y = pass_no a.passed (λ w. TextBelow e.text w.byte) (both none (λ b. replacement_uses b e.text)) refl in
       record {
         passed = pass_by y (λ w z. record { intro = z.0.0; outro = z.0.1; text = z.1 }) (λ w z. ((z.intro, z.outro), z.text)) _ (both_texts _ _ _);
-        counted = λ s. a.counted t;
-      }
-
-  pub entry_no : r.ok ≡ false → (rows₂ words₂ : List ℕ) → EntryPassed r size p rows words u e rows₂ words₂
-  entry_no f rows₂ words₂ =
-      let y = pass_no a.passed (λ w. TextBelow e.text w.byte) (both none (λ b. replacement_uses b e.text)) f in
-      record {
-        passed = rw f (pass_by y (λ w z. record { intro = z.0.0; outro = z.0.1; text = z.1 }) (λ w z. ((z.intro, z.outro), z.text)) _ (both_texts _ _ _));
-        counted = λ t. not_both (sym f ∙ t);
+        counted = λ t. not_both t;
       }
 
 -- a row inside the tables has no more than 4,096 pieces
-pub entry_few : {size : ℕ} {p rows words rows' words' : List ℕ} {u : Used} {r : Step} (e : Entry)
-    → Markable size p rows words → EntryPassed r size p rows words u e rows' words' → r.ok ≡ true → entry_piece_count e ≤ PIECES_LEN
-entry_few {size = size} {p = p} e k a t =
-    let f = (a.passed.marked.decides.yes t).fits in
+pub entry_few : {size : ℕ} {p rows words rows' words' : List ℕ} {u v : Used} (e : Entry)
+    → Markable size p rows words → EntryPassed (Some v) size p rows words u e rows' words' → entry_piece_count e ≤ PIECES_LEN
+entry_few {size = size} {p = p} e k a =
+    let f = (a.passed.marked.decides.yes refl).fits in
     omega (arith, run_small p size (length p / 2) e.intro f.intro, run_small p size (length p / 2) e.outro f.outro, k.few)
 
 -- ── rows one after another ──
@@ -130,30 +142,24 @@ unfolding both
 clear_at rows words clear (piece j) = clear.0 j
 clear_at rows words clear (byte b) = clear.1 b
 
-module _ (size : ℕ) (t p : List ℕ) {rows words rows' words' : List ℕ} (n : ℕ) {r : Step} (clear : ((j : ℕ) → mark_at rows j ≡ 0) × ((b : ℕ) → bit_at words b ≡ 0))
-    (a : RowsPassed r size t p rows words (n + 1) nothing rows' words') where
-  pub places_decided : Places r t p n size
-  places_decided =
-      record {
-        decides = record {
-          yes = λ s.
-              let f = a.passed.marked.decides.yes s in
-              record { below = below_rows t p n size (length p / 2) f.fits; apart = rows_apart t p n (λ x. omega (arith, f.free x)) };
-          no = λ s q.
-              a.passed.marked.decides.no s
-              (record { fits = rows_below t p n size (length p / 2) q.below; free = λ x. omega (arith, apart_rows t p n q.apart x, clear_at rows words clear x) });
-        };
-        counted = λ s.
-            let up = a.passed.raised s in
-            let x = (up.above r.used (omega arith, omega arith)).1 in
-            let y = up.least (sizes size p) (omega arith, omega arith) (a.passed.marked.decides.yes s).fits in
-            record {
-              pieces = omega (arith, a.counted s, rows_sum t entry_piece_count n);
-              below = below_rows t p n r.used.byte r.used.row x;
-              row = y.1;
-              byte = y.0;
-            };
-      }
+module _ (size : ℕ) (t p rows words rows' words' : List ℕ) (n : ℕ) (clear : ((j : ℕ) → mark_at rows j ≡ 0) × ((b : ℕ) → bit_at words b ≡ 0)) where
+  pub places_decided : (r : Option Used) → RowsPassed r size t p rows words (n + 1) nothing rows' words' → Places r t p n size
+  places_decided (Some u) a =
+      let f = a.passed.marked.decides.yes refl in
+      let up = a.passed.raised refl in
+      let x = (up.above u (omega arith, omega arith)).1 in
+      let y = up.least (sizes size p) (omega arith, omega arith) f.fits in (
+        record { below = below_rows t p n size (length p / 2) f.fits; apart = rows_apart t p n (λ x. omega (arith, f.free x)) },
+        record {
+          pieces = omega (arith, a.counted refl, rows_sum t entry_piece_count n);
+          below = below_rows t p n u.byte u.row x;
+          row = y.1;
+          byte = y.0;
+        },
+      )
+  places_decided None a = λ q.
+      a.passed.marked.decides.no refl
+      (record { fits = rows_below t p n size (length p / 2) q.below; free = λ x. omega (arith, apart_rows t p n q.apart x, clear_at rows words clear x) })
 
 -- marks of their own: clear, and one for each piece row and each byte
 pub fresh_marks : {size : ℕ} {p : List ℕ} (k : ℕ) → length p ≤ PIECES_LEN → size ≤ STORE_LEN → k ≡ length p / 2 → Markable size p (take k (replicate PIECE_ROWS 0)) (replicate STORE_MARKS 0)

@@ -1,14 +1,13 @@
 -- The runs and texts of a chunk table by row number, row 0 and rows 1 to n: they lie inside the tables, no piece row belongs to two runs and no byte to two texts.
-use Rattle.std.specs.Prelude.{◌≡◌, true, cond, List, ℕ, ◌+◌, ◌/◌, ◌≤◌, ◌<◌, eqb, length}
+use Rattle.std.specs.Prelude.{◌≡◌, cond, Option, Some, None, List, ℕ, ◌+◌, ◌/◌, ◌≤◌, ◌<◌, eqb, length}
 use Rattle.memory_layout.specs.Layout.{TEXT_AT, TEXT_N, NONE}
 use Rattle.memory_table.specs.Order.{Entry, entry_at}
 use Rattle.memory.specs.Layout.{Place}
 use Rattle.memory.specs.WellFormed.{piece_uses, list_uses, byte_uses}
-use Rattle.memory_counting.specs.Counts.{Decides, sum_to}
+use Rattle.memory_counting.specs.Counts.{sum_to}
 use Rattle.memory_used.specs.declared.Used.{Used}
 use Rattle.memory_used.specs.Below.{Below, EntryBelow}
-use Rattle.check_marks.specs.Marks.{cell, entry_piece_count, piece_total}
-use Rattle.check_runs_apart.specs.declared.Step.{Step}
+use Rattle.check_marks.specs.Marks.{cell, Answered, entry_piece_count, piece_total}
 use Rattle.check_runs_apart.specs.Runs.{both, RunsPassed}
 
 -- all of them lie below a row of the piece table and a byte of the store. Row 0 has no replacement
@@ -36,10 +35,10 @@ pub record Counted (t p : List ℕ) (n size : ℕ) (u : Used) : Type 0 where
 abbrev pub nothing : Used
 nothing = record { pieces = 0; row = 0; byte = 0 }
 
--- whether they are placed so, and what they use
-pub record Places (r : Step) (t p : List ℕ) (n size : ℕ) : Type 0 where
-  pub decides : Decides r.ok (Placed t p n size)
-  pub counted : r.ok ≡ true → Counted t p n size r.used
+-- what they use if they are placed so, or none
+abbrev pub Places : Option Used → List ℕ → List ℕ → ℕ → ℕ → Type 0
+Places (Some u) t p n size = Placed t p n size × Counted t p n size u
+Places None t p n size = Placed t p n size → ⊥
 
 -- ── on the way ──
 -- a replacement, if there is one, ends at or before a byte
@@ -62,12 +61,14 @@ entry_of_row t i =
       text = (text_start t i, cell t i TEXT_N);
     }
 
--- one row, and the first n
-abbrev pub EntryPassed : Step → ℕ → List ℕ → List ℕ → List ℕ → Used → Entry → List ℕ → List ℕ → Type 0
+-- one row, and the first n: what they use, or none
+abbrev pub EntryPassed : Option Used → ℕ → List ℕ → List ℕ → List ℕ → Used → Entry → List ℕ → List ℕ → Type 0
 EntryPassed r size p rows words u e rows' words' =
-    RunsPassed r size p rows words u (λ byte row. EntryBelow p byte row e) (both (λ j. piece_uses j e) (λ b. byte_uses p b e)) (entry_piece_count e) rows' words'
+    Answered
+    (λ ok v. RunsPassed ok v size p rows words u (λ byte row. EntryBelow p byte row e) (both (λ j. piece_uses j e) (λ b. byte_uses p b e)) (entry_piece_count e) rows' words') u r
 
-abbrev pub RowsPassed : Step → ℕ → List ℕ → List ℕ → List ℕ → List ℕ → ℕ → Used → List ℕ → List ℕ → Type 0
+abbrev pub RowsPassed : Option Used → ℕ → List ℕ → List ℕ → List ℕ → List ℕ → ℕ → Used → List ℕ → List ℕ → Type 0
 RowsPassed r size t p rows words n u rows' words' =
-    RunsPassed r size p rows words u (λ byte row. (i : ℕ) → i < n → EntryBelow p byte row (entry_of_row t i))
-    (λ x. sum_to (λ i. both (λ j. piece_uses j (entry_of_row t i)) (λ b. byte_uses p b (entry_of_row t i)) x) n) (sum_to (λ i. entry_piece_count (entry_of_row t i)) n) rows' words'
+    Answered
+    (λ ok v. RunsPassed ok v size p rows words u (λ byte row. (i : ℕ) → i < n → EntryBelow p byte row (entry_of_row t i))
+    (λ x. sum_to (λ i. both (λ j. piece_uses j (entry_of_row t i)) (λ b. byte_uses p b (entry_of_row t i)) x) n) (sum_to (λ i. entry_piece_count (entry_of_row t i)) n) rows' words') u r

@@ -1,6 +1,6 @@
 -- Texts of ASCII are UTF-8, and what is told text by text.
 use mathlib.Core.Path.{◌≡◌, sym, ap₂, ◌∙◌}
-use mathlib.Core.Bool.{Bool, true, false}
+use mathlib.Core.Bool.{Bool, true}
 use mathlib.Core.List.{List}
 use Prim.Native.Nat.{ℕ, ◌+◌, ◌*◌, ◌≤◌, ◌<◌}
 use native.Mathlib.Omega.{arith}
@@ -11,18 +11,18 @@ use lib.Seq.{length-take-le, get_or-take, get_or-drop}
 use Rattle.utf8.specs.Rfc3629.{utf8}
 use Rattle.utf8.specs.Chars.{All}
 use Rattle.utf8.proofs.Between.{ascii_each, or_left, or_right}
-use Rattle.memory_table.specs.Order.{Entry, entry_at}
-use Rattle.model.specs.WellFormed.{Valid, ValidReplacement, ValidTexts}
+use Rattle.memory_table.specs.Order.{entry_at}
+use Rattle.model.specs.WellFormed.{Valid, ValidReplacement}
 use Rattle.memory_layout.specs.Layout.{NONE}
-use Rattle.memory.specs.Layout.{Place, bytes_at, piece_at, run_of, replacement_of, texts_of}
+use Rattle.memory.specs.Layout.{Place, bytes_at, piece_at, run_of, replacement_of}
 use Rattle.memory.specs.WellFormed.{PieceIn, RunIn, ReplacementIn, RunsIn, EntryIn}
 use Rattle.memory.proofs.Desks.{all_tabulate, tabulate_all, none_text, some_text}
 use Rattle.memory_counting.specs.Counts.{Decides}
-use Rattle.memory_counting.proofs.Sums.{is_yes, is_no, decides_by, told}
+use Rattle.memory_counting.proofs.Sums.{is_yes, told}
 use Rattle.memory_used.specs.Below.{Below}
 use Rattle.memory_used.proofs.Below.{run_inside, entry_inside}
 use Rattle.check_texts_apart.specs.Places.{RowsBelow}
-use Rattle.check_texts_valid.specs.Valid.{ListsValid, TextsValid}
+use Rattle.check_texts_valid.specs.Valid.{TextsValid}
 
 -- ── joined bits ──
 pub or_more : (s : List ℕ) (j x : ℕ) → ((k : ℕ) → k < j → get_or s k 0 ≤ x) → (k : ℕ) → k < j + 1 → get_or s k 0 ≤ bit_or x (get_or s j 0)
@@ -94,23 +94,6 @@ module _ (s : List ℕ) (x : Place) {at : ℕ} (ea : at ≡ x.0) where
   pub replacement_some : {r : Bool} {n : ℕ} → n ≡ x.1 → (at ≡ NONE → ⊥) → r ≡ utf8 (bytes_at s (at, n)) → Decides r (ValidReplacement (replacement_of s x))
   replacement_some {r} {n} en ne e =
       rw (some_text s x (λ q. ne (ea ∙ q))) (told r (utf8 (bytes_at s x)) (e ∙ ap₂ (λ (a k : ℕ). utf8 (bytes_at s (a, k))) ea en))
-
-module _ {r : Bool} (p s : List ℕ) (e : Entry) where
-  pub lists_yes : {q : Bool} → Decides r (All Valid (run_of p s e.intro)) → r ≡ true → Decides q (All Valid (run_of p s e.outro)) → Decides q (ListsValid p s e)
-  lists_yes a t b = decides_by (λ y. record { intro = a.yes t; outro = y }) (λ x. x.outro) b
-
-  pub lists_no : Decides r (All Valid (run_of p s e.intro)) → r ≡ false → Decides false (ListsValid p s e)
-  lists_no a f = is_no (λ x. a.no f x.intro)
-
-  pub entry_yes : {q : Bool} → Decides r (ListsValid p s e) → r ≡ true → Decides q (ValidReplacement (replacement_of s e.text)) → Decides q (ValidTexts (texts_of p s e))
-  entry_yes a t b = let x = a.yes t in decides_by (λ y. record { intro = x.intro; outro = x.outro; replacement = y }) (λ y. y.replacement) b
-
-  pub entry_no : Decides r (ListsValid p s e) → r ≡ false → Decides false (ValidTexts (texts_of p s e))
-  entry_no a f = is_no (λ x. a.no f (record { intro = x.intro; outro = x.outro }))
-
-pub all_yes : {r q : Bool} {t p s : List ℕ} {n : ℕ} → Decides r (ListsValid p s (entry_at t 0)) → r ≡ true
-    → Decides q ((k : ℕ) → k < n → ValidTexts (texts_of p s (entry_at t (k + 1)))) → Decides q (TextsValid t p s n)
-all_yes a e b = decides_by (λ y. record { desk = a.yes e; chunks = y }) (λ x. x.chunks) b
 
 -- ── what lies below a row and a byte can be read ──
 module _ (t p s : List ℕ) (n byte row : ℕ) (hr : row * 2 ≤ length p) (hb : byte ≤ length s) (b : RowsBelow t p n byte row) where

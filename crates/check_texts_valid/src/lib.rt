@@ -16,15 +16,13 @@ ghost use Rattle.check_texts_valid.specs.Valid.{ListsValid, TextsValid};
 
 use memory_used::Used;
 
-// The bits of all bytes, joined: at least as large as each of them.
+// The bits of all bytes, joined: at least as large as each of them. (utf8 has its own of 32 bytes at a place, private there.)
 fn joined_bits(s: &[u8]) -> u8
     ensures { (j : ℕ) → j < length s.now → get_or s.now j 0 ≤ result }
 {
     let mut bits: u8 = 0;
-    let mut i = 0;
-    while i < s.len() {
-        bits |= s[i];
-        i += 1;
+    for b in s {
+        bits |= *b;
     }
     bits
 }
@@ -33,10 +31,7 @@ fn joined_bits(s: &[u8]) -> u8
 fn text_valid(s: &[u8]) -> bool
     ensures { result ≡ isText s.now }
 {
-    if joined_bits(s) < 0x80 {
-        return true;
-    }
-    utf8::valid(s)
+    joined_bits(s) < 0x80 || utf8::valid(s)
 }
 
 // Whether n bytes of the store from at on are UTF-8.
@@ -60,11 +55,8 @@ fn rows_valid(pieces: &[u32], store: &[u8], at: usize, n: usize) -> bool
     requires { RunIn pieces.now store.now (at, n) }
     ensures { Decides result (All Valid (run_of pieces.now store.now (at, n))) }
 {
-    let mut i = 0;
-    while i < n {
-        if piece_valid(pieces, store, at + i) {
-            i += 1;
-        } else {
+    for i in 0..n {
+        if !piece_valid(pieces, store, at + i) {
             return false;
         }
     }
@@ -77,8 +69,8 @@ fn run_valid(t: &[u32], i: u32, k: usize, pieces: &[u32], store: &[u8]) -> bool
     requires run_in { RunIn pieces.now store.now (place_at t.now i k) }
     ensures { Decides result (All Valid (run_of pieces.now store.now (place_at t.now i k))) }
 {
-    let at = check_marks::word(t, i, k);
-    let n = check_marks::word(t, i, k + 1);
+    let at = check_spans::word(t, i, k) as usize;
+    let n = check_spans::word(t, i, k + 1) as usize;
     rows_valid(pieces, store, at, n)
 }
 
@@ -88,10 +80,8 @@ fn lists_valid(t: &[u32], i: u32, pieces: &[u32], store: &[u8]) -> bool
     requires runs_in { RunsIn pieces.now store.now (entry_at t.now i) }
     ensures { Decides result (ListsValid pieces.now store.now (entry_at t.now i)) }
 {
-    if run_valid(t, i, memory_layout::INTRO_AT, pieces, store) {
-        return run_valid(t, i, memory_layout::OUTRO_AT, pieces, store);
-    }
-    false
+    run_valid(t, i, memory_layout::INTRO_AT, pieces, store)
+        && run_valid(t, i, memory_layout::OUTRO_AT, pieces, store)
 }
 
 // Whether the replacement of row i is UTF-8, if it has one.
@@ -100,11 +90,11 @@ fn replacement_valid(t: &[u32], i: u32, store: &[u8]) -> bool
     requires replacement_in { ReplacementIn store.now (place_at t.now i TEXT_AT) }
     ensures { Decides result (ValidReplacement (replacement_of store.now (place_at t.now i TEXT_AT))) }
 {
-    let at = check_marks::word(t, i, memory_layout::TEXT_AT);
+    let at = check_spans::word(t, i, memory_layout::TEXT_AT) as usize;
     if at == memory_layout::NONE_WIDE {
         return true;
     }
-    let n = check_marks::word(t, i, memory_layout::TEXT_N);
+    let n = check_spans::word(t, i, memory_layout::TEXT_N) as usize;
     part_valid(store, at, n)
 }
 
@@ -114,10 +104,7 @@ fn entry_valid(t: &[u32], i: u32, pieces: &[u32], store: &[u8]) -> bool
     requires entry_in { EntryIn pieces.now store.now (entry_at t.now i) }
     ensures { Decides result (ValidTexts (texts_of pieces.now store.now (entry_at t.now i))) }
 {
-    if lists_valid(t, i, pieces, store) {
-        return replacement_valid(t, i, store);
-    }
-    false
+    lists_valid(t, i, pieces, store) && replacement_valid(t, i, store)
 }
 
 // Whether all texts of rows 1 to n are UTF-8.
@@ -126,13 +113,10 @@ fn chunks_valid(t: &[u32], n: u32, pieces: &[u32], store: &[u8]) -> bool
     requires by_index { (k : ℕ) → k < n → EntryIn pieces.now store.now (entry_at t.now (k + 1)) }
     ensures { Decides result ((k : ℕ) → k < n → ValidTexts (texts_of pieces.now store.now (entry_at t.now (k + 1)))) }
 {
-    let mut k = 0;
-    while k < n {
-        k += 1;
-        if entry_valid(t, k, pieces, store) {
-            continue;
+    for k in 0..n {
+        if !entry_valid(t, k + 1, pieces, store) {
+            return false;
         }
-        return false;
     }
     true
 }
@@ -143,12 +127,8 @@ pub fn texts_valid(t: &[u32], n: u32, pieces: &[u32], store: &[u8], used: Used) 
     requires counted { Counted t.now pieces.now n (length store.now) used }
     ensures { Decides result (TextsValid t.now pieces.now store.now n) }
 {
-    let byte = used.byte;
-    if joined_bits(&store[..byte]) < 0x80 {
+    if joined_bits(&store[..used.byte]) < 0x80 {
         return true;
     }
-    if lists_valid(t, 0, pieces, store) {
-        return chunks_valid(t, n, pieces, store);
-    }
-    false
+    lists_valid(t, 0, pieces, store) && chunks_valid(t, n, pieces, store)
 }

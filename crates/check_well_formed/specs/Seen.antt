@@ -1,10 +1,9 @@
--- What the check answers: that there is no desk, or that there is one and what it uses.
-use Rattle.std.specs.Prelude.{List, ℕ}
+-- What the check answers: what the desk uses, or that there is none.
+use Rattle.std.specs.Prelude.{Option, Some, None, List, ℕ}
+use Rattle.memory_used.specs.declared.Used.{Used}
 use Rattle.memory_used.specs.Above.{Above}
-use Rattle.check_well_formed.specs.declared.Seen.{Seen}
-use Rattle.check_well_formed.specs.declared.Seen.TheVariants.{NoDesk, Desk}
 
 -- P says what was asked of the memory: a desk that is well formed, in tables of any size or of the full ones
-abbrev pub Sees : Type 0 → List ℕ → List ℕ → List ℕ → Seen → Type 0
-Sees P t p s NoDesk = P → ⊥
-Sees P t p s (Desk u) = P × Above t p s u
+abbrev pub Sees : Type 0 → List ℕ → List ℕ → List ℕ → Option Used → Type 0
+Sees P t p s None = P → ⊥
+Sees P t p s (Some u) = P × Above t p s u

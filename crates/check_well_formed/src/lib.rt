@@ -12,62 +12,32 @@ ghost use Rattle.check_well_formed.specs.Seen.{Sees};
 
 use memory_used::Used;
 
-// What the check has seen: no desk, or a desk and what it uses.
-#[derive(Clone, Copy)]
-pub enum Seen {
-    NoDesk,
-    Desk(Used),
-}
-
 // Whether the tables have whole rows, a chunk's at least, and are not longer than the full sizes.
 pub fn sized(chunks: &[u32], pieces: &[u32], store: &[u8]) -> bool
     ensures { Decides result (Sized chunks.now pieces.now store.now) }
 {
-    if chunks.len() % memory_layout::ROW != 0 {
-        return false;
-    }
-    if pieces.len() % memory_layout::PIECE != 0 {
-        return false;
-    }
-    if chunks.len() < memory_layout::CHUNKS_LEAST {
-        return false;
-    }
-    if chunks.len() > memory_layout::CHUNKS_LEN {
-        return false;
-    }
-    if pieces.len() > memory_layout::PIECES_LEN {
-        return false;
-    }
-    if store.len() > memory_layout::STORE_LEN {
-        return false;
-    }
-    true
+    chunks.len() % memory_layout::ROW == 0
+        && pieces.len() % memory_layout::PIECE == 0
+        && chunks.len() >= memory_layout::CHUNKS_LEAST
+        && chunks.len() <= memory_layout::CHUNKS_LEN
+        && pieces.len() <= memory_layout::PIECES_LEN
+        && store.len() <= memory_layout::STORE_LEN
 }
 
 // Whether the tables have the full sizes.
 pub fn full_size(chunks: &[u32], pieces: &[u32], store: &[u8]) -> bool
     ensures { Decides result (Full chunks.now pieces.now store.now) }
 {
-    if chunks.len() != memory_layout::CHUNKS_LEN {
-        return false;
-    }
-    if pieces.len() != memory_layout::PIECES_LEN {
-        return false;
-    }
-    if store.len() != memory_layout::STORE_LEN {
-        return false;
-    }
-    true
+    chunks.len() == memory_layout::CHUNKS_LEN
+        && pieces.len() == memory_layout::PIECES_LEN
+        && store.len() == memory_layout::STORE_LEN
 }
 
 // Whether the tables have sizes of a desk and the source is short enough.
 fn shaped(source: &[u8], chunks: &[u32], pieces: &[u32], store: &[u8]) -> bool
     ensures { Decides result (Shaped source.now chunks.now pieces.now store.now) }
 {
-    if source.len() > memory_layout::SOURCE_BYTES {
-        return false;
-    }
-    sized(chunks, pieces, store)
+    source.len() <= memory_layout::SOURCE_BYTES && sized(chunks, pieces, store)
 }
 
 // The count of chunks, the first word of row 0.
@@ -94,58 +64,52 @@ fn chunked(source: &[u8], chunks: &[u32]) -> bool
     check_links::listed(source, chunks, n)
 }
 
-// Whether runs and texts lie inside the tables and apart, are not too many and are UTF-8; and what they use.
-fn pieced(chunks: &[u32], pieces: &[u32], store: &[u8]) -> Seen
+// What the runs and texts use. None if they do not lie inside the tables and apart, are too many, or are not UTF-8.
+fn pieced(chunks: &[u32], pieces: &[u32], store: &[u8]) -> Option<Used>
     requires linked { Linked chunks.now }
     requires sized { Sized chunks.now pieces.now store.now }
     ensures { Sees (Pieced chunks.now pieces.now store.now)
         chunks.now pieces.now store.now result }
 {
     let n = count(chunks);
-    let a = check_texts_apart::places_apart(chunks, n, pieces, store.len());
-    let used = a.used;
-    if a.ok {
-        if used.pieces <= pieces.len() / memory_layout::PIECE_ROOM {
-            if check_texts_valid::texts_valid(chunks, n, pieces, store, used) {
-                return Seen::Desk(used);
-            }
-        }
+    let used = check_texts_apart::places_apart(chunks, n, pieces, store.len())?;
+    if used.pieces > pieces.len() / memory_layout::PIECE_ROOM {
+        return None;
     }
-    Seen::NoDesk
+    if !check_texts_valid::texts_valid(chunks, n, pieces, store, used) {
+        return None;
+    }
+    Some(used)
 }
 
-// Whether memory of any size up to the full one holds a well-formed desk, and what that uses.
-pub fn holds_desk(source: &[u8], chunks: &[u32], pieces: &[u32], store: &[u8]) -> Seen
+// What a well-formed desk in memory of any size up to the full one uses. None if there is none.
+pub fn holds_desk(source: &[u8], chunks: &[u32], pieces: &[u32], store: &[u8]) -> Option<Used>
     ensures { Sees (WellFormed source.now chunks.now pieces.now store.now)
         chunks.now pieces.now store.now result }
 {
-    if shaped(source, chunks, pieces, store) {
-        if utf8::valid(source) {
-            if chunked(source, chunks) {
-                return pieced(chunks, pieces, store);
-            }
-        }
+    if !shaped(source, chunks, pieces, store) || !utf8::valid(source) {
+        return None;
     }
-    Seen::NoDesk
+    if !chunked(source, chunks) {
+        return None;
+    }
+    pieced(chunks, pieces, store)
 }
 
-// The check of exported calls: a well-formed desk in tables of the full sizes, and what it uses.
-pub fn taken(source: &[u8], chunks: &[u32], pieces: &[u32], store: &[u8]) -> Seen
+// The check of exported calls: what a well-formed desk in tables of the full sizes uses. None if there is none.
+pub fn taken(source: &[u8], chunks: &[u32], pieces: &[u32], store: &[u8]) -> Option<Used>
     ensures { Sees (Taken source.now chunks.now pieces.now store.now)
         chunks.now pieces.now store.now result }
 {
-    if full_size(chunks, pieces, store) {
-        return holds_desk(source, chunks, pieces, store);
+    if !full_size(chunks, pieces, store) {
+        return None;
     }
-    Seen::NoDesk
+    holds_desk(source, chunks, pieces, store)
 }
 
 // The same for calls that need not know what the desk uses.
 pub fn well_formed(source: &[u8], chunks: &[u32], pieces: &[u32], store: &[u8]) -> bool
     ensures { Decides result (Taken source.now chunks.now pieces.now store.now) }
 {
-    let Seen::Desk(_) = taken(source, chunks, pieces, store) else {
-        return false;
-    };
-    true
+    taken(source, chunks, pieces, store).is_some()
 }

@@ -2,6 +2,7 @@
 #![tactic(auto)]
 
 ghost use Rattle.std.specs.Prelude.{◌<◌};
+ghost use Rattle.memory_layout.specs.Refusals.{number_of};
 ghost use Rattle.memory.specs.WellFormed.{WellFormed};
 ghost use Rattle.memory_used.specs.Above.{Above};
 ghost use Rattle.edit_scratch.specs.Tables.{Scratch};
@@ -28,7 +29,7 @@ fn change_range_by(
     requires a_lt_b { a < b }
     requires empty_at { EmptyAt change }
     ensures { RangeRan change a b source.now chunks.old pieces.old store.old
-        chunks.new pieces.new store.new result.number result.cuts
+        chunks.new pieces.new store.new (number_of result.status) result.cuts
         × Above chunks.new pieces.new store.new result.used }
 {
     edit_scratch::load(chunks, pieces, store, t, p, s);
@@ -50,25 +51,13 @@ pub fn change_range_scratch(
     requires a_lt_b { a < b }
     requires empty_at { EmptyAt change }
     ensures { RangeRan change a b source.now chunks.old pieces.old store.old
-        chunks.new pieces.new store.new result.number result.cuts
+        chunks.new pieces.new store.new (number_of result.status) result.cuts
         × Above chunks.new pieces.new store.new result.used }
 {
-    let rows = memory_layout::SCRATCH_LEN;
-    let words = memory_layout::PIECES_LEN;
-    let size = memory_layout::STORE_LEN;
     let mut t = [0u32; memory_layout::SCRATCH_LEN];
     let mut p = [0u32; memory_layout::PIECES_LEN];
     let mut s = [0u8; memory_layout::STORE_LEN];
     change_range_by(
-        source,
-        chunks,
-        pieces,
-        store,
-        &mut t[..rows],
-        &mut p[..words],
-        &mut s[..size],
-        a,
-        b,
-        change,
+        source, chunks, pieces, store, &mut t, &mut p, &mut s, a, b, change,
     )
 }

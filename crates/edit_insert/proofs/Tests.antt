@@ -10,7 +10,8 @@ use Rattle.memory.specs.WellFormed.{WellFormed}
 use Rattle.memory.specs.Calls.{Ran}
 use Rattle.edit_scratch.proofs.Tables.{ran_before, refused_1, refused_3, not_refused}
 use Rattle.edit_insert_side.specs.Insertion.{whole_add}
-use Rattle.edit_insert_side.specs.Calls.{InsertRan, WholeRan}
+use Rattle.edit_insert_side.specs.declared.Spot.TheVariants.{At, Whole}
+use Rattle.edit_insert_side.specs.Calls.{InsertRan}
 use Rattle.edit_insert.specs.Addition.{addition}
 
 -- what `append` and `prepend` are given and do
@@ -35,7 +36,7 @@ module _ {source t p s : List ℕ} (text : List ℕ) (w : WellFormed source t p 
     insert_outside h k = ran_before (insert q text left front) source t p s 2 3 w (refused_3 (insert q text left front) source t p s refl (rw h) (rw k)) refl
 
     pub insert_ran : utf8 text ≡ true → between source q ≡ true → {t' p' s' : List ℕ} {r c : ℕ}
-        → InsertRan left front q text source t p s t' p' s' r c → Ran (insert q text left front) source t p s t' p' s' r c
+        → InsertRan (At q left) front text source t p s t' p' s' r c → Ran (insert q text left front) source t p s t' p' s' r c
     insert_ran h k f = f (insert q text left front) (not_refused (insert q text left front) source t p s refl (rw h) (rw k) refl) (λ m. refl) refl
 
   pub addition_invalid : (tail : Bool) → utf8 text ≡ false → Ran (addition tail text) source t p s t p s 1 0
@@ -43,7 +44,7 @@ module _ {source t p s : List ℕ} (text : List ℕ) (w : WellFormed source t p 
       let g = given tail text in
       ran_before (addition tail text) source t p s 0 1 w (refused_1 (addition tail text) source t p s g.options (rw (g.its_texts, h))) refl
 
-  pub addition_ran : (tail : Bool) → utf8 text ≡ true → {t' p' s' : List ℕ} {r c : ℕ} → WholeRan tail (not tail) text source t p s t' p' s' r c
+  pub addition_ran : (tail : Bool) → utf8 text ≡ true → {t' p' s' : List ℕ} {r c : ℕ} → InsertRan (Whole tail) (not tail) text source t p s t' p' s' r c
       → Ran (addition tail text) source t p s t' p' s' r c
   addition_ran tail h f =
       let e = addition tail text in

@@ -5,7 +5,8 @@ ghost use Rattle.model.specs.Call.{insert};
 ghost use Rattle.memory_used.specs.Above.{Desk, Leaves};
 ghost use Rattle.edit_insert.specs.Addition.{addition};
 
-use memory_layout::numbers;
+use edit_insert_side::Spot;
+use memory_layout::refusal::Refusal;
 use memory_used::{Outcome, Used};
 
 // 1, 3, then the cut and the piece: left of the position or right, at the front of the piece list or the back.
@@ -24,23 +25,22 @@ pub fn insert(
     ensures { Leaves (insert at text.now left front) source.now chunks.old pieces.old store.old
         chunks.new pieces.new store.new result }
 {
-    if utf8::valid(text) {
-        if utf8::boundary(source, at as usize) {
-            return edit_insert_either::insert_either(
-                source, chunks, pieces, store, text, at, left, front, used,
-            );
-        }
+    if !utf8::valid(text) {
         return Outcome {
-            number: numbers::INSIDE_CHARACTER,
+            status: Err(Refusal::NotUtf8),
             cuts: 0,
             used,
         };
     }
-    Outcome {
-        number: numbers::NOT_UTF8,
-        cuts: 0,
-        used,
+    if !utf8::boundary(source, at as usize) {
+        return Outcome {
+            status: Err(Refusal::InsideCharacter),
+            cuts: 0,
+            used,
+        };
     }
+    let spot = Spot::At { q: at, left };
+    edit_insert_either::insert_either(source, chunks, pieces, store, text, spot, front, used)
 }
 
 // `append` and `prepend`: 1, then the piece at the back of the tail or at the front of the head.
@@ -57,14 +57,13 @@ pub fn insert_whole(
     ensures { Leaves (addition tail text.now) source.now chunks.old pieces.old store.old
         chunks.new pieces.new store.new result }
 {
-    if utf8::valid(text) {
-        return edit_insert_either::whole_either(
-            source, chunks, pieces, store, text, tail, !tail, used,
-        );
+    if !utf8::valid(text) {
+        return Outcome {
+            status: Err(Refusal::NotUtf8),
+            cuts: 0,
+            used,
+        };
     }
-    Outcome {
-        number: numbers::NOT_UTF8,
-        cuts: 0,
-        used,
-    }
+    let spot = Spot::Whole { outro: tail };
+    edit_insert_either::insert_either(source, chunks, pieces, store, text, spot, !tail, used)
 }

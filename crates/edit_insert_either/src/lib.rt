@@ -2,10 +2,12 @@
 #![tactic(auto)]
 
 ghost use Rattle.std.specs.Prelude.{◌+◌};
+ghost use Rattle.memory_layout.specs.Refusals.{number_of};
 ghost use Rattle.memory_used.specs.Above.{Above, Desk};
-ghost use Rattle.edit_insert_side.specs.Calls.{InsertRan, WholeRan};
+ghost use Rattle.edit_insert_side.specs.Calls.{InsertRan};
 
-use memory_layout::numbers;
+use edit_insert_side::Spot;
+use memory_layout::refusal::Refusal;
 use memory_used::{Outcome, Used};
 
 // An insertion without room above: on small tables, or where the desk does not fit these, on large ones.
@@ -15,48 +17,20 @@ fn insert_anew(
     pieces: &mut [u32],
     store: &mut [u8],
     text: &[u8],
-    q: u32,
-    left: bool,
+    spot: Spot,
     front: bool,
     used: Used,
 ) -> Outcome
     requires { Desk source.now chunks.old pieces.old store.old used }
-    ensures { InsertRan left front q text.now source.now chunks.old pieces.old store.old
-        chunks.new pieces.new store.new result.number result.cuts
+    ensures { InsertRan spot front text.now source.now chunks.old pieces.old store.old
+        chunks.new pieces.new store.new (number_of result.status) result.cuts
         × Above chunks.new pieces.new store.new result.used }
 {
-    let o = edit_insert_small::insert_small(
-        source, chunks, pieces, store, text, false, q, left, front, used,
-    );
-    if o.number != numbers::LIMIT {
+    let o = edit_insert_small::insert_small(source, chunks, pieces, store, text, spot, front, used);
+    if o.status != Err(Refusal::Limit) {
         return o;
     }
-    edit_insert_scratch::insert_scratch(source, chunks, pieces, store, text, q, left, front)
-}
-
-// The same for the tail or the head.
-fn whole_anew(
-    source: &[u8],
-    chunks: &mut [u32],
-    pieces: &mut [u32],
-    store: &mut [u8],
-    text: &[u8],
-    outro: bool,
-    front: bool,
-    used: Used,
-) -> Outcome
-    requires { Desk source.now chunks.old pieces.old store.old used }
-    ensures { WholeRan outro front text.now source.now chunks.old pieces.old store.old
-        chunks.new pieces.new store.new result.number result.cuts
-        × Above chunks.new pieces.new store.new result.used }
-{
-    let o = edit_insert_small::insert_small(
-        source, chunks, pieces, store, text, true, 0, outro, front, used,
-    );
-    if o.number != numbers::LIMIT {
-        return o;
-    }
-    edit_insert_scratch::whole_scratch(source, chunks, pieces, store, text, outro, front)
+    edit_insert_scratch::insert_scratch(source, chunks, pieces, store, text, spot, front)
 }
 
 // An insertion past its tests: on the lent tables themselves where 13 cannot arise and there is room above all that the desk uses; else laid out anew.
@@ -66,52 +40,28 @@ pub fn insert_either(
     pieces: &mut [u32],
     store: &mut [u8],
     text: &[u8],
-    q: u32,
-    left: bool,
+    spot: Spot,
     front: bool,
     used: Used,
 ) -> Outcome
     requires { Desk source.now chunks.old pieces.old store.old used }
-    ensures { InsertRan left front q text.now source.now chunks.old pieces.old store.old
-        chunks.new pieces.new store.new result.number result.cuts
+    ensures { InsertRan spot front text.now source.now chunks.old pieces.old store.old
+        chunks.new pieces.new store.new (number_of result.status) result.cuts
         × Above chunks.new pieces.new store.new result.used }
 {
     let z = memory_table::get_row(chunks, 0);
+    let most = z.start + edit_insert_side::cut_count(spot);
     if edit_room_above::has_room(
         used,
-        z.start + 1,
+        most,
         text.len(),
         chunks.len(),
         pieces.len(),
         store.len(),
     ) {
         return edit_insert_in_place::insert_in_place(
-            source, chunks, pieces, store, text, q, left, front, used,
+            source, chunks, pieces, store, text, spot, front, used,
         );
     }
-    insert_anew(source, chunks, pieces, store, text, q, left, front, used)
-}
-
-// `append` and `prepend` past the test of the text: as `insert_either`, without a cut.
-pub fn whole_either(
-    source: &[u8],
-    chunks: &mut [u32],
-    pieces: &mut [u32],
-    store: &mut [u8],
-    text: &[u8],
-    outro: bool,
-    front: bool,
-    used: Used,
-) -> Outcome
-    requires { Desk source.now chunks.old pieces.old store.old used }
-    ensures { WholeRan outro front text.now source.now chunks.old pieces.old store.old
-        chunks.new pieces.new store.new result.number result.cuts
-        × Above chunks.new pieces.new store.new result.used }
-{
-    if edit_room_above::has_room(used, 0, text.len(), chunks.len(), pieces.len(), store.len()) {
-        return edit_insert_in_place::whole_in_place(
-            source, chunks, pieces, store, text, outro, front, used,
-        );
-    }
-    whole_anew(source, chunks, pieces, store, text, outro, front, used)
+    insert_anew(source, chunks, pieces, store, text, spot, front, used)
 }

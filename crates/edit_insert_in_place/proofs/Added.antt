@@ -2,6 +2,7 @@
 use mathlib.Core.Path.{◌≡◌, refl, sym, ap, ap₂, ◌∙◌, subst}
 use mathlib.Core.Bool.{Bool, true, false}
 use mathlib.Core.List.{List, ◌∷◌, ◌++◌, map, map-append}
+use mathlib.Core.Logic.{inl, inr}
 use Prim.Native.Nat.{ℕ, suc, ◌+◌, ◌*◌, ◌-◌, ◌≤◌, ◌<◌}
 use native.Mathlib.Omega.{arith}
 use lib.ListN.{length, take, drop, take-append-drop}
@@ -22,7 +23,7 @@ use Rattle.model.specs.Insert.{push}
 use Rattle.memory_texts.proofs.Over.{length_over, over_all}
 use Rattle.memory_texts.proofs.Texts.{run_length, run_piece}
 use Rattle.memory.proofs.Desks.{piece_front}
-use Rattle.memory_list.specs.Find.{First}
+use Rattle.memory_list.specs.Find.{meets, First}
 use Rattle.memory_list.specs.Insert.{runs_of}
 use Rattle.memory_list.specs.Split.{RowSet, DeskSet}
 use Rattle.memory_list.proofs.Split.{row_set, desk_set, entries_at}
@@ -36,6 +37,10 @@ use Rattle.edit_insert_row.specs.Added.{TextRoom, TextAdded}
 use Rattle.memory_table.specs.Sides.{side, with_side}
 use Rattle.edit_insert_side.specs.Piece.{Longer, PieceAdded}
 use Rattle.edit_insert_side.proofs.Piece.{side_in}
+use Rattle.edit_insert_side.specs.declared.Spot.{Spot}
+use Rattle.edit_insert_side.specs.declared.Spot.TheVariants.{At, Whole}
+use Rattle.edit_insert_side.specs.Insertion.{key_of}
+use Rattle.edit_insert_side.specs.Spot.{RowFor}
 use Rattle.edit_insert_in_place.specs.Added.{AddedOnTop, OnTop, TopReady}
 
 below_in : (p s : List ℕ) (row byte : ℕ) (x : Place) → Below p byte row x → row * 2 ≤ length p → byte ≤ length s → RunIn p s x
@@ -285,14 +290,14 @@ side_few : (outro : Bool) (p s : List ℕ) (e : Entry) (n : ℕ) → length (run
 side_few true p s e n h = omega (arith, run_length p s e.outro.0 e.outro.1)
 side_few false p s e n h = omega (arith, run_length p s e.intro.0 e.intro.1)
 
-pub whole_ready : (outro : Bool) (t P S text : List ℕ) (l : Used) → TopReady t P S text l
+whole_ready : (outro : Bool) (t P S text : List ℕ) (l : Used) → TopReady t P S text l
     → TextRoom (side outro (entry_at t 0)) text P S l.row l.byte × RunIn (take (l.row * 2) P) (take l.byte S) (side outro (entry_at t 0))
 unfolding magic_string_of
 whole_ready outro t P S text l k =
     let h = side_in outro (entry_at t 0) k.readable.desk in
     (room_of t P S text l (side outro (entry_at t 0)) k h (side_few outro (take (l.row * 2) P) (take l.byte S) (entry_at t 0) l.pieces (omega (arith, k.pieces))), h)
 
-pub found_ready : (outro : Bool) (f : Entry → Bool) (t P S text : List ℕ) (i : ℕ) (l : Used) → First f t i → TopReady t P S text l
+found_ready : (outro : Bool) (f : Entry → Bool) (t P S text : List ℕ) (i : ℕ) (l : Used) → First f t i → TopReady t P S text l
     → TextRoom (side outro (entry_at t i)) text P S l.row l.byte × RunIn (take (l.row * 2) P) (take l.byte S) (side outro (entry_at t i))
 unfolding magic_string_of
 found_ready outro f t P S text i l w k =
@@ -305,3 +310,9 @@ found_ready outro f t P S text i l w k =
     let q = ap (λ (es : List Entry). sum chunk_pieces (map (chunk_of p s) es)) e ∙ ap (sum chunk_pieces) (map-append (chunk_of p s) xs (entry_at t i ∷ ys))
     ∙ sum_append chunk_pieces (map (chunk_of p s) xs) (map (chunk_of p s) (entry_at t i ∷ ys)) in
     (room_of t P S text l (side outro (entry_at t i)) k h (side_few outro p s (entry_at t i) l.pieces (omega (arith, k.pieces, q))), h)
+
+pub ready_for : (spot : Spot) (t P S text : List ℕ) (i : ℕ) (outro : Bool) (l : Used) → RowFor spot t i outro → TopReady t P S text l
+    → TextRoom (side outro (entry_at t i)) text P S l.row l.byte × RunIn (take (l.row * 2) P) (take l.byte S) (side outro (entry_at t i))
+ready_for (At q left) t P S text i outro l (inl w) k = found_ready outro (meets (key_of left) q) t P S text i l w.0 k
+ready_for (At q left) t P S text i outro l (inr w) k = rw w.1 (whole_ready outro t P S text l k)
+ready_for (Whole o) t P S text i outro l w k = rw w.0 (whole_ready outro t P S text l k)

@@ -3,27 +3,25 @@ use mathlib.Core.Path.{◌≡◌, refl, sym, ap, ◌∙◌, subst}
 use mathlib.Core.Bool.{Bool, true, false, not, cond}
 use mathlib.Core.List.{List, [], ◌∷◌}
 use mathlib.Core.Option.{Option, none, some}
+use mathlib.Core.Logic.{inl, inr}
 use Prim.Native.Nat.{ℕ, suc, ◌+◌, ◌-◌, ◌*◌, ◌/◌, ◌≤◌}
 use native.Mathlib.Omega.{arith}
 use lib.Dec.{eqb}
 use lib.ListN.{length, take}
 use Rattle.memory_layout.specs.Layout.{ROW}
-use Rattle.memory_table.specs.Ring.{Each}
-use Rattle.memory_table.specs.Order.{entry_at, order, count_of}
+use Rattle.memory_table.specs.Order.{count_of}
 use Rattle.model.specs.Text.{Text, sum}
 use Rattle.model.specs.Chunk.{Chunk, Texts, with_texts}
-use Rattle.model.specs.MagicString.{MagicString, Result, ok, err, and_then, with_chunks, with_whole, edge, by_edge, at_edge, by_edge_mut}
-use Rattle.model.specs.Insert.{push, push_to, insert, insert_step}
+use Rattle.model.specs.MagicString.{MagicString, Result, ok, err, and_then, with_chunks, with_whole, edge, by_edge, at_edge}
+use Rattle.model.specs.Insert.{push, push_to, insert_step}
 use Rattle.model.proofs.Insert.{push_length, push_sum}
 use Rattle.model.specs.Limits.{within, chunk_pieces, chunk_bytes, byte_count, piece_count}
 use Rattle.memory.specs.Layout.{magic_string_of}
 use Rattle.memory.specs.WellFormed.{limits_of, Readable}
 use Rattle.memory.specs.Calls.{Ran}
 use Rattle.memory.proofs.Desks.{chunk_count, source_of, keeps_within}
-use Rattle.memory_list.specs.Find.{meets, First}
 use Rattle.edit_row_laws.specs.Kept.{Kept}
-use Rattle.edit_row_laws.proofs.Kept.{kept_same, kept_apart, fewer_pieces, fewer_bytes}
-use Rattle.edit_scratch.specs.Tables.{Did}
+use Rattle.edit_row_laws.proofs.Kept.{kept_apart, fewer_pieces, fewer_bytes}
 use Rattle.edit_scratch.proofs.Tables.{may_write_0, ran_same}
 use Rattle.edit_in_place.proofs.InPlace.{ran_in_place, above_kept}
 use Rattle.edit_split_at.specs.Cuts.{CutsDone, CutsLeave}
@@ -33,10 +31,13 @@ use Rattle.memory_used.specs.Above.{Above, Desk}
 use Rattle.edit_room_above.specs.Live.{Room}
 use Rattle.edit_room_above.proofs.Bounds.{read_below}
 use Rattle.edit_room_above.proofs.Finishing.{bytes_below}
-use Rattle.edit_insert_side.specs.Insertion.{whole_add, key_of}
-use Rattle.edit_insert_side.proofs.Insertion.{inserted_found, inserted_whole, whole_added}
-use Rattle.edit_insert_side.specs.Calls.{InsertRan, WholeRan}
-use Rattle.edit_insert_in_place.specs.Added.{AddedOnTop, TopReady}
+use Rattle.edit_insert_side.specs.declared.Spot.{Spot}
+use Rattle.edit_insert_side.specs.declared.Spot.TheVariants.{At, Whole}
+use Rattle.edit_insert_side.specs.Spot.{adding, cuts_at, piece_step, RowFor}
+use Rattle.edit_insert_side.proofs.Insertion.{inserted_for}
+use Rattle.edit_insert_side.specs.Calls.{InsertRan}
+use Rattle.edit_insert_side.proofs.Calls.{adding_is, refused_same}
+use Rattle.edit_insert_in_place.specs.Added.{AddedOnTop, OnTop, TopReady}
 use Rattle.edit_insert_in_place.proofs.Added.{cut, found_on_top, whole_on_top}
 use Rattle.edit_insert_in_place.specs.Calls.{grown, InsertedTop}
 
@@ -91,6 +92,10 @@ step_more left front q t m = go (by_edge left q m.chunks)
           chunks = edge_length left q f m.chunks;
         }
 
+spot_more : (spot : Spot) (front : Bool) (t : Text) (m : MagicString) → OneMore t m (piece_step spot front t m).desk
+spot_more (At q left) front t m = step_more left front q t m
+spot_more (Whole outro) front t m = whole_more (not outro) front t m
+
 -- the rows and the bytes below a bound
 abbrev used_rows_below : Used → List ℕ → List ℕ
 used_rows_below l P = take (l.row * 2) P
@@ -142,40 +147,37 @@ module _ {source t P S t1 : List ℕ} {l : Used} {n : ℕ} (text : List ℕ) (w 
         }
 
 -- ── the piece behind the cut ──
-module _ (left front : Bool) (q : ℕ) (text P S t t' P' S' : List ℕ) (l : Used) (row' : ℕ) (k : TopReady t P S text l) (len : length t' ≡ length t) where
+module _ (spot : Spot) (outro front : Bool) (text P S t t' P' S' : List ℕ) (l : Used) (i row' : ℕ) (k : TopReady t P S text l) (len : length t' ≡ length t)
+    (a : AddedOnTop outro front text l.row l.byte P S t t' P' S' i row') where
   rows_in : l.row * 2 ≤ length P
   rows_in = omega (arith, k.rows)
 
   bytes_in : l.byte ≤ length S
   bytes_in = omega (arith, k.bytes)
 
-  pub top_found : (i : ℕ) → First (meets (key_of left) q) t i → AddedOnTop left front text l.row l.byte P S t t' P' S' i row'
-      → InsertedTop left front q text l.row l.byte t P S t' P' S' row'
-  top_found i w a =
-      record {
-        did = inserted_found left front q text (used_rows_below l P) (used_bytes_below l S) t t' P' S' i k.readable w a.added len;
-        top = found_on_top left front text l.row l.byte P S t t' P' S' i row' a k.readable len rows_in bytes_in w.us w.bs w.place;
-        low =
-            (inserted_found left front q text (used_rows_below l P) (used_bytes_below l S) t t' _ _ i k.readable w
-            (cut left front text l.row l.byte P S t t' P' S' i row' a k.readable len rows_in bytes_in) len []).readable;
-        to = a.to;
-      }
+  on_row_0 : i ≡ 0 → OnTop t P t' P'
+  on_row_0 e =
+      whole_on_top outro front text l.row l.byte P S t t' P' S' row' (subst (λ (j : ℕ). AddedOnTop outro front text l.row l.byte P S t t' P' S' j row') e a) k.readable len rows_in bytes_in
 
-  pub top_none : Each (λ x. meets (key_of left) q (entry_at t x) ≡ false) (order t) → AddedOnTop (not left) front text l.row l.byte P S t t' P' S' 0 row'
-      → InsertedTop left front q text l.row l.byte t P S t' P' S' row'
-  top_none n a =
+  on_row : (x : Spot) → RowFor x t i outro → OnTop t P t' P'
+  on_row (At q left) (inl w) = found_on_top outro front text l.row l.byte P S t t' P' S' i row' a k.readable len rows_in bytes_in w.0.us w.0.bs w.0.place
+  on_row (At q left) (inr w) = on_row_0 w.1
+  on_row (Whole o) w = on_row_0 w.0
+
+  pub top_for : RowFor spot t i outro → InsertedTop spot front text l.row l.byte t P S t' P' S' row'
+  top_for w =
       record {
-        did = inserted_whole left front q text (used_rows_below l P) (used_bytes_below l S) t t' P' S' k.readable n a.added len;
-        top = whole_on_top (not left) front text l.row l.byte P S t t' P' S' row' a k.readable len rows_in bytes_in;
+        did = inserted_for text (used_rows_below l P) (used_bytes_below l S) t t' P' S' front k.readable len spot w a.added;
+        top = on_row spot w;
         low =
-            (inserted_whole left front q text (used_rows_below l P) (used_bytes_below l S) t t' _ _ k.readable n
-            (cut (not left) front text l.row l.byte P S t t' P' S' 0 row' a k.readable len rows_in bytes_in) len []).readable;
+            (inserted_for text (used_rows_below l P) (used_bytes_below l S) t t' _ _ front k.readable len spot w
+            (cut outro front text l.row l.byte P S t t' P' S' i row' a k.readable len rows_in bytes_in) []).readable;
         to = a.to;
       }
 
 -- ── the call ──
-module _ (left front : Bool) (q : ℕ) (text : List ℕ) {source t P S t1 : List ℕ} {l : Used} {r v : ℕ} (w : Desk source t P S l)
-    (rm : Room (length t) (length P) (length S) l (count_of t + 1) (length text)) (c : CutsDone (q ∷ []) t t1 r v) where
+module _ (spot : Spot) (front : Bool) (text : List ℕ) {source t P S t1 : List ℕ} {l : Used} {r v : ℕ} (w : Desk source t P S l)
+    (rm : Room (length t) (length P) (length S) l (count_of t + length (cuts_at spot)) (length text)) (c : CutsDone (cuts_at spot) t t1 r v) where
   cut_low : Readable t1 (used_rows_below l P) (used_bytes_below l S)
   cut_low = c.readable (used_rows_below l P) (used_bytes_below l S) w.above.readable
 
@@ -185,41 +187,39 @@ module _ (left front : Bool) (q : ℕ) (text : List ℕ) {source t P S t1 : List
   few : count_of t1 ≤ length t / ROW - 1
   few = omega (arith, c.count, c.few, rm.chunks)
 
-  leave : CutsLeave (q ∷ []) source t P S t1 r
+  leave : CutsLeave (cuts_at spot) source t P S t1 r
   leave = c.leave source P S w.well_formed.readable (formed_spans w.well_formed)
 
-  pub top_refused : length t1 ≡ length t → (r ≡ 0 → ⊥) → InsertRan left front q text source t P S t1 P S r v × Above t1 P S l
-  unfolding by_edge_mut
+  pub top_refused : length t1 ≡ length t → (r ≡ 0 → ⊥) → InsertRan spot front text source t P S t1 P S r v × Above t1 P S l
   top_refused len n = (
     λ e h q' i.
-        let z : t1 ≡ t = c.alone refl n in
-        let step = insert_step q text left front in
+        let z : t1 ≡ t = refused_same spot c n in
+        let step = piece_step spot front text in
         let none : v ≡ 0 = omega (arith, c.count, ap count_of z) in
         subst (λ (u : List ℕ). Ran e source t P S u P S r v) (sym z)
         (rw none (ran_same e source t P S r w.well_formed h
-        (q' (magic_string_of source t P S) ∙ leave.result step ∙ stop r (magic_string_of source t1 P S) step n ∙ ap (λ (u : List ℕ). err r (magic_string_of source u P S)) z))),
+        (q' (magic_string_of source t P S) ∙ adding_is spot front text (magic_string_of source t P S) ∙ leave.result step ∙ stop r (magic_string_of source t1 P S) step n ∙ ap (λ (u : List ℕ). err r (magic_string_of source u P S)) z))),
     above_kept c.kept cut_low w.above,
   )
 
-  module _ (t' P' S' : List ℕ) (row' : ℕ) (z : r ≡ 0) (x : InsertedTop left front q text l.row l.byte t1 P S t' P' S' row') (len1 : length t1 ≡ length t)
+  module _ (t' P' S' : List ℕ) (row' : ℕ) (z : r ≡ 0) (x : InsertedTop spot front text l.row l.byte t1 P S t' P' S' row') (len1 : length t1 ≡ length t)
       (len : length t' ≡ length t1) (lp : length P' ≡ length P) (ls : length S' ≡ length S) where
     one_more : OneMore text (magic_string_of [] t1 (used_rows_below l P) (used_bytes_below l S)) (magic_string_of [] t' P' S')
     one_more =
         let m = magic_string_of [] t1 (used_rows_below l P) (used_bytes_below l S) in
-        subst (OneMore text m) (ap (λ (y : Result). y.desk) (x.did []).result) (step_more left front q text m)
+        subst (OneMore text m) (ap (λ (y : Result). y.desk) (x.did []).result) (spot_more spot front text m)
 
-    cut_made : insert q text left front (magic_string_of source t P S) ≡ insert_step q text left front (magic_string_of source t1 P S)
-    unfolding by_edge_mut
-    cut_made = leave.result (insert_step q text left front) ∙ ap (λ (n : ℕ). and_then (err n (magic_string_of source t1 P S)) (insert_step q text left front)) z
+    cut_made : adding spot front text (magic_string_of source t P S) ≡ piece_step spot front text (magic_string_of source t1 P S)
+    cut_made = adding_is spot front text (magic_string_of source t P S) ∙ leave.result (piece_step spot front text) ∙ ap (λ (n : ℕ). and_then (err n (magic_string_of source t1 P S)) (piece_step spot front text)) z
 
-    top_inserted : InsertRan left front q text source t P S t' P' S' 0 v
+    top_inserted : InsertRan spot front text source t P S t' P' S' 0 v
     top_inserted e h q' i =
         ran_in_place w.well_formed h
         (record {
           readable = (x.did source).readable;
           result =
               q' (magic_string_of source t P S) ∙ cut_made
-              ∙ ap (insert_step q text left front) (read_below t1 P S l.row l.byte cut_low source)
+              ∙ ap (piece_step spot front text) (read_below t1 P S l.row l.byte cut_low source)
               ∙ (x.did source).result;
           cuts = omega (arith, c.count, (x.did source).cuts);
         })
@@ -232,49 +232,5 @@ module _ (left front : Bool) (q : ℕ) (text : List ℕ) {source t P S t1 : List
     top_above : Above t' P' S' (grown l row' (length text))
     top_above = above_after text w rm cut_low c.kept t' P' S' one_more row' x.low x.to lp ls
 
-    pub top_made : InsertRan left front q text source t P S t' P' S' 0 v × Above t' P' S' (grown l row' (length text))
+    pub top_made : InsertRan spot front text source t P S t' P' S' 0 v × Above t' P' S' (grown l row' (length text))
     top_made = (top_inserted, top_above)
-
--- ── head and tail ──
-module _ (outro front : Bool) (text : List ℕ) {source t P S : List ℕ} {l : Used} {n : ℕ} (w : Desk source t P S l)
-    (rm : Room (length t) (length P) (length S) l n (length text)) where
-  pub whole_top_ready : TopReady t P S text l
-  whole_top_ready = ready_after text w rm w.above.readable (kept_same t)
-
-  module _ (t' P' S' : List ℕ) (row' : ℕ) (a : AddedOnTop outro front text l.row l.byte P S t t' P' S' 0 row') (len : length t' ≡ length t)
-      (lp : length P' ≡ length P) (ls : length S' ≡ length S) where
-    did : (source : List ℕ) → Did (λ m. ok (whole_add outro front text m)) source t (used_rows_below l P) (used_bytes_below l S) t' P' S' 0 0
-    did = whole_added outro front text (used_rows_below l P) (used_bytes_below l S) t t' P' S' w.above.readable a.added len
-
-    whole_one_more : OneMore text (magic_string_of [] t (used_rows_below l P) (used_bytes_below l S)) (magic_string_of [] t' P' S')
-    whole_one_more =
-        let m = magic_string_of [] t (used_rows_below l P) (used_bytes_below l S) in
-        subst (OneMore text m) (ap (λ (y : Result). y.desk) (did []).result) (whole_more (not outro) front text m)
-
-    whole_top_ran : WholeRan outro front text source t P S t' P' S' 0 0
-    whole_top_ran e h q i =
-        let top = whole_on_top outro front text l.row l.byte P S t t' P' S' row' a w.above.readable len w.above.row w.above.byte in
-        ran_in_place w.well_formed h
-        (record {
-          readable = (did source).readable;
-          result =
-              q (magic_string_of source t P S)
-              ∙ ap (λ (m : MagicString). ok (whole_add outro front text m)) (read_below t P S l.row l.byte w.above.readable source)
-              ∙ (did source).result;
-          cuts = (did source).cuts;
-        })
-        (may_write_0 e i)
-        (record { chunks = len; pieces = lp; store = ls })
-        (top.each w.well_formed.each)
-        (top.apart w.well_formed.disjoint)
-        (within_after text w rm w.above.readable (kept_same t) t' P' S' whole_one_more (omega (arith, w.well_formed.readable.linked.room)))
-
-    whole_top_above : Above t' P' S' (grown l row' (length text))
-    whole_top_above =
-        above_after text w rm w.above.readable (kept_same t) t' P' S' whole_one_more row'
-        (whole_added outro front text (used_rows_below l P) (used_bytes_below l S) t t' _ _ w.above.readable
-        (cut outro front text l.row l.byte P S t t' P' S' 0 row' a w.above.readable len w.above.row w.above.byte) len []).readable
-        a.to lp ls
-
-    pub whole_made : WholeRan outro front text source t P S t' P' S' 0 0 × Above t' P' S' (grown l row' (length text))
-    whole_made = (whole_top_ran, whole_top_above)

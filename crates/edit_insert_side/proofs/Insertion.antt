@@ -2,6 +2,7 @@
 use mathlib.Core.Path.{◌≡◌, refl, sym, ap, ◌∙◌, subst}
 use mathlib.Core.Bool.{Bool, true, false, not}
 use mathlib.Core.List.{List, [], ◌∷◌, ◌++◌, map, map-append}
+use mathlib.Core.Logic.{inl, inr}
 use Prim.Native.Nat.{ℕ, ◌+◌, ◌*◌, ◌≤◌}
 use native.Mathlib.Omega.{arith}
 use lib.Dec.{eqb}
@@ -33,7 +34,10 @@ use Rattle.model_closed_forms.proofs.Found.{edge_at, edge_none, edge_set, some_i
 use Rattle.memory_table.specs.Sides.{side, with_side}
 use Rattle.edit_insert_side.specs.Piece.{PieceAdded}
 use Rattle.edit_insert_side.proofs.Piece.{side_in}
+use Rattle.edit_insert_side.specs.declared.Spot.{Spot}
+use Rattle.edit_insert_side.specs.declared.Spot.TheVariants.{At, Whole}
 use Rattle.edit_insert_side.specs.Insertion.{whole_add, key_of}
+use Rattle.edit_insert_side.specs.Spot.{piece_step, RowFor}
 
 -- ── the step where the chunk is known ──
 abbrev keyed : Bool → ℕ → Chunk → Bool
@@ -166,7 +170,7 @@ module _ (outro front : Bool) (text p s y z t t' : List ℕ) (i : ℕ) (run : Pl
       ∙ same_around (chunks_front p s y z front_in) (lift_piece p s y z front text run outro (row_at t i) tx (first_of mid)) (chunks_front p s y z (rest_of mid)))
 
 -- ── the two ends of the search ──
-pub inserted_found : (left front : Bool) (q : ℕ) (text p s t t' p' s' : List ℕ) (i : ℕ) → Readable t p s → First (meets (key_of left) q) t i
+inserted_found : (left front : Bool) (q : ℕ) (text p s t t' p' s' : List ℕ) (i : ℕ) → Readable t p s → First (meets (key_of left) q) t i
     → PieceAdded left front text p s t t' p' s' i → length t' ≡ length t → (source : List ℕ) → Did (insert_step q text left front) source t p s t' p' s' 0 0
 inserted_found left front q text p s t t' p' s' i h w d len source =
     let l = d.longer in
@@ -186,7 +190,7 @@ inserted_found left front q text p s t t' p' s' i h w d len source =
       cuts = same_count left front text p s y z t t' i d.run w.us w.bs w.place h d.put len tx ri;
     })
 
-pub whole_added : (outro front : Bool) (text p s t t' p' s' : List ℕ) → Readable t p s → PieceAdded outro front text p s t t' p' s' 0 → length t' ≡ length t
+whole_added : (outro front : Bool) (text p s t t' p' s' : List ℕ) → Readable t p s → PieceAdded outro front text p s t t' p' s' 0 → length t' ≡ length t
     → (source : List ℕ) → Did (λ m. ok (whole_add outro front text m)) source t p s t' p' s' 0 0
 whole_added outro front text p s t t' p' s' h d len source =
     let l = d.longer in
@@ -202,7 +206,7 @@ whole_added outro front text p s t t' p' s' h d len source =
       cuts = omega (arith, k.count);
     })
 
-pub inserted_whole : (left front : Bool) (q : ℕ) (text p s t t' p' s' : List ℕ) → Readable t p s → Each (λ x. meets (key_of left) q (entry_at t x) ≡ false) (order t)
+inserted_whole : (left front : Bool) (q : ℕ) (text p s t t' p' s' : List ℕ) → Readable t p s → Each (λ x. meets (key_of left) q (entry_at t x) ≡ false) (order t)
     → PieceAdded (not left) front text p s t t' p' s' 0 → length t' ≡ length t → (source : List ℕ) → Did (insert_step q text left front) source t p s t' p' s' 0 0
 inserted_whole left front q text p s t t' p' s' h n d len source =
     let g = whole_added (not left) front text p s t t' p' s' h d len source in
@@ -220,16 +224,39 @@ side_small : (outro : Bool) {p s : List ℕ} (e : Entry) → EntrySmall p s e �
 side_small true e h = h.outro
 side_small false e h = h.intro
 
-pub whole_run : (outro : Bool) (t p s : List ℕ) → Readable t p s → DeskSmall t p s → RunIn p s (side outro (entry_at t 0)) × RunSmall p s (side outro (entry_at t 0))
+whole_run : (outro : Bool) (t p s : List ℕ) → Readable t p s → DeskSmall t p s → RunIn p s (side outro (entry_at t 0)) × RunSmall p s (side outro (entry_at t 0))
 whole_run outro t p s h k = (side_in outro (entry_at t 0) h.desk, side_small outro (entry_at t 0) k.desk)
 
 module _ (f : Entry → Bool) (t p s : List ℕ) (i : ℕ) (w : First f t i) where
-  pub found_run : (outro : Bool) → Readable t p s → DeskSmall t p s → RunIn p s (side outro (entry_at t i)) × RunSmall p s (side outro (entry_at t i))
+  found_run : (outro : Bool) → Readable t p s → DeskSmall t p s → RunIn p s (side outro (entry_at t i)) × RunSmall p s (side outro (entry_at t i))
   found_run outro h k =
       let e = entries_at t w.us i w.bs w.place in (
         side_in outro (entry_at t i) (first_of (all_back (EntryIn p s) (map (entry_at t) w.us) (entry_at t i ∷ map (entry_at t) w.bs) (subst (All (EntryIn p s)) e h.chunks))).runs,
         side_small outro (entry_at t i) (first_of (all_back (EntrySmall p s) (map (entry_at t) w.us) (entry_at t i ∷ map (entry_at t) w.bs) (subst (All (EntrySmall p s)) e k.chunks))),
       )
 
-  pub found_row : Linked t → i * ROW + ROW ≤ length t
+  found_row : Linked t → i * ROW + ROW ≤ length t
   found_row l = omega (arith, l.room, (inside_at t w.us i w.bs l w.place).1)
+
+-- ── the row that the piece goes to ──
+module _ (text p s t t' p' s' : List ℕ) (front : Bool) (h : Readable t p s) (len : length t' ≡ length t) where
+  in_row_0 : {i : ℕ} {outro o : Bool} → i ≡ 0 → outro ≡ o → PieceAdded outro front text p s t t' p' s' i → PieceAdded o front text p s t t' p' s' 0
+  in_row_0 {i} {outro} {o} e k d =
+      subst (λ (b : Bool). PieceAdded b front text p s t t' p' s' 0) k (subst (λ (j : ℕ). PieceAdded outro front text p s t t' p' s' j) e d)
+
+  pub inserted_for : (spot : Spot) {i : ℕ} {outro : Bool} → RowFor spot t i outro → PieceAdded outro front text p s t t' p' s' i
+      → (source : List ℕ) → Did (piece_step spot front text) source t p s t' p' s' 0 0
+  inserted_for (At q left) {i} (inl w) d = inserted_found left front q text p s t t' p' s' i h w.0 (subst (λ (b : Bool). PieceAdded b front text p s t t' p' s' i) w.1 d) len
+  inserted_for (At q left) (inr w) d = inserted_whole left front q text p s t t' p' s' h w.0 (in_row_0 w.1 w.2 d) len
+  inserted_for (Whole o) w d = whole_added o front text p s t t' p' s' h (in_row_0 w.0 w.1 d) len
+
+pub row_in : (spot : Spot) (t : List ℕ) (i : ℕ) (outro : Bool) → RowFor spot t i outro → Linked t → i * ROW + ROW ≤ length t
+row_in (At q left) t i outro (inl w) l = found_row (meets (key_of left) q) t [] [] i w.0 l
+row_in (At q left) t i outro (inr w) l = omega (arith, w.1, l.room)
+row_in (Whole o) t i outro w l = omega (arith, w.0, l.room)
+
+pub run_for : (spot : Spot) (t p s : List ℕ) (i : ℕ) (outro : Bool) → RowFor spot t i outro → Readable t p s → DeskSmall t p s
+    → RunIn p s (side outro (entry_at t i)) × RunSmall p s (side outro (entry_at t i))
+run_for (At q left) t p s i outro (inl w) h k = found_run (meets (key_of left) q) t p s i w.0 outro h k
+run_for (At q left) t p s i outro (inr w) h k = rw w.1 (whole_run outro t p s h k)
+run_for (Whole o) t p s i outro w h k = rw w.0 (whole_run outro t p s h k)

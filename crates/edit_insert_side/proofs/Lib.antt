@@ -1,3 +1,4 @@
-pub mod Calls
-pub mod Insertion
 pub mod Piece
+pub mod Insertion
+pub mod CutsFirst
+pub mod Calls

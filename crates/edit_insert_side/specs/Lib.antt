@@ -1,3 +1,4 @@
 pub mod Piece
 pub mod Insertion
+pub mod Spot
 pub mod Calls

@@ -11,7 +11,9 @@ use Rattle.model.specs.MagicString.{MagicString, Result, ok, err, and_then, with
 use Rattle.model.specs.MagicString.{split_at, by_edge_mut}
 use Rattle.model.specs.Insert.{push, push_to, insert_step}
 use Rattle.edit_small_tables.proofs.Small.{Stays}
-use Rattle.edit_insert_small.specs.Adding.{adding}
+use Rattle.edit_insert_side.specs.declared.Spot.{Spot}
+use Rattle.edit_insert_side.specs.declared.Spot.TheVariants.{At, Whole}
+use Rattle.edit_insert_side.specs.Spot.{adding}
 
 -- the piece is never refused
 step_made : (left front : Bool) (q : ℕ) (t : Text) (m : MagicString) → (insert_step q t left front m).number ≡ 0
@@ -22,10 +24,10 @@ step_made left front q t m = go (by_edge left q m.chunks)
     go none = refl
     go (some c) = refl
 
-pub adding_stays : (whole left front : Bool) (q : ℕ) (t : Text) → Stays (adding whole left front q t)
+pub adding_stays : (spot : Spot) (front : Bool) (t : Text) → Stays (adding spot front t)
 unfolding split_at by_edge_mut
-adding_stays true left front q t m = λ n. absurd (n refl)
-adding_stays false left front q t m =
+adding_stays (Whole outro) front t m = λ n. absurd (n refl)
+adding_stays (At q left) front t m =
     go (eqb q 0 || (leb (length m.source) q || is_some (by_end q m.chunks))) (refuses_split (holder q m.chunks)) (with_chunks m (split_holder q m.chunks))
   where
     step : MagicString → Result

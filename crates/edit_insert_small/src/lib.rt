@@ -1,98 +1,49 @@
 // A piece more at the front or the back of a chunk's intro or outro, or of the head or the tail: on small tables, for a small desk without room above.
 #![tactic(auto)]
 
-ghost use Rattle.std.specs.Prelude.{◌≡◌, true, false, []};
+ghost use Rattle.std.specs.Prelude.{◌≡◌, true, []};
 ghost use Rattle.memory_layout.specs.Layout.{SMALL_CHUNKS, SMALL_PIECES, SMALL_STORE_LEN};
+ghost use Rattle.memory_layout.specs.Refusals.{number_of};
 ghost use Rattle.model.specs.Limits.{within};
 ghost use Rattle.memory.specs.Layout.{magic_string_of};
 ghost use Rattle.memory.specs.WellFormed.{limits_by, WellFormed};
 ghost use Rattle.memory_used.specs.Above.{Desk};
 ghost use Rattle.edit_small_tables.specs.Small.{Fits, Attempted, Tried};
-ghost use Rattle.edit_insert_small.specs.Adding.{adding};
+ghost use Rattle.edit_insert_side.specs.Spot.{adding};
 
-use memory::Answer;
-use memory_layout::numbers;
+use edit_insert_side::Spot;
+use memory::Steps;
+use memory_layout::refusal::Refusal;
 use memory_used::{Outcome, Used};
 
 // The cut and the piece where the tables have room above l; else 13.
-fn attempt_insert(
-    source: &[u8],
-    t: &mut [u32],
-    p: &mut [u32],
-    s: &mut [u8],
-    text: &[u8],
-    q: u32,
-    left: bool,
-    front: bool,
-    l: Used,
-) -> Answer
-    requires { Desk source.now t.old p.old s.old l }
-    ensures { Attempted (adding false left front q text.now) source.now t.old p.old s.old
-        t.new p.new s.new result.number result.value }
-{
-    let z = memory_table::get_row(t, 0);
-    if edit_room_above::has_room(l, z.start + 1, text.len(), t.len(), p.len(), s.len()) {
-        let o = edit_insert_in_place::insert_in_place(source, t, p, s, text, q, left, front, l);
-        return Answer {
-            number: o.number,
-            value: o.cuts,
-        };
-    }
-    Answer {
-        number: numbers::LIMIT,
-        value: 0,
-    }
-}
-
-// The same for the tail or the head, without a cut.
-fn attempt_whole(
-    source: &[u8],
-    t: &mut [u32],
-    p: &mut [u32],
-    s: &mut [u8],
-    text: &[u8],
-    outro: bool,
-    front: bool,
-    l: Used,
-) -> Answer
-    requires { Desk source.now t.old p.old s.old l }
-    ensures { Attempted (adding true outro front 0 text.now) source.now t.old p.old s.old
-        t.new p.new s.new result.number result.value }
-{
-    if edit_room_above::has_room(l, 0, text.len(), t.len(), p.len(), s.len()) {
-        let o = edit_insert_in_place::whole_in_place(source, t, p, s, text, outro, front, l);
-        return Answer {
-            number: o.number,
-            value: o.cuts,
-        };
-    }
-    Answer {
-        number: numbers::LIMIT,
-        value: 0,
-    }
-}
-
-// The one or the other.
 fn attempt(
     source: &[u8],
     t: &mut [u32],
     p: &mut [u32],
     s: &mut [u8],
     text: &[u8],
-    whole: bool,
-    q: u32,
-    left: bool,
+    spot: Spot,
     front: bool,
     l: Used,
-) -> Answer
+) -> Steps
     requires { Desk source.now t.old p.old s.old l }
-    ensures { Attempted (adding whole left front q text.now) source.now t.old p.old s.old
-        t.new p.new s.new result.number result.value }
+    ensures { Attempted (adding spot front text.now) source.now t.old p.old s.old
+        t.new p.new s.new (number_of result.status) result.cuts }
 {
-    if whole {
-        return attempt_whole(source, t, p, s, text, left, front, l);
+    let z = memory_table::get_row(t, 0);
+    let most = z.start + edit_insert_side::cut_count(spot);
+    if !edit_room_above::has_room(l, most, text.len(), t.len(), p.len(), s.len()) {
+        return Steps {
+            status: Err(Refusal::Limit),
+            cuts: 0,
+        };
     }
-    attempt_insert(source, t, p, s, text, q, left, front, l)
+    let o = edit_insert_in_place::insert_in_place(source, t, p, s, text, spot, front, l);
+    Steps {
+        status: o.status,
+        cuts: o.cuts,
+    }
 }
 
 // The insertion with small tables lent.
@@ -105,18 +56,16 @@ fn insert_by(
     p: &mut [u32],
     s: &mut [u8],
     text: &[u8],
-    whole: bool,
-    q: u32,
-    left: bool,
+    spot: Spot,
     front: bool,
 ) -> Outcome
     requires well_formed { WellFormed source.now chunks.old pieces.old store.old }
     requires fits { Fits chunks.old pieces.old store.old t.old p.old s.old }
-    ensures { Tried (adding whole left front q text.now) source.now chunks.old pieces.old store.old
+    ensures { Tried (adding spot front text.now) source.now chunks.old pieces.old store.old
         chunks.new pieces.new store.new result }
 {
     let l = edit_small_tables::lay(chunks, pieces, store, t, p, s);
-    let edit = attempt(source, t, p, s, text, whole, q, left, front, l);
+    let edit = attempt(source, t, p, s, text, spot, front, l);
     edit_small_tables::finish(t, p, s, chunks, pieces, store, edit)
 }
 
@@ -127,53 +76,35 @@ fn insert_with(
     pieces: &mut [u32],
     store: &mut [u8],
     text: &[u8],
-    whole: bool,
-    q: u32,
-    left: bool,
+    spot: Spot,
     front: bool,
 ) -> Outcome
     requires well_formed { WellFormed source.now chunks.old pieces.old store.old }
     requires store_value { within (limits_by SMALL_CHUNKS SMALL_PIECES SMALL_STORE_LEN) (magic_string_of [] chunks.old pieces.old store.old) ≡ true }
-    ensures { Tried (adding whole left front q text.now) source.now chunks.old pieces.old store.old
+    ensures { Tried (adding spot front text.now) source.now chunks.old pieces.old store.old
         chunks.new pieces.new store.new result }
 {
-    let rows = memory_layout::SMALL_CHUNKS_LEN;
-    let words = memory_layout::SMALL_PIECES_LEN;
-    let size = memory_layout::SMALL_STORE_LEN;
     let mut t = [0u32; memory_layout::SMALL_CHUNKS_LEN];
     let mut p = [0u32; memory_layout::SMALL_PIECES_LEN];
     let mut s = [0u8; memory_layout::SMALL_STORE_LEN];
     insert_by(
-        source,
-        chunks,
-        pieces,
-        store,
-        &mut t[..rows],
-        &mut p[..words],
-        &mut s[..size],
-        text,
-        whole,
-        q,
-        left,
-        front,
+        source, chunks, pieces, store, &mut t, &mut p, &mut s, text, spot, front,
     )
 }
 
-// An insertion on small tables, left or right of q, or with `whole` to the tail or the head. 13 and nothing written where the desk or what it would become does not fit them.
+// An insertion on small tables. 13 and nothing written where the desk or what it would become does not fit them.
 pub fn insert_small(
     source: &[u8],
     chunks: &mut [u32],
     pieces: &mut [u32],
     store: &mut [u8],
     text: &[u8],
-    whole: bool,
-    q: u32,
-    left: bool,
+    spot: Spot,
     front: bool,
     used: Used,
 ) -> Outcome
     requires { Desk source.now chunks.old pieces.old store.old used }
-    ensures { Tried (adding whole left front q text.now) source.now chunks.old pieces.old store.old
+    ensures { Tried (adding spot front text.now) source.now chunks.old pieces.old store.old
         chunks.new pieces.new store.new result }
 {
     if edit_scratch::keeps(
@@ -184,10 +115,10 @@ pub fn insert_small(
         memory_layout::SMALL_PIECES,
         memory_layout::SMALL_STORE_LEN,
     ) {
-        return insert_with(source, chunks, pieces, store, text, whole, q, left, front);
+        return insert_with(source, chunks, pieces, store, text, spot, front);
     }
     Outcome {
-        number: numbers::LIMIT,
+        status: Err(Refusal::Limit),
         cuts: 0,
         used,
     }

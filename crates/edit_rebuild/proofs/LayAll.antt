@@ -282,16 +282,6 @@ lay_start {t} {p} {s} {l} {x} {C} {C'} {P} {S} {P'} {S'} {byte} {row} d w q e lp
       bytes_left = omega (arith, m.1, d.byte_is, ls);
     }
 
-pub seq_next : (k n : ℕ) → k + 1 < n → next_for (n - (k + 1)) (k + 1) ≡ k + 2
-seq_next k n h = let e : n - (k + 1) ≡ suc (n - (k + 2)) = omega arith in rw e (omega arith)
-
-pub seq_last : (k n : ℕ) → n ≤ k + 1 → next_for (n - (k + 1)) (k + 1) ≡ 0
-seq_last k n h = let e : n - (k + 1) ≡ 0 = omega arith in rw e
-
-pub top_next : (n : ℕ) → (n ≡ 0 → ⊥) → next_for n 0 ≡ 1
-top_next zero h = absurd (h refl)
-top_next (suc n) h = refl
-
 -- ── the loop ──
 pub record Loop (t p s : List ℕ) (n k cur byte row : ℕ) (C₀ P₀ S₀ C P S : List ℕ) : Type 0 where
   pub below : k ≤ n

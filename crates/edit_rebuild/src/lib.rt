@@ -10,19 +10,21 @@ ghost use Rattle.memory.specs.WellFormed.{ReplacementIn, EntryIn, Readable, limi
 ghost use Rattle.edit_rebuild.specs.Lay.{LaidText, LaidEntry, RoomEntry, OwnRow, SeqRow, LayAt};
 ghost use Rattle.edit_rebuild.specs.Rebuilt.{Rebuilt};
 
+use memory_copy::Places;
+use memory_table::Row;
+
 // Where a replacement was laid, and the byte behind it.
 #[derive(Clone, Copy)]
-pub struct Spot {
-    pub at: u32,
-    pub byte: usize,
+struct Spot {
+    at: u32,
+    byte: usize,
 }
 
-// A row laid, the byte behind its texts and the row behind its pieces.
+// A row laid, and the places behind its texts and its pieces.
 #[derive(Clone, Copy)]
-pub struct Laid {
-    pub row: memory_table::Row,
-    pub byte: usize,
-    pub next: usize,
+struct Laid {
+    row: Row,
+    behind: Places,
 }
 
 // A replacement, put into the store at a byte.
@@ -44,62 +46,54 @@ fn lay_text(s: &[u8], store: &mut [u8], at: u32, n: u32, byte: usize) -> Spot
 }
 
 // A row's runs and replacement, put into other tables at the places `to`.
-fn lay_row(
-    p: &[u32],
-    s: &[u8],
-    pieces: &mut [u32],
-    store: &mut [u8],
-    r: memory_table::Row,
-    to: memory_copy::Places,
-) -> Laid
+fn lay_row(p: &[u32], s: &[u8], pieces: &mut [u32], store: &mut [u8], r: Row, to: Places) -> Laid
     requires entry_in { EntryIn p.now s.now (entry_of r) }
     requires room_entry { RoomEntry p.now s.now (entry_of r) pieces.old store.old to.byte to.row }
     ensures { LaidEntry p.now s.now (entry_of r) (entry_of result.row) pieces.old store.old to.byte to.row
-        pieces.new store.new result.byte result.next }
+        pieces.new store.new result.behind.byte result.behind.row }
 {
     let a = memory_copy::copy_run(p, s, pieces, store, r.intro_at, r.intro_n, to);
     let b = memory_copy::copy_run(p, s, pieces, store, r.outro_at, r.outro_n, a);
     let x = lay_text(s, store, r.text_at, r.text_n, b.byte);
-    let mut q = r;
-    q.intro_at = to.row as u32;
-    q.outro_at = a.row as u32;
-    q.text_at = x.at;
+    let row = Row {
+        intro_at: to.row as u32,
+        outro_at: a.row as u32,
+        text_at: x.at,
+        ..r
+    };
     Laid {
-        row: q,
-        byte: x.byte,
-        next: b.row,
+        row,
+        behind: Places { byte: x.byte, ..b },
     }
 }
 
 // The desk's own row, linked to n chunks.
-fn top_row(r: memory_table::Row, n: u32) -> memory_table::Row
+fn top_row(r: Row, n: u32) -> Row
     ensures { OwnRow r result n }
 {
-    let mut x = r;
-    x.start = n;
-    x.prev = n;
-    if n != 0 {
-        x.next = 1;
-        return x;
+    Row {
+        start: n,
+        next: if n != 0 { 1 } else { memory_layout::LIST_END },
+        prev: n,
+        ..r
     }
-    x.next = memory_layout::LIST_END;
-    x
 }
 
 // The row of chunk k + 1 of n, linked to its neighbours.
-fn seq_row(r: memory_table::Row, k: u32, n: u32) -> memory_table::Row
+fn seq_row(r: Row, k: u32, n: u32) -> Row
     requires k_lt_n { k < n }
     requires n_bound { n ≤ CHUNKS }
     ensures { SeqRow r result k n }
 {
-    let mut x = r;
-    x.prev = k;
-    if k + 1 < n {
-        x.next = k + 2;
-        return x;
+    Row {
+        next: if k + 1 < n {
+            k + 2
+        } else {
+            memory_layout::LIST_END
+        },
+        prev: k,
+        ..r
     }
-    x.next = memory_layout::LIST_END;
-    x
 }
 
 // The chunks, in list order, into rows 1, 2, ..
@@ -112,27 +106,22 @@ fn lay_rest(
     store: &mut [u8],
     n: u32,
     first: u32,
-    byte0: usize,
-    row0: usize,
+    to: Places,
 )
     requires readable { Readable t.now p.now s.now }
-    requires lay_at { LayAt t.now p.now s.now 0 n first byte0 row0 chunks.old pieces.old store.old }
+    requires lay_at { LayAt t.now p.now s.now 0 n first to.byte to.row chunks.old pieces.old store.old }
     requires sized { Sized chunks.old pieces.old store.old }
     requires n_in_bounds { n * ROW + ROW ≤ length chunks.old }
     ensures { Rebuilt t.now p.now s.now chunks.new pieces.new store.new }
 {
-    let mut k = 0;
     let mut cur = first;
-    let mut byte = byte0;
-    let mut row = row0;
-    while k < n {
+    let mut to = to;
+    for k in 0..n {
         let r = memory_table::get_row(t, cur);
-        let l = lay_row(p, s, pieces, store, r, memory_copy::Places { byte, row });
+        let l = lay_row(p, s, pieces, store, r, to);
         memory_table::put_row(chunks, k + 1, seq_row(l.row, k, n));
-        byte = l.byte;
-        row = l.next;
+        to = l.behind;
         cur = r.next;
-        k += 1;
     }
 }
 
@@ -158,8 +147,8 @@ pub fn rebuild(
         pieces,
         store,
         memory_texts::own_row(z),
-        memory_copy::Places { byte: 0, row: 0 },
+        Places { byte: 0, row: 0 },
     );
     memory_table::put_row(chunks, 0, top_row(l.row, n));
-    lay_rest(t, p, s, chunks, pieces, store, n, z.next, l.byte, l.next);
+    lay_rest(t, p, s, chunks, pieces, store, n, z.next, l.behind);
 }

@@ -1,14 +1,16 @@
 // movement.rs: `relocate`, on lent memory.
 #![tactic(auto)]
 
-ghost use Rattle.std.specs.Prelude.{◌≡◌, true, ◌&&◌, [], ◌∷◌, leb};
+ghost use Rattle.std.specs.Prelude.{◌≡◌, true, [], ◌∷◌};
 ghost use Rattle.utf8.specs.Rfc3629.{utf8, between};
+ghost use Rattle.memory_layout.specs.Refusals.{number_of};
 ghost use Rattle.model.specs.Text.{all};
 ghost use Rattle.model.specs.Call.{relocate};
 ghost use Rattle.memory_used.specs.Above.{Desk, Leaves};
 ghost use Rattle.edit_relocate_scratch.specs.Tested.{Tested};
+ghost use Rattle.edit_relocate.specs.Tests.{TestsSay};
 
-use memory_layout::numbers;
+use memory_layout::refusal::Refusal;
 use memory_used::{Outcome, Used};
 
 // `relocate` past its tests: on the lent rows themselves where three chunks more are within the limit, so that 13 cannot arise: they use no more than before. Else on scratch rows.
@@ -30,8 +32,8 @@ fn relocate_either(
     if edit_in_place::has_rows(chunks, 3) {
         let steps = edit_relocate_steps::relocate_steps(chunks, source.len(), a, b, to);
         return Outcome {
-            number: steps.number,
-            cuts: steps.value,
+            status: steps.status,
+            cuts: steps.cuts,
             used,
         };
     }
@@ -43,23 +45,33 @@ fn between_three(source: &[u8], a: u32, b: u32, to: u32) -> bool
     requires { utf8 source.now ≡ true }
     ensures { result ≡ all (between source.now) (a ∷ b ∷ to ∷ []) }
 {
-    if utf8::boundary(source, a as usize) {
-        return memory_texts::between_both(source, b, to);
-    }
-    false
+    utf8::boundary(source, a as usize) && memory_texts::between_both(source, b, to)
 }
 
-// Whether a position lies in a range or at its edge.
-fn inside_range(a: u32, b: u32, to: u32) -> bool
-    ensures { result ≡ (leb a to && leb to b) }
+// What `relocate` tests, in this order: 3, 8, then 4 and 10 where the range has a width.
+fn tested(source: &[u8], start: u32, end: u32, to: u32) -> Result<(), Refusal>
+    requires { utf8 source.now ≡ true }
+    ensures { TestsSay start end to source.now (number_of result) }
 {
-    if a <= to {
-        return to <= b;
+    if !between_three(source, start, end, to) {
+        return Err(Refusal::InsideCharacter);
     }
-    false
+    if start <= to && to <= end {
+        return Err(Refusal::IntoItself);
+    }
+    if start == end {
+        return Ok(());
+    }
+    if end < start {
+        return Err(Refusal::EndBeforeStart);
+    }
+    if source.len() < end as usize {
+        return Err(Refusal::PastSource);
+    }
+    Ok(())
 }
 
-// `relocate`: 3, 8, zero width is a no-op, 4, 10, then the cuts and the move.
+// `relocate`: its tests, zero width is a no-op, then the cuts and the move.
 pub fn relocate(
     source: &[u8],
     chunks: &mut [u32],
@@ -74,42 +86,13 @@ pub fn relocate(
     ensures { Leaves (relocate start end to) source.now chunks.old pieces.old store.old
         chunks.new pieces.new store.new result }
 {
-    if between_three(source, start, end, to) {
-        let inside = inside_range(start, end, to);
-        let nothing = start == end;
-        if inside {
-            return Outcome {
-                number: numbers::INTO_ITSELF,
-                cuts: 0,
-                used,
-            };
-        }
-        if nothing {
-            return Outcome {
-                number: 0,
-                cuts: 0,
-                used,
-            };
-        }
-        if end < start {
-            return Outcome {
-                number: numbers::END_BEFORE_START,
-                cuts: 0,
-                used,
-            };
-        }
-        if source.len() < end as usize {
-            return Outcome {
-                number: numbers::PAST_SOURCE,
-                cuts: 0,
-                used,
-            };
-        }
-        return relocate_either(source, chunks, pieces, store, start, end, to, used);
+    let status = tested(source, start, end, to);
+    if status.is_err() || start == end {
+        return Outcome {
+            status,
+            cuts: 0,
+            used,
+        };
     }
-    Outcome {
-        number: numbers::INSIDE_CHARACTER,
-        cuts: 0,
-        used,
-    }
+    relocate_either(source, chunks, pieces, store, start, end, to, used)
 }

@@ -7,7 +7,7 @@ ghost use Rattle.memory_layout.specs.Layout.{ROW};
 ghost use Rattle.memory_table.specs.Order.{Linked};
 ghost use Rattle.edit_relocate_range.specs.Range.{goes_on, RangeIn};
 
-use memory_list::{Found, Key};
+use memory_list::Key;
 
 // What the walk comes to.
 #[derive(Clone, Copy)]
@@ -25,11 +25,7 @@ fn next_follows(t: &[u32], c: memory_table::Row) -> bool
     requires { c.next * ROW + ROW ≤ length t.now }
     ensures { result ≡ goes_on t.now c.next c.end }
 {
-    if c.next == memory_layout::LIST_END {
-        return false;
-    }
-    let d = memory_table::get_row(t, c.next);
-    d.start == c.end
+    c.next != memory_layout::LIST_END && memory_table::get_row(t, c.next).start == c.end
 }
 
 // The rows of the range from a to b, as far as they stand together.
@@ -37,24 +33,20 @@ pub fn find_range(t: &[u32], a: u32, b: u32) -> Range
     requires { Linked t.now }
     ensures { RangeIn t.now a b result }
 {
-    let Found::At(first) = memory_list::find(t, Key::Start, a) else {
+    let Some(first) = memory_list::find(t, Key::Start, a) else {
         return Range::Nothing;
     };
     let z = memory_table::get_row(t, 0);
-    let n = z.start;
     let mut last = first;
-    let mut k = 0;
-    while k < n {
+    for _k in 0..z.start {
         let c = memory_table::get_row(t, last);
         if c.end == b {
             return Range::Whole(first, last);
         }
-        if next_follows(t, c) {
-            last = c.next;
-            k += 1;
-        } else {
+        if !next_follows(t, c) {
             return Range::Broken(first, last);
         }
+        last = c.next;
     }
     Range::Nothing
 }

@@ -48,22 +48,10 @@ pub fn relocate_scratch(
     ensures { Leaves (relocate a b to) source.now chunks.old pieces.old store.old
         chunks.new pieces.new store.new result }
 {
-    let rows = memory_layout::SCRATCH_LEN;
-    let words = memory_layout::PIECES_LEN;
-    let size = memory_layout::STORE_LEN;
     let mut t = [0u32; memory_layout::SCRATCH_LEN];
     let mut p = [0u32; memory_layout::PIECES_LEN];
     let mut s = [0u8; memory_layout::STORE_LEN];
     relocate_by(
-        source,
-        chunks,
-        pieces,
-        store,
-        &mut t[..rows],
-        &mut p[..words],
-        &mut s[..size],
-        a,
-        b,
-        to,
+        source, chunks, pieces, store, &mut t, &mut p, &mut s, a, b, to,
     )
 }

@@ -1,3 +1,4 @@
 pub mod Segment
+pub mod Before
 pub mod Place
 pub mod Moving

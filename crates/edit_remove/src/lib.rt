@@ -3,10 +3,11 @@
 
 ghost use Rattle.std.specs.Prelude.{◌<◌};
 ghost use Rattle.model.specs.Call.{remove};
+ghost use Rattle.memory_layout.specs.Refusals.{number_of};
 ghost use Rattle.memory_used.specs.Above.{Above, Desk, Leaves};
 ghost use Rattle.edit_change_range_steps.specs.Range.{EmptyAt, RangeRan};
 
-use memory_layout::numbers;
+use memory_layout::refusal::Refusal;
 use memory_list::Change;
 use memory_used::{Outcome, Used};
 
@@ -26,14 +27,14 @@ pub fn change_range_either(
     requires a_lt_b { a < b }
     requires empty_at { EmptyAt change }
     ensures { RangeRan change a b source.now chunks.old pieces.old store.old
-        chunks.new pieces.new store.new result.number result.cuts
+        chunks.new pieces.new store.new (number_of result.status) result.cuts
         × Above chunks.new pieces.new store.new result.used }
 {
     if edit_in_place::has_rows(chunks, 2) {
         let steps = edit_change_range_steps::change_range_steps(chunks, source.len(), a, b, change);
         return Outcome {
-            number: steps.number,
-            cuts: steps.value,
+            status: steps.status,
+            cuts: steps.cuts,
             used,
         };
     }
@@ -54,35 +55,35 @@ pub fn remove(
     ensures { Leaves (remove start end) source.now chunks.old pieces.old store.old
         chunks.new pieces.new store.new result }
 {
-    if memory_texts::between_both(source, start, end) {
-        if start == end {
-            return Outcome {
-                number: 0,
-                cuts: 0,
-                used,
-            };
-        }
-        if end < start {
-            return Outcome {
-                number: numbers::END_BEFORE_START,
-                cuts: 0,
-                used,
-            };
-        }
-        return change_range_either(
-            source,
-            chunks,
-            pieces,
-            store,
-            start,
-            end,
-            Change::Clear(0),
+    if !memory_texts::between_both(source, start, end) {
+        return Outcome {
+            status: Err(Refusal::InsideCharacter),
+            cuts: 0,
             used,
-        );
+        };
     }
-    Outcome {
-        number: numbers::INSIDE_CHARACTER,
-        cuts: 0,
+    if start == end {
+        return Outcome {
+            status: Ok(()),
+            cuts: 0,
+            used,
+        };
+    }
+    if end < start {
+        return Outcome {
+            status: Err(Refusal::EndBeforeStart),
+            cuts: 0,
+            used,
+        };
+    }
+    change_range_either(
+        source,
+        chunks,
+        pieces,
+        store,
+        start,
+        end,
+        Change::Clear(0),
         used,
-    }
+    )
 }

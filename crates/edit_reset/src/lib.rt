@@ -5,7 +5,8 @@ ghost use Rattle.model.specs.Call.{reset};
 ghost use Rattle.memory_used.specs.Above.{Desk, Leaves};
 ghost use Rattle.edit_reset.specs.Within.{edit_of, Resets};
 
-use memory_layout::{NONE, numbers};
+use memory_layout::NONE;
+use memory_layout::refusal::Refusal;
 use memory_list::Change;
 use memory_used::{Outcome, Used};
 
@@ -25,37 +26,35 @@ pub fn change_within(
     ensures { Leaves (edit_of change start end) source.now chunks.old pieces.old store.old
         chunks.new pieces.new store.new result }
 {
-    if memory_texts::between_both(source, start, end) {
-        if start == end {
-            return Outcome {
-                number: 0,
-                cuts: 0,
-                used,
-            };
-        }
-        if end < start {
-            return Outcome {
-                number: numbers::END_BEFORE_START,
-                cuts: 0,
-                used,
-            };
-        }
-        if source.len() < end as usize {
-            return Outcome {
-                number: numbers::PAST_SOURCE,
-                cuts: 0,
-                used,
-            };
-        }
-        return edit_remove::change_range_either(
-            source, chunks, pieces, store, start, end, change, used,
-        );
+    if !memory_texts::between_both(source, start, end) {
+        return Outcome {
+            status: Err(Refusal::InsideCharacter),
+            cuts: 0,
+            used,
+        };
     }
-    Outcome {
-        number: numbers::INSIDE_CHARACTER,
-        cuts: 0,
-        used,
+    if start == end {
+        return Outcome {
+            status: Ok(()),
+            cuts: 0,
+            used,
+        };
     }
+    if end < start {
+        return Outcome {
+            status: Err(Refusal::EndBeforeStart),
+            cuts: 0,
+            used,
+        };
+    }
+    if source.len() < end as usize {
+        return Outcome {
+            status: Err(Refusal::PastSource),
+            cuts: 0,
+            used,
+        };
+    }
+    edit_remove::change_range_either(source, chunks, pieces, store, start, end, change, used)
 }
 
 // `reset`: the chunks of the range lose pieces and replacement.

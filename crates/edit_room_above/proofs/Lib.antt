@@ -1,5 +1,4 @@
 pub mod Passing
-pub mod Room
 pub mod Lengthening
 pub mod Longer
 pub mod Finishing

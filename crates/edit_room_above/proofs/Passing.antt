@@ -8,7 +8,7 @@ use native.Mathlib.Decide.{ℕ_discrete, dec_lt}
 use lib.ListN.{length}
 use Rattle.memory_layout.specs.Layout.{PIECES, PIECES_PAST, BYTES_PAST, NONE}
 use Rattle.utf8.specs.Chars.{All, nil, cons}
-use Rattle.memory_table.specs.Order.{Entry, entry_at, next_of, count_of}
+use Rattle.memory_table.specs.Order.{Entry, entry_at, order}
 use Rattle.model.proofs.Lists.{first_of, rest_of, all_snoc}
 use Rattle.model.specs.Limits.{within, chunk_pieces, chunk_bytes, piece_count}
 use Rattle.memory.specs.Layout.{Place, piece_at, chunk_of, magic_string_of}
@@ -17,7 +17,7 @@ use Rattle.memory.proofs.Desks.{within_keeps}
 use Rattle.memory_texts.proofs.Texts.{run_piece}
 use Rattle.memory_used.specs.Below.{Below, EntryBelow}
 use Rattle.edit_rebuild.specs.Lay.{own}
-use Rattle.edit_scratch.proofs.Counting.{CountAt, count_start, count_more, all_done, pieces_all, pieces_of, two_counts}
+use Rattle.edit_scratch.proofs.Counting.{CountOf, count_start, count_more, pieces_all, pieces_of, two_counts}
 use Rattle.memory_used.specs.declared.Used.{Used}
 use Rattle.memory_used.specs.Above.{Above}
 use Rattle.memory_used.proofs.Below.{entry_below, entries_below}
@@ -26,20 +26,18 @@ use Rattle.edit_room_above.specs.Live.{LiveIn, TopRow, RunLive, EntryLive}
 -- ── a run ──
 -- i pieces of the run are passed
 pub record RunAt (p s : List ℕ) (at n : ℕ) (c : Used) (i byte : ℕ) : Type 0 where
-  pub upto : i ≤ n
   pub below : (k : ℕ) → k < i → (piece_at p (at + k)).0 + (piece_at p (at + k)).1 ≤ byte
   pub grows : c.byte ≤ byte
   pub inside : byte ≤ length s
 
 pub run_start : (p s : List ℕ) (at n : ℕ) (c : Used) → LiveIn p s c → RunAt p s at n c 0 c.byte
-run_start p s at n c h = record { upto = omega arith; below = λ k g. absurd (omega arith); grows = omega arith; inside = h.byte }
+run_start p s at n c h = record { below = λ k g. absurd (omega arith); grows = omega arith; inside = h.byte }
 
 pub run_more : {p s : List ℕ} {at n : ℕ} {c : Used} {i byte : ℕ} (e byte' : ℕ) → RunIn p s (at, n) → RunAt p s at n c i byte → i < n
     → e ≡ (piece_at p (at + i)).0 + (piece_at p (at + i)).1 → byte' ≡ max byte e → RunAt p s at n c (i + 1) byte'
 run_more {p} {s} {at} {n} {c} {i} {byte} e byte' h r g ee em =
     let q = run_piece p s at n i h g in
     record {
-      upto = omega arith;
       below = λ k l.
           elim (dec_lt k i) [
             | yes u ↦ omega (arith, r.below k u)
@@ -118,12 +116,11 @@ module _ {p s : List ℕ} (e : Entry) {c a b : Used} (x : RunLive p s e.intro c 
 
 -- ── the walk ──
 -- the counts of `keeps`, whose bytes no one needs here
-pub record LiveAt (t p s : List ℕ) (m cur pieces row byte : ℕ) : Type 0 where
-  pub done : List ℕ
+pub record LiveOf (t p s : List ℕ) (d : Used) (us : List ℕ) : Type 0 where
   pub bytes : ℕ
-  pub counts : CountAt t p s done m cur pieces bytes
-  pub below : All (EntryBelow p byte row) (own t ∷ map (entry_at t) done)
-  pub inside : LiveIn p s (record { pieces = pieces; row = row; byte = byte })
+  pub counts : CountOf t p s d.pieces bytes us
+  pub below : All (EntryBelow p d.byte d.row) (own t ∷ map (entry_at t) us)
+  pub inside : LiveIn p s d
 
 abbrev pub no_use : Used
 no_use = record { pieces = 0; row = 0; byte = 0 }
@@ -131,10 +128,9 @@ no_use = record { pieces = 0; row = 0; byte = 0 }
 pub none_in : (p s : List ℕ) → LiveIn p s no_use
 none_in p s = record { pieces = omega arith; row = omega arith; byte = omega arith }
 
-pub live_start : (t p s : List ℕ) (e : Entry) (c : Used) → e ≡ own t → EntryLive p s e no_use c → LiveAt t p s (count_of t) (next_of t 0) c.pieces c.row c.byte
+pub live_start : (t p s : List ℕ) (e : Entry) (c : Used) → e ≡ own t → EntryLive p s e no_use c → LiveOf t p s c []
 live_start t p s e c q l =
     record {
-      done = [];
       bytes = min (0 + chunk_bytes (chunk_of p s e)) BYTES_PAST;
       counts = count_start t p s e c.pieces (min (0 + chunk_bytes (chunk_of p s e)) BYTES_PAST) q l.pieces refl;
       below = cons (subst (EntryBelow p c.byte c.row) q l.below) nil;
@@ -149,52 +145,38 @@ entries_up : {p : List ℕ} {byte row byte' row' : ℕ} {es : List Entry} → Al
 entries_up nil a b = nil
 entries_up (cons {x = e} h k) a b = cons (entry_up e h a b) (entries_up k a b)
 
-module _ {t p s : List ℕ} {m cur pieces row byte : ℕ} (h : Readable t p s) (c : LiveAt t p s (suc m) cur pieces row byte) where
-  pub live_more : (d : Used) → EntryLive p s (entry_at t cur) (record { pieces = pieces; row = row; byte = byte }) d → LiveAt t p s m (next_of t cur) d.pieces d.row d.byte
-  live_more d l =
-      let bytes = min (c.bytes + chunk_bytes (chunk_of p s (entry_at t cur))) BYTES_PAST in
-      record {
-        done = c.done ++ (cur ∷ []);
-        bytes = bytes;
-        counts = count_more h c.counts d.pieces bytes l.pieces refl;
-        below =
-            cons (first_of (entries_up c.below l.row_grows l.byte_grows))
-            (subst (All (EntryBelow p d.byte d.row)) (sym (map-append (entry_at t) c.done (cur ∷ []))) (all_snoc (rest_of (entries_up c.below l.row_grows l.byte_grows)) l.below));
-        inside = l.inside;
-      }
-
-pub record Loop (t p s : List ℕ) (n k cur pieces row byte : ℕ) : Type 0 where
-  pub upto : k ≤ n
-  pub at : LiveAt t p s (n - k) cur pieces row byte
-
-pub loop_next : {t p s : List ℕ} {n k cur pieces row byte : ℕ} → Loop t p s n k cur pieces row byte → k < n → LiveAt t p s (suc (n - (k + 1))) cur pieces row byte
-loop_next {n = n} {k = k} l g = let e : n - k ≡ suc (n - (k + 1)) = omega arith in rw e at l.at
+pub live_more : {t p s us : List ℕ} {c d : Used} (x : ℕ) → LiveOf t p s c us → EntryLive p s (entry_at t x) c d → LiveOf t p s d (us ++ (x ∷ []))
+live_more {t} {p} {s} {us} {c} {d} x h l =
+    record {
+      bytes = min (h.bytes + chunk_bytes (chunk_of p s (entry_at t x))) BYTES_PAST;
+      counts = count_more x h.counts l.pieces refl;
+      below =
+          cons (first_of (entries_up h.below l.row_grows l.byte_grows))
+          (subst (All (EntryBelow p d.byte d.row)) (sym (map-append (entry_at t) us (x ∷ []))) (all_snoc (rest_of (entries_up h.below l.row_grows l.byte_grows)) l.below));
+      inside = l.inside;
+    }
 
 -- ── the end ──
 capped_all : (c a s : ℕ) → s ≡ min a (suc c) → a ≤ c → s ≡ a
 capped_all c a s e h = omega arith
 
-module _ {t p s : List ℕ} {n k cur pieces row byte : ℕ} (l : Loop t p s n k cur pieces row byte) (g : n ≤ k) where
-  none_left : n - k ≡ 0
-  none_left = omega arith
-
-  pub live_end : Readable t p s → within (limits_of t p s) (magic_string_of [] t p s) ≡ true → Sized t p s → Above t p s (record { pieces = pieces; row = row; byte = byte })
-  live_end h w z =
-      let f = within_keeps (limits_of t p s) (magic_string_of [] t p s) w in
-      let pe = capped_all PIECES (piece_count (magic_string_of [] t p s)) pieces (pieces_all l.at.counts none_left) (omega (arith, f.pieces, z.pieces)) in
-      let b = l.at.below in
-      let hr = l.at.inside.row in
-      let hb = l.at.inside.byte in
-      let o = entry_below p s byte row hr hb (own t) (first_of b) in
-      record {
-        pieces = omega (arith, pe);
-        few = omega (arith, pe, f.pieces);
-        readable =
-            record {
-              linked = h.linked;
-              desk = record { intro = o.runs.intro; outro = o.runs.outro };
-              chunks = rw (all_done l.at.counts none_left) (entries_below p s byte row hr hb (rest_of b));
-            };
-        row = hr;
-        byte = hb;
-      }
+pub live_end : {t p s : List ℕ} {c : Used} → LiveOf t p s c (order t) → Readable t p s → within (limits_of t p s) (magic_string_of [] t p s) ≡ true → Sized t p s → Above t p s c
+live_end {t} {p} {s} {c} l h w z =
+    let f = within_keeps (limits_of t p s) (magic_string_of [] t p s) w in
+    let pe = capped_all PIECES (piece_count (magic_string_of [] t p s)) c.pieces (pieces_all l.counts) (omega (arith, f.pieces, z.pieces)) in
+    let b = l.below in
+    let hr = l.inside.row in
+    let hb = l.inside.byte in
+    let o = entry_below p s c.byte c.row hr hb (own t) (first_of b) in
+    record {
+      pieces = omega (arith, pe);
+      few = omega (arith, pe, f.pieces);
+      readable =
+          record {
+            linked = h.linked;
+            desk = record { intro = o.runs.intro; outro = o.runs.outro };
+            chunks = entries_below p s c.byte c.row hr hb (rest_of b);
+          };
+      row = hr;
+      byte = hb;
+    }

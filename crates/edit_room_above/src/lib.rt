@@ -1,8 +1,9 @@
 // Texts on top of the lent tables: above every piece row and every store byte that the desk uses, so that nothing in use is written.
 #![tactic(auto)]
 
-ghost use Rattle.std.specs.Prelude.{◌≡◌, true, false, [], ◌+◌, ◌*◌, ◌≤◌, ◌<◌, max, length};
+ghost use Rattle.std.specs.Prelude.{◌≡◌, true, false, [], ◌+◌, ◌*◌, ◌≤◌, ◌<◌, length};
 ghost use Rattle.memory_layout.specs.Layout.{CHUNKS_LEAST};
+ghost use Rattle.memory_layout.specs.Refusals.{number_of};
 ghost use Rattle.memory_table.specs.Order.{entry_of};
 ghost use Rattle.model.specs.Limits.{within};
 ghost use Rattle.memory.specs.Layout.{piece_at, magic_string_of};
@@ -12,23 +13,8 @@ ghost use Rattle.edit_rebuild.specs.Rebuilt.{Finished};
 ghost use Rattle.edit_room_above.specs.Live.{LiveIn, TopRow, RunLive, EntryLive, Usable, Small, Room};
 ghost use Rattle.edit_room_above.specs.Run.{TopRoom, Lengthened};
 
-use memory::Answer;
+use memory::Steps;
 use memory_used::{Outcome, Used};
-
-fn wide(x: u32) -> usize
-    ensures { (result ≡ x) × (result ≤ 4294967295) }
-{
-    x as usize
-}
-
-fn larger(a: usize, b: usize) -> usize
-    ensures { result ≡ max a b }
-{
-    if a < b {
-        return b;
-    }
-    a
-}
 
 // The byte behind the text that a row of the piece table names.
 fn piece_end(p: &[u32], row: usize) -> usize
@@ -36,7 +22,7 @@ fn piece_end(p: &[u32], row: usize) -> usize
     ensures { result ≡ (piece_at p.now row).0 + (piece_at p.now row).1 }
 {
     let q = memory_table::piece_at(p, row);
-    wide(q.at) + wide(q.n)
+    q.at as usize + q.n as usize
 }
 
 // A row above a run too; an empty run is not looked at.
@@ -46,7 +32,7 @@ fn top_row(at: u32, n: u32, row: usize) -> usize
     if n == 0 {
         return row;
     }
-    larger(row, wide(at) + wide(n))
+    row.max(at as usize + n as usize)
 }
 
 // A run's pieces added to the count, and places above it too.
@@ -55,15 +41,11 @@ fn live_run(p: &[u32], s: &[u8], at: u32, n: u32, c: Used) -> Used
     requires live_in { LiveIn p.now s.now c }
     ensures { RunLive p.now s.now (at, n) c result }
 {
-    let first = at as usize;
-    let count = n as usize;
     let mut byte = c.byte;
-    let mut i = 0;
-    while i < count {
-        byte = larger(byte, piece_end(p, first + i));
-        i += 1;
+    for i in 0..n as usize {
+        byte = byte.max(piece_end(p, at as usize + i));
     }
-    let pieces = edit_scratch::add_capped(c.pieces, count, memory_layout::PIECES_PAST);
+    let pieces = edit_scratch::add_capped(c.pieces, n as usize, memory_layout::PIECES_PAST);
     let row = top_row(at, n, c.row);
     Used { pieces, row, byte }
 }
@@ -80,9 +62,8 @@ fn live_row(p: &[u32], s: &[u8], r: memory_table::Row, c: Used) -> Used
         return b;
     }
     Used {
-        pieces: b.pieces,
-        row: b.row,
-        byte: larger(b.byte, wide(r.text_at) + wide(r.text_n)),
+        byte: b.byte.max(r.text_at as usize + r.text_n as usize),
+        ..b
     }
 }
 
@@ -94,8 +75,7 @@ pub fn live(t: &[u32], p: &[u32], s: &[u8]) -> Used
     ensures { Above t.now p.now s.now result }
 {
     let z = memory_table::get_row(t, 0);
-    let n = z.start;
-    let c = live_row(
+    let mut c = live_row(
         p,
         s,
         memory_texts::own_row(z),
@@ -105,32 +85,21 @@ pub fn live(t: &[u32], p: &[u32], s: &[u8]) -> Used
             byte: 0,
         },
     );
-    let mut pieces = c.pieces;
-    let mut row = c.row;
-    let mut byte = c.byte;
-    let mut cur = z.next;
-    let mut k = 0;
-    while k < n {
-        let r = memory_table::get_row(t, cur);
-        let d = live_row(p, s, r, Used { pieces, row, byte });
-        pieces = d.pieces;
-        row = d.row;
-        byte = d.byte;
-        cur = r.next;
-        k += 1;
+    for (_, r) in memory_list::rows::rows(t) {
+        c = live_row(p, s, r, c);
     }
-    Used { pieces, row, byte }
+    c
 }
 
 // An outcome with what the desk uses counted anew.
-pub fn counted(t: &[u32], p: &[u32], s: &[u8], answer: Answer) -> Outcome
+pub fn counted(t: &[u32], p: &[u32], s: &[u8], answer: Steps) -> Outcome
     requires { Usable t.now p.now s.now }
-    ensures { (result.number ≡ answer.number) × (result.cuts ≡ answer.value) × Above t.now p.now s.now result.used }
+    ensures { (result.status ≡ answer.status) × (result.cuts ≡ answer.cuts) × Above t.now p.now s.now result.used }
 {
     let used = live(t, p, s);
     Outcome {
-        number: answer.number,
-        cuts: answer.value,
+        status: answer.status,
+        cuts: answer.cuts,
         used,
     }
 }
@@ -143,12 +112,12 @@ pub fn finish(
     chunks: &mut [u32],
     pieces: &mut [u32],
     store: &mut [u8],
-    steps: Answer,
+    steps: Steps,
 ) -> Outcome
     requires readable { Readable t.now p.now s.now }
     requires usable { Usable chunks.old pieces.old store.old }
     ensures { Finished t.now p.now s.now chunks.old pieces.old store.old
-        chunks.new pieces.new store.new steps.number steps.value result.number result.cuts
+        chunks.new pieces.new store.new (number_of steps.status) steps.cuts (number_of result.status) result.cuts
         × Above chunks.new pieces.new store.new result.used }
 {
     let answer = edit_scratch::finish(t, p, s, chunks, pieces, store, steps);
@@ -161,29 +130,17 @@ pub fn has_room(l: Used, n: u32, len: usize, ct: usize, cp: usize, cs: usize) ->
     requires le_ct { CHUNKS_LEAST ≤ ct }
     ensures { (result ≡ true → Room ct cp cs l n len) × (result ≡ false → Room ct cp cs l n len → ⊥) }
 {
-    if wide(n) > ct / memory_layout::ROW - 1 {
-        return false;
-    }
-    if l.pieces >= cp / memory_layout::PIECE_ROOM {
-        return false;
-    }
-    if l.row + l.pieces >= cp / memory_layout::PIECE {
-        return false;
-    }
-    if len > cs - l.byte {
-        return false;
-    }
-    true
+    n as usize <= ct / memory_layout::ROW - 1
+        && l.pieces < cp / memory_layout::PIECE_ROOM
+        && l.row + l.pieces < cp / memory_layout::PIECE
+        && len <= cs - l.byte
 }
 
 // Whether a text goes behind a run that ends at the row: then no row of it needs to be copied.
 fn ends_at(front: bool, at: u32, n: u32, row: usize) -> bool
     ensures { result ≡ true → (front ≡ false) × (at + n ≡ row) }
 {
-    if front {
-        return false;
-    }
-    wide(at) + wide(n) == row
+    !front && at as usize + n as usize == row
 }
 
 // A run with a text more in front of it or behind: the text lies in the store already; the rows of the run are copied to `row`, or stay where they end there.
@@ -202,7 +159,7 @@ pub fn lengthen(
 {
     if ends_at(front, at, n, row) {
         memory_table::set_piece(p, row, text_at, text_n);
-        return wide(at);
+        return at as usize;
     }
     if front {
         memory_table::set_piece(p, row, text_at, text_n);

@@ -1,8 +1,8 @@
 -- The counts that `keeps` makes, and the limits.
 use mathlib.Core.Path.{◌≡◌, refl, sym, ap, ◌∙◌, subst}
 use mathlib.Core.Bool.{true, false, ◌&&◌}
-use mathlib.Core.List.{List, [], ◌∷◌, ◌++◌, map, map-append, append_assoc, append-nil}
-use Prim.Native.Nat.{ℕ, suc, ◌+◌, ◌*◌, ◌-◌, ◌≤◌, ◌<◌, min}
+use mathlib.Core.List.{List, [], ◌∷◌, ◌++◌, map, map-append}
+use Prim.Native.Nat.{ℕ, suc, ◌+◌, ◌≤◌, ◌<◌, min}
 use native.Mathlib.Omega.{arith}
 use native.Mathlib.Decide.{dec_le}
 use native.Mathlib.Numerals.{add-one}
@@ -10,12 +10,10 @@ use lib.Dec.{leb}
 use lib.ListN.{length, drop, length-drop}
 use lib.Seq.{length-take-le}
 use borrow.Author.Tests.{le-leb, lt-leb, ne_eqb, eq-eqb}
-use Rattle.memory_layout.specs.Layout.{ROW, PIECES, STORE_LEN, PIECES_PAST, BYTES_PAST, NONE}
+use Rattle.memory_layout.specs.Layout.{PIECES, STORE_LEN, PIECES_PAST, BYTES_PAST, NONE}
 use Rattle.utf8.specs.Chars.{All}
 use Rattle.utf8.proofs.CharLaws.{all_back}
-use Rattle.memory_table.specs.Ring.{follow}
-use Rattle.memory_table.specs.Order.{Entry, entry_at, entries, order, next_of, count_of}
-use Rattle.memory_table.proofs.Order.{inside_at}
+use Rattle.memory_table.specs.Order.{Entry, entry_at, entries, order, count_of}
 use Rattle.model.specs.Text.{sum}
 use Rattle.model.specs.Chunk.{Chunk}
 use Rattle.model.specs.Limits.{within, chunk_pieces, chunk_bytes, piece_count, byte_count, replacement_bytes}
@@ -59,50 +57,38 @@ unfolding replacement_of
 no_bytes s r e = rw (eq-eqb r.0 NONE e)
 
 -- ── the walk ──
-pub record CountAt (t p s done : List ℕ) (m cur pieces bytes : ℕ) : Type 0 where
-  pub place : order t ≡ done ++ follow (next_of t) m cur
-  pub pieces_are : pieces ≡ min (sum chunk_pieces (map (chunk_of p s) (own t ∷ map (entry_at t) done))) PIECES_PAST
-  pub bytes_are : bytes ≡ min (sum chunk_bytes (map (chunk_of p s) (own t ∷ map (entry_at t) done))) BYTES_PAST
+-- pieces and bytes are those of the desk's own row and of the rows us, up to their limits
+pub record CountOf (t p s : List ℕ) (pieces bytes : ℕ) (us : List ℕ) : Type 0 where
+  pub pieces_are : pieces ≡ min (sum chunk_pieces (map (chunk_of p s) (own t ∷ map (entry_at t) us))) PIECES_PAST
+  pub bytes_are : bytes ≡ min (sum chunk_bytes (map (chunk_of p s) (own t ∷ map (entry_at t) us))) BYTES_PAST
 
 pub count_start : (t p s : List ℕ) (e : Entry) (pieces bytes : ℕ) → e ≡ own t → pieces ≡ min (0 + chunk_pieces (chunk_of p s e)) PIECES_PAST → bytes ≡ min (0 + chunk_bytes (chunk_of p s e)) BYTES_PAST
-    → CountAt t p s [] (count_of t) (next_of t 0) pieces bytes
-unfolding order
+    → CountOf t p s pieces bytes []
 count_start t p s e pieces bytes q f g =
     let a : chunk_pieces (chunk_of p s e) ≡ chunk_pieces (chunk_of p s (own t)) = ap (λ (x : Entry). chunk_pieces (chunk_of p s x)) q in
     let b : chunk_bytes (chunk_of p s e) ≡ chunk_bytes (chunk_of p s (own t)) = ap (λ (x : Entry). chunk_bytes (chunk_of p s x)) q in
-    record { place = refl; pieces_are = omega arith; bytes_are = omega arith }
+    record { pieces_are = omega arith; bytes_are = omega arith }
 
-module _ {t p s done : List ℕ} {m cur pieces bytes : ℕ} (h : Readable t p s) (c : CountAt t p s done (suc m) cur pieces bytes) where
-  pub count_in : EntryIn p s (entry_at t cur)
-  count_in =
-      first_of (all_back (EntryIn p s) (map (entry_at t) done) (map (entry_at t) (follow (next_of t) (suc m) cur))
-      (subst (All (EntryIn p s)) (ap (map (entry_at t)) c.place ∙ map-append (entry_at t) done (follow (next_of t) (suc m) cur)) h.chunks))
+-- the entry of a row that the walk meets
+pub entry_in : {t p s : List ℕ} → Readable t p s → (us : List ℕ) (x : ℕ) (bs : List ℕ) → order t ≡ us ++ x ∷ bs → EntryIn p s (entry_at t x)
+entry_in {t} {p} {s} h us x bs e =
+    first_of (all_back (EntryIn p s) (map (entry_at t) us) (map (entry_at t) (x ∷ bs))
+    (subst (All (EntryIn p s)) (ap (map (entry_at t)) e ∙ map-append (entry_at t) us (x ∷ bs)) h.chunks))
 
-  pub count_row : cur * ROW + ROW ≤ length t
-  count_row = omega (arith, h.linked.room, (inside_at t done cur (follow (next_of t) m (next_of t cur)) h.linked c.place).1)
-
-  more : (w : Chunk → ℕ) → sum w (map (chunk_of p s) (own t ∷ map (entry_at t) (done ++ (cur ∷ [])))) ≡ sum w (map (chunk_of p s) (own t ∷ map (entry_at t) done)) + w (chunk_of p s (entry_at t cur))
+module _ {t p s us : List ℕ} {pieces bytes : ℕ} (x : ℕ) (c : CountOf t p s pieces bytes us) where
+  more : (w : Chunk → ℕ) → sum w (map (chunk_of p s) (own t ∷ map (entry_at t) (us ++ (x ∷ [])))) ≡ sum w (map (chunk_of p s) (own t ∷ map (entry_at t) us)) + w (chunk_of p s (entry_at t x))
   more w =
-      let e : map (chunk_of p s) (map (entry_at t) (done ++ (cur ∷ []))) ≡ map (chunk_of p s) (map (entry_at t) done) ++ (chunk_of p s (entry_at t cur) ∷ []) =
-      ap (map (chunk_of p s)) (map-append (entry_at t) done (cur ∷ [])) ∙ map-append (chunk_of p s) (map (entry_at t) done) (entry_at t cur ∷ []) in
-      rw e (sum_snoc w (chunk_of p s (own t) ∷ map (chunk_of p s) (map (entry_at t) done)) (chunk_of p s (entry_at t cur)))
+      let e : map (chunk_of p s) (map (entry_at t) (us ++ (x ∷ []))) ≡ map (chunk_of p s) (map (entry_at t) us) ++ (chunk_of p s (entry_at t x) ∷ []) =
+      ap (map (chunk_of p s)) (map-append (entry_at t) us (x ∷ [])) ∙ map-append (chunk_of p s) (map (entry_at t) us) (entry_at t x ∷ []) in
+      rw e (sum_snoc w (chunk_of p s (own t) ∷ map (chunk_of p s) (map (entry_at t) us)) (chunk_of p s (entry_at t x)))
 
-  pub count_more : (pieces' bytes' : ℕ) → pieces' ≡ min (pieces + chunk_pieces (chunk_of p s (entry_at t cur))) PIECES_PAST → bytes' ≡ min (bytes + chunk_bytes (chunk_of p s (entry_at t cur))) BYTES_PAST
-      → CountAt t p s (done ++ (cur ∷ [])) m (next_of t cur) pieces' bytes'
-  count_more pieces' bytes' e f =
+  pub count_more : {pieces' bytes' : ℕ} → pieces' ≡ min (pieces + chunk_pieces (chunk_of p s (entry_at t x))) PIECES_PAST → bytes' ≡ min (bytes + chunk_bytes (chunk_of p s (entry_at t x))) BYTES_PAST
+      → CountOf t p s pieces' bytes' (us ++ (x ∷ []))
+  count_more {pieces'} {bytes'} e f =
       record {
-        place = c.place ∙ sym (append_assoc done (cur ∷ []) (follow (next_of t) m (next_of t cur)));
-        pieces_are = capped_more PIECES_PAST _ _ pieces pieces' c.pieces_are e ∙ ap (λ (x : ℕ). min x PIECES_PAST) (sym (more chunk_pieces));
-        bytes_are = capped_more BYTES_PAST _ _ bytes bytes' c.bytes_are f ∙ ap (λ (x : ℕ). min x BYTES_PAST) (sym (more chunk_bytes));
+        pieces_are = capped_more PIECES_PAST _ _ pieces pieces' c.pieces_are e ∙ ap (λ (y : ℕ). min y PIECES_PAST) (sym (more chunk_pieces));
+        bytes_are = capped_more BYTES_PAST _ _ bytes bytes' c.bytes_are f ∙ ap (λ (y : ℕ). min y BYTES_PAST) (sym (more chunk_bytes));
       }
-
-pub record Loop (t p s : List ℕ) (n k cur pieces bytes : ℕ) : Type 0 where
-  pub below : k ≤ n
-  pub done : List ℕ
-  pub at : CountAt t p s done (n - k) cur pieces bytes
-
-pub loop_next : {t p s : List ℕ} {n k cur pieces bytes : ℕ} → (l : Loop t p s n k cur pieces bytes) → k < n → CountAt t p s l.done (suc (n - (k + 1))) cur pieces bytes
-loop_next {n = n} {k = k} l g = let e : n - k ≡ suc (n - (k + 1)) = omega arith in rw e at l.at
 
 -- ── the limits ──
 pub too_many : (t p s : List ℕ) (c x y : ℕ) → c < count_of t → false ≡ within (limits_by c x y) (magic_string_of [] t p s)
@@ -112,35 +98,29 @@ too_many t p s c x y h = rw (lt-leb (length (map (chunk_of p s) (entries t))) c 
 leb_min : (x c d : ℕ) → d ≤ c → leb (min x (suc c)) d ≡ leb x d
 leb_min x c d k = elim (dec_le x d) [ yes h ↦ rw (le-leb x d h, le-leb (min x (suc c)) d (omega arith)) | no h ↦ rw (lt-leb x d (omega arith), lt-leb (min x (suc c)) d (omega arith)) ]
 
--- where no row is left, all are counted
-module _ {t p s done : List ℕ} {m cur pieces bytes : ℕ} (c : CountAt t p s done m cur pieces bytes) (z : m ≡ 0) where
-  pub all_done : entries t ≡ map (entry_at t) done
-  all_done = ap (map (entry_at t)) (c.place ∙ ap (λ (x : ℕ). done ++ follow (next_of t) x cur) z ∙ append-nil done)
-
+-- where all rows are counted
+module _ {t p s : List ℕ} {pieces bytes : ℕ} (c : CountOf t p s pieces bytes (order t)) where
   pub pieces_all : pieces ≡ min (piece_count (magic_string_of [] t p s)) PIECES_PAST
   unfolding magic_string_of
-  pieces_all = rw all_done c.pieces_are
+  pieces_all = c.pieces_are
 
-  pub bytes_all : bytes ≡ min (byte_count (magic_string_of [] t p s)) BYTES_PAST
+  bytes_all : bytes ≡ min (byte_count (magic_string_of [] t p s)) BYTES_PAST
   unfolding magic_string_of replacement_of
-  bytes_all = rw all_done (c.bytes_are ∙ ap (λ (x : ℕ). min x BYTES_PAST) (omega arith))
+  bytes_all = c.bytes_are ∙ ap (λ (x : ℕ). min x BYTES_PAST) (omega arith)
 
-module _ {t p s : List ℕ} {n k cur pieces bytes mc mp mb : ℕ} (l : Loop t p s n k cur pieces bytes) (g : n ≤ k) (few : count_of t ≤ mc) (hp : mp ≤ PIECES) (hb : mb ≤ STORE_LEN) where
-  none_left : n - k ≡ 0
-  none_left = omega arith
-
+module _ {t p s : List ℕ} {pieces bytes mc mp mb : ℕ} (c : CountOf t p s pieces bytes (order t)) (few : count_of t ≤ mc) (hp : mp ≤ PIECES) (hb : mb ≤ STORE_LEN) where
   within_is : within (limits_by mc mp mb) (magic_string_of [] t p s) ≡ (leb pieces mp && leb bytes mb)
   unfolding within magic_string_of
   within_is =
-      let a : leb pieces mp ≡ leb (piece_count (magic_string_of [] t p s)) mp = ap (λ (x : ℕ). leb x mp) (pieces_all l.at none_left) ∙ leb_min (piece_count (magic_string_of [] t p s)) PIECES mp hp in
-      let b : leb bytes mb ≡ leb (byte_count (magic_string_of [] t p s)) mb = ap (λ (x : ℕ). leb x mb) (bytes_all l.at none_left) ∙ leb_min (byte_count (magic_string_of [] t p s)) STORE_LEN mb hb in
+      let a : leb pieces mp ≡ leb (piece_count (magic_string_of [] t p s)) mp = ap (λ (x : ℕ). leb x mp) (pieces_all c) ∙ leb_min (piece_count (magic_string_of [] t p s)) PIECES mp hp in
+      let b : leb bytes mb ≡ leb (byte_count (magic_string_of [] t p s)) mb = ap (λ (x : ℕ). leb x mb) (bytes_all c) ∙ leb_min (byte_count (magic_string_of [] t p s)) STORE_LEN mb hb in
       rw (a, b, le-leb (length (map (chunk_of p s) (entries t))) mc (omega (arith, chunk_count [] t p s)))
 
-  pub too_many_pieces : mp < pieces → false ≡ within (limits_by mc mp mb) (magic_string_of [] t p s)
-  too_many_pieces h = sym (within_is ∙ rw (lt-leb pieces mp h))
+  pub few_pieces : pieces ≤ mp → leb bytes mb ≡ within (limits_by mc mp mb) (magic_string_of [] t p s)
+  few_pieces h = sym (within_is ∙ rw (le-leb pieces mp h))
 
-  pub rest_is : pieces ≤ mp → leb bytes mb ≡ within (limits_by mc mp mb) (magic_string_of [] t p s)
-  rest_is h = sym (within_is ∙ rw (le-leb pieces mp h))
+  pub many_pieces : mp < pieces → leb pieces mp ≡ within (limits_by mc mp mb) (magic_string_of [] t p s)
+  many_pieces h = lt-leb pieces mp h ∙ sym (within_is ∙ rw (lt-leb pieces mp h))
 
 -- counts that stop at c, one after another
 pub two_counts : (c a x y r s z : ℕ) → r ≡ min (a + x) c → s ≡ min (r + y) c → z ≡ x + y → s ≡ min (a + z) c

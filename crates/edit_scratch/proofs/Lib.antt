@@ -1,3 +1,4 @@
 pub mod Counting
 pub mod Tables
 pub mod Front
+pub mod Refused

@@ -3,6 +3,7 @@
 
 ghost use Rattle.std.specs.Prelude.{◌≡◌, [], ◌+◌, ◌≤◌, min, length};
 ghost use Rattle.memory_layout.specs.Layout.{CHUNKS, PIECES, STORE_LEN, PIECES_PAST, BYTES_PAST};
+ghost use Rattle.memory_layout.specs.Refusals.{number_of};
 ghost use Rattle.memory_table.specs.Order.{entry_of};
 ghost use Rattle.model.specs.Text.{sum};
 ghost use Rattle.model.specs.Limits.{within, chunk_pieces, chunk_bytes};
@@ -11,8 +12,8 @@ ghost use Rattle.memory.specs.WellFormed.{limits_by, RunIn, EntryIn, Readable, S
 ghost use Rattle.edit_rebuild.specs.Rebuilt.{Finished};
 ghost use Rattle.edit_scratch.specs.Loaded.{Loaded};
 
-use memory::Answer;
-use memory_layout::numbers;
+use memory::Steps;
+use memory_layout::refusal::Refusal;
 
 // The lent tables, at the front of the scratch tables.
 pub fn load(
@@ -27,20 +28,16 @@ pub fn load(
     ensures { Loaded chunks.now pieces.now store.now t.old p.old s.old
         t.new p.new s.new }
 {
-    memory_texts::put_words(t, chunks);
-    memory_texts::put_words(p, pieces);
+    memory_texts::put(t, chunks);
+    memory_texts::put(p, pieces);
     memory_texts::put(s, store);
 }
 
 // total + n, or cap where that is more.
 pub fn add_capped(total: usize, n: usize, cap: usize) -> usize
-    requires { total ≤ cap }
     ensures { result ≡ min (total + n) cap }
 {
-    if n < cap - total {
-        return total + n;
-    }
-    cap
+    total.saturating_add(n).min(cap)
 }
 
 // The bytes of a run's texts, added to a count that stops past the limit of the store.
@@ -49,14 +46,10 @@ fn run_bytes(p: &[u32], s: &[u8], at: u32, n: u32, total: usize) -> usize
     requires total_bound { total ≤ BYTES_PAST }
     ensures { result ≡ min (total + sum length (run_of p.now s.now (at, n))) BYTES_PAST }
 {
-    let first = at as usize;
-    let count = n as usize;
     let mut sum = total;
-    let mut i = 0;
-    while i < count {
-        let text = memory_texts::text_of(p, s, first + i);
+    for i in 0..n as usize {
+        let text = memory_texts::text_of(p, s, at as usize + i);
         sum = add_capped(sum, text.len(), memory_layout::BYTES_PAST);
-        i += 1;
     }
     sum
 }
@@ -100,11 +93,10 @@ pub fn keeps(
     ensures { result ≡ within (limits_by most_chunks most_pieces most_bytes) (magic_string_of [] t.now p.now s.now) }
 {
     let z = memory_table::get_row(t, 0);
-    let n = z.start;
-    if n > most_chunks {
+    if z.start > most_chunks {
         return false;
     }
-    let c = count_row(
+    let mut c = count_row(
         p,
         s,
         memory_texts::own_row(z),
@@ -113,22 +105,10 @@ pub fn keeps(
             bytes: 0,
         },
     );
-    let mut pieces = c.pieces;
-    let mut bytes = c.bytes;
-    let mut cur = z.next;
-    let mut k = 0;
-    while k < n {
-        let r = memory_table::get_row(t, cur);
-        let d = count_row(p, s, r, Counts { pieces, bytes });
-        pieces = d.pieces;
-        bytes = d.bytes;
-        cur = r.next;
-        k += 1;
+    for (_, r) in memory_list::rows::rows(t) {
+        c = count_row(p, s, r, c);
     }
-    if pieces > most_pieces {
-        return false;
-    }
-    bytes <= most_bytes
+    c.pieces <= most_pieces && c.bytes <= most_bytes
 }
 
 // The end of such a call: the desk of the scratch tables written into the lent tables, with the number and the cuts of the steps; or 13, and nothing written, so that no cut remains.
@@ -139,12 +119,12 @@ pub fn finish(
     chunks: &mut [u32],
     pieces: &mut [u32],
     store: &mut [u8],
-    steps: Answer,
-) -> Answer
+    steps: Steps,
+) -> Steps
     requires readable { Readable t.now p.now s.now }
     requires sized { Sized chunks.old pieces.old store.old }
     ensures { Finished t.now p.now s.now chunks.old pieces.old store.old
-        chunks.new pieces.new store.new steps.number steps.value result.number result.value }
+        chunks.new pieces.new store.new (number_of steps.status) steps.cuts (number_of result.status) result.cuts }
 {
     let most = (chunks.len() / memory_layout::ROW - 1) as u32;
     if keeps(
@@ -158,8 +138,8 @@ pub fn finish(
         edit_rebuild::rebuild(t, p, s, chunks, pieces, store);
         return steps;
     }
-    Answer {
-        number: numbers::LIMIT,
-        value: 0,
+    Steps {
+        status: Err(Refusal::Limit),
+        cuts: 0,
     }
 }

@@ -10,6 +10,7 @@ use Rattle.model.specs.Limits.{Limits, within}
 use Rattle.model.specs.Call.{Edit, steps, refused_before, judged, run, idle}
 use Rattle.model.specs.WellFormed as model
 use Rattle.model.proofs.Lists.{bool-elim}
+use Rattle.memory_layout.specs.Refusals.{number_of}
 use Rattle.memory.specs.Layout.{magic_string_of}
 use Rattle.memory.specs.WellFormed.{limits_of, Lengths, Readable, WellFormed}
 use Rattle.memory.proofs.Desks.{chunk_count, limits_as, sized_as, short_source}
@@ -110,7 +111,7 @@ module _ {f : MagicString → Result} {source t p s t1 p1 s1 t2 p2 s2 : List ℕ
         let a = g.refused z in
         rw (a.0, g.no_cuts z, a.1.chunks, a.1.pieces, a.1.store) (ran_same e source t p s r w h (did.result ∙ ap (err r) stay))
 
-    tried_by : (b : ℕ) → r ≡ b → (o : Outcome) → o.number ≡ r' → o.cuts ≡ c' → Above t' p' s' o.used → Tried f source t p s t' p' s' o
+    tried_by : (b : ℕ) → r ≡ b → (o : Outcome) → number_of o.status ≡ r' → o.cuts ≡ c' → Above t' p' s' o.used → Tried f source t p s t' p' s' o
     tried_by zero z o e k a = record { ran = λ _. rw (e, k) (made_ran z); same = λ n. made_same z (sym e ∙ n); above = a }
     tried_by (suc b) z o e k a =
         let y : r ≡ 0 → ⊥ = λ v. absurd (omega arith) in
@@ -120,11 +121,11 @@ module _ {f : MagicString → Result} {source t p s t1 p1 s1 t2 p2 s2 : List ℕ
           above = a;
         }
 
-    pub tried : (o : Outcome) → o.number ≡ r' → o.cuts ≡ c' → Above t' p' s' o.used → Tried f source t p s t' p' s' o
+    pub tried : (o : Outcome) → number_of o.status ≡ r' → o.cuts ≡ c' → Above t' p' s' o.used → Tried f source t p s t' p' s' o
     tried o e k a = tried_by r refl o e k a
 
 -- what 13 leaves is what was there, for another way
-module _ {f : MagicString → Result} {source t p s t1 p1 s1 : List ℕ} {o : Outcome} (x : Tried f source t p s t1 p1 s1 o) (n : o.number ≡ 13) where
+module _ {f : MagicString → Result} {source t p s t1 p1 s1 : List ℕ} {o : Outcome} (x : Tried f source t p s t1 p1 s1 o) (n : number_of o.status ≡ 13) where
   pub tried_formed : WellFormed source t p s → WellFormed source t1 p1 s1
   tried_formed w = let a = x.same n in rw (a.chunks, a.pieces, a.store) w
 

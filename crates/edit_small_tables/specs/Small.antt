@@ -2,6 +2,7 @@
 use Rattle.std.specs.Prelude.{◌≡◌, true, List, [], ℕ}
 use Rattle.model.specs.MagicString.{MagicString, Result}
 use Rattle.model.specs.Limits.{within}
+use Rattle.memory_layout.specs.Refusals.{number_of}
 use Rattle.memory.specs.Layout.{magic_string_of}
 use Rattle.memory.specs.WellFormed.{limits_of, Sized, Readable}
 use Rattle.memory.specs.Calls.{Same}
@@ -35,6 +36,6 @@ pub record Attempted (f : MagicString → Result) (source t p s t' p' s' : List 
 
 -- the call is made, or 13 and nothing written: then it is to be made in another way
 pub record Tried (f : MagicString → Result) (source t p s t' p' s' : List ℕ) (o : Outcome) : Type 0 where
-  pub ran : (o.number ≡ 13 → ⊥) → StepsRan f source t p s t' p' s' o.number o.cuts
-  pub same : o.number ≡ 13 → Same t p s t' p' s'
+  pub ran : (number_of o.status ≡ 13 → ⊥) → StepsRan f source t p s t' p' s' (number_of o.status) o.cuts
+  pub same : number_of o.status ≡ 13 → Same t p s t' p' s'
   pub above : Above t' p' s' o.used

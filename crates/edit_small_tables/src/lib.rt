@@ -3,12 +3,13 @@
 #![tactic(auto)]
 
 ghost use Rattle.std.specs.Prelude.{◌≡◌};
+ghost use Rattle.memory_layout.specs.Refusals.{number_of};
 ghost use Rattle.memory.specs.WellFormed.{Readable};
 ghost use Rattle.memory_used.specs.Above.{Above};
 ghost use Rattle.edit_room_above.specs.Live.{Usable};
 ghost use Rattle.edit_small_tables.specs.Small.{Fits, LaidIn, Ended};
 
-use memory::Answer;
+use memory::Steps;
 use memory_used::{Outcome, Used};
 
 // The desk, laid out at the front of the small tables, and what it uses there.
@@ -36,20 +37,16 @@ pub fn finish(
     chunks: &mut [u32],
     pieces: &mut [u32],
     store: &mut [u8],
-    edit: Answer,
+    edit: Steps,
 ) -> Outcome
-    requires readable { edit.number ≡ 0 → Readable t.now p.now s.now }
+    requires readable { number_of edit.status ≡ 0 → Readable t.now p.now s.now }
     requires usable { Usable chunks.old pieces.old store.old }
     ensures { Ended t.now p.now s.now chunks.old pieces.old store.old
-        chunks.new pieces.new store.new edit.number edit.value result.number result.cuts
+        chunks.new pieces.new store.new (number_of edit.status) edit.cuts (number_of result.status) result.cuts
         × Above chunks.new pieces.new store.new result.used }
 {
-    if edit.number != 0 {
-        let refused = Answer {
-            number: edit.number,
-            value: 0,
-        };
-        return edit_room_above::counted(chunks, pieces, store, refused);
+    match edit.status {
+        Ok(()) => edit_room_above::finish(t, p, s, chunks, pieces, store, edit),
+        Err(_) => edit_room_above::counted(chunks, pieces, store, Steps { cuts: 0, ..edit }),
     }
-    edit_room_above::finish(t, p, s, chunks, pieces, store, edit)
 }

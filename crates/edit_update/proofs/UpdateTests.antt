@@ -14,6 +14,7 @@ use Rattle.memory.specs.Layout.{magic_string_of}
 use Rattle.memory.specs.WellFormed.{WellFormed}
 use Rattle.memory.specs.Calls.{Ran}
 use Rattle.edit_scratch.proofs.Tables.{ran_before, ran_same, refused_1, refused_3, not_refused}
+use Rattle.edit_update.specs.Tests.{TestsSay}
 
 steps_same : (a b : ℕ) (t : List ℕ) (o : Bool) (m : MagicString) → a ≡ b → steps (update_with a b t o) m ≡ err 5 m
 unfolding update_rs.update_with
@@ -40,3 +41,7 @@ module _ {source t p s : List ℕ} (a b : ℕ) (text : List ℕ) (o : Bool) (w :
 
       pub update_reversed : b < a → Ran (update_with a b text o) source t p s t p s 4 0
       update_reversed e = ran_same (update_with a b text o) source t p s 4 w update_asked (steps_reversed a b text o (magic_string_of source t p s) e)
+
+pub says_refused : (a b : ℕ) (text : List ℕ) {source : List ℕ} (r : ℕ) → (r ≡ 0 → ⊥)
+    → ((o : Bool) (t p s : List ℕ) → WellFormed source t p s → Ran (update_with a b text o) source t p s t p s r 0) → TestsSay a b text source r
+says_refused a b text r n h = record { refused = λ _. h; ascends = λ z. absurd (n z); asked = λ z. absurd (n z) }

@@ -1,34 +1,29 @@
 // update.rs: `update_with`, with `keep_original` false, on lent memory.
 #![tactic(auto)]
 
-ghost use Rattle.std.specs.Prelude.{◌≡◌, ◌<◌};
+ghost use Rattle.std.specs.Prelude.{◌≡◌, true, ◌<◌};
+ghost use Rattle.utf8.specs.Rfc3629.{utf8};
+ghost use Rattle.memory_layout.specs.Refusals.{number_of};
 ghost use Rattle.model.specs.Call.{update_with, refused_before};
 ghost use Rattle.memory.specs.Layout.{magic_string_of};
 ghost use Rattle.memory_used.specs.Above.{Desk, Leaves};
 ghost use Rattle.edit_update.specs.Calls.{Settled};
+ghost use Rattle.edit_update.specs.Tests.{TestsSay};
 
-use memory::Answer;
-use memory_layout::numbers;
+use memory::Steps;
+use memory_layout::refusal::Refusal;
 use memory_used::{Outcome, Used};
 
 // The outcome of steps on the lent tables: a text that they stored ends at `end`.
-fn settled(steps: Answer, used: Used, end: usize) -> Outcome
-    ensures { Settled steps.number steps.value used end result }
+fn settled(steps: Steps, used: Used, end: usize) -> Outcome
+    ensures { Settled (number_of steps.status) steps.cuts used end result }
 {
-    let number = steps.number;
-    let cuts = steps.value;
-    if number == 0 {
-        return Outcome {
-            number,
-            cuts,
-            used: Used {
-                pieces: used.pieces,
-                row: used.row,
-                byte: end,
-            },
-        };
+    let byte = if steps.status.is_ok() { end } else { used.byte };
+    Outcome {
+        status: steps.status,
+        cuts: steps.cuts,
+        used: Used { byte, ..used },
     }
-    Outcome { number, cuts, used }
 }
 
 // `update_with` past 5 and 4: on the lent tables themselves where 13 cannot arise and there is room above all texts in use; else on scratch tables.
@@ -73,7 +68,27 @@ fn update_either(
     edit_update_scratch::update_scratch(source, chunks, pieces, store, start, end, text, overwrite)
 }
 
-// `update_with`: 1, 3, 5, 4, then the steps.
+// What `update_with` tests, in this order: 1, 3, 5, 4.
+fn tested(source: &[u8], start: u32, end: u32, text: &[u8]) -> Result<(), Refusal>
+    requires { utf8 source.now ≡ true }
+    ensures { TestsSay start end text.now source.now (number_of result) }
+{
+    if !utf8::valid(text) {
+        return Err(Refusal::NotUtf8);
+    }
+    if !memory_texts::between_both(source, start, end) {
+        return Err(Refusal::InsideCharacter);
+    }
+    if start == end {
+        return Err(Refusal::ZeroWidth);
+    }
+    if end < start {
+        return Err(Refusal::EndBeforeStart);
+    }
+    Ok(())
+}
+
+// `update_with`: its tests, then the steps.
 pub fn update_with(
     source: &[u8],
     chunks: &mut [u32],
@@ -89,35 +104,15 @@ pub fn update_with(
     ensures { Leaves (update_with start end text.now overwrite) source.now chunks.old pieces.old store.old
         chunks.new pieces.new store.new result }
 {
-    if utf8::valid(text) {
-        if memory_texts::between_both(source, start, end) {
-            if start == end {
-                return Outcome {
-                    number: numbers::ZERO_WIDTH,
-                    cuts: 0,
-                    used,
-                };
-            }
-            if end < start {
-                return Outcome {
-                    number: numbers::END_BEFORE_START,
-                    cuts: 0,
-                    used,
-                };
-            }
-            return update_either(
-                source, chunks, pieces, store, start, end, text, overwrite, used,
-            );
-        }
+    let status = tested(source, start, end, text);
+    if status.is_err() {
         return Outcome {
-            number: numbers::INSIDE_CHARACTER,
+            status,
             cuts: 0,
             used,
         };
     }
-    Outcome {
-        number: numbers::NOT_UTF8,
-        cuts: 0,
-        used,
-    }
+    update_either(
+        source, chunks, pieces, store, start, end, text, overwrite, used,
+    )
 }

@@ -8,7 +8,7 @@ ghost use Rattle.memory.specs.WellFormed.{WellFormed};
 ghost use Rattle.memory_used.specs.Above.{Leaves};
 ghost use Rattle.edit_update_scratch.specs.Tables.{UpdateScratch};
 
-use memory_layout::numbers;
+use memory_layout::refusal::Refusal;
 use memory_used::Outcome;
 
 // `update_with` past 5 and 4, with scratch tables lent.
@@ -43,7 +43,7 @@ fn update_by(
         overwrite,
         store.len(),
     );
-    if steps.number == numbers::LIMIT {
+    if steps.status == Err(Refusal::Limit) {
         return edit_room_above::counted(chunks, pieces, store, steps);
     }
     edit_room_above::finish(t, p, s, chunks, pieces, store, steps)
@@ -66,23 +66,10 @@ pub fn update_scratch(
     ensures { Leaves (update_with start end text.now overwrite) source.now chunks.old pieces.old store.old
         chunks.new pieces.new store.new result }
 {
-    let rows = memory_layout::SCRATCH_LEN;
-    let words = memory_layout::PIECES_LEN;
-    let size = memory_layout::UPDATE_STORE_LEN;
     let mut t = [0u32; memory_layout::SCRATCH_LEN];
     let mut p = [0u32; memory_layout::PIECES_LEN];
     let mut s = [0u8; memory_layout::UPDATE_STORE_LEN];
     update_by(
-        source,
-        chunks,
-        pieces,
-        store,
-        &mut t[..rows],
-        &mut p[..words],
-        &mut s[..size],
-        start,
-        end,
-        text,
-        overwrite,
+        source, chunks, pieces, store, &mut t, &mut p, &mut s, start, end, text, overwrite,
     )
 }

@@ -13,7 +13,7 @@ use Rattle.model.specs.Limits.{piece_count, byte_count, replacement_bytes}
 use Rattle.model.proofs.Lists.{sum_append}
 use Rattle.memory.specs.Layout.{Place, run_of, replacement_of, magic_string_of}
 use Rattle.memory.specs.WellFormed.{times, HoldsEach}
-use Rattle.memory_list.specs.declared.Found.{Found}
+use Rattle.std.specs.Prelude.{Option}
 use Rattle.memory_list.specs.Insert.{Placed}
 use Rattle.memory_list.specs.Split.{RowSet}
 use Rattle.memory_list.proofs.Split.{row_set, entries_at}
@@ -60,10 +60,10 @@ same_count t t' o = sym (order_length t') ∙ ap length o ∙ order_length t
 same_each : (t t' : List ℕ) → order t' ≡ order t → HoldsEach t → HoldsEach t'
 same_each t t' o h i a b = ap (times i) o ∙ h i a (omega (arith, same_count t t' o))
 
-pub walked_count : {a b : ℕ} {t t' : List ℕ} {r : Found} → Walked a b t t' r → count_of t' ≡ count_of t
+pub walked_count : {a b : ℕ} {t t' : List ℕ} {r : Option ℕ} → Walked a b t t' r → count_of t' ≡ count_of t
 walked_count {t = t} {t' = t'} d = same_count t t' d.order_is
 
-pub walked_kept : {a b : ℕ} {t t' : List ℕ} {r : Found} → Walked a b t t' r → Kept t t'
+pub walked_kept : {a b : ℕ} {t t' : List ℕ} {r : Option ℕ} → Walked a b t t' r → Kept t t'
 walked_kept {a} {b} {t} {t'} d =
     record {
       each = same_each t t' d.order_is;

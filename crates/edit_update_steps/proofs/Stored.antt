@@ -20,7 +20,7 @@ use Rattle.memory.specs.Calls.{may_write}
 use Rattle.memory.proofs.Desks.{source_of}
 use Rattle.memory_texts.specs.Over.{over}
 use Rattle.memory_texts.proofs.Over.{over_nil, over_behind}
-use Rattle.memory_list.specs.declared.Found.TheVariants.{At, Nothing}
+use Rattle.std.specs.Prelude.{Some, None}
 use Rattle.memory_frozen.specs.Frozen.{frozen_in_rows}
 use Rattle.memory_frozen.proofs.Frozen.{frozen_within}
 use Rattle.edit_scratch.proofs.Front.{desk_front}
@@ -113,7 +113,7 @@ module _ (a b : ℕ) (text : List ℕ) (o : Bool) (n at : ℕ) (t t1 s1 : List �
           update_chunks a b text o (magic_string_of source t1 p s)
       inside source p s ln rd sp = cut source p s rd sp ∙ not_past h source p s ln ∙ rw (sym (frozen_within source t1 p s a b) ∙ f)
 
-      pub update_broken : (t2 : List ℕ) → Walked a b t1 t2 Nothing → UpdateSteps a b text o n at t s1 t2 s1 7 v
+      pub update_broken : (t2 : List ℕ) → Walked a b t1 t2 None → UpdateSteps a b text o n at t s1 t2 s1 7 v
       update_broken t2 d =
           record {
             leave = λ _ source p s y z ln rd sp ls.
@@ -133,7 +133,7 @@ module _ (a b : ℕ) (text : List ℕ) (o : Bool) (n at : ℕ) (t t1 s1 : List �
             store = over_nil s1 at;
           }
 
-      module _ (t2 : List ℕ) (i : ℕ) (d : Walked a b t1 t2 (At i)) where
+      module _ (t2 : List ℕ) (i : ℕ) (d : Walked a b t1 t2 (Some i)) where
         came : (source p s : List ℕ) → length source ≡ n → Readable t p s → Spans source t p s
             → update_past a b text o (magic_string_of source t p s) ≡ ok (with_chunks (magic_string_of source t2 p s) (at_start a (edit text o) (magic_string_of source t2 p s).chunks))
         came source p s ln rd sp = inside source p s ln rd sp ∙ walk_done a b text o source p s t1 t2 (c.readable p s rd) d d.ended.0

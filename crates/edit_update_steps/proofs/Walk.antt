@@ -14,7 +14,7 @@ use Rattle.memory_table.proofs.Ring.{each_map, each_right, links_right}
 use Rattle.memory_table.specs.Table.{row_at, Put}
 use Rattle.memory_table.specs.Order.{Entry, entry_of, entry_at, entries, order, next_of, prev_of, count_of, Linked}
 use Rattle.memory_table.proofs.Order.{put_keep, others, order_length}
-use Rattle.memory_list.specs.declared.Found.TheVariants.{At, Nothing}
+use Rattle.std.specs.Prelude.{Some, None}
 use Rattle.memory_list.specs.declared.Key.TheVariants.{Start}
 use Rattle.memory_list.specs.Find.{meets, First}
 use Rattle.memory_list.specs.Insert.{Placed, runs_of}
@@ -201,7 +201,7 @@ walk_at : (a b : ℕ) (t us : List ℕ) (e : Entry) (es : List Entry) → Each (
 walk_at a b t [] e es n h = rw h
 walk_at a b t (x ∷ us) e es n h = rw n.0 (ap (onto (entry_at t x)) (walk_at a b t us e es n.1 h))
 
-pub walked_none : (a b : ℕ) (t : List ℕ) → Linked t → Each (λ x. meets Start a (entry_at t x) ≡ false) (order t) → Walked a b t t Nothing
+pub walked_none : (a b : ℕ) (t : List ℕ) → Linked t → Each (λ x. meets Start a (entry_at t x) ≡ false) (order t) → Walked a b t t None
 walked_none a b t l n =
     let q = walk_none a b t (order t) n in
     record { linked = l; order_is = refl; desk = refl; chunks = sym (ap (λ (w : RunWalk). w.list) q); ended = ap (λ (w : RunWalk). w.done) q }
@@ -214,7 +214,7 @@ module _ (a b : ℕ) (t t' : List ℕ) (i : ℕ) (w : First (meets Start a) t i)
       ∙ walk_at a b t w.us (entry_at t i) (map (entry_at t) w.bs) w.none w.here
       ∙ ap₂ (λ (d : Bool) (l : List Entry). record { done = d; list = l }) (sym k.1) (sym k.0)
 
-  pub walked_done : r ≡ true → Walked a b t t' (At i)
+  pub walked_done : r ≡ true → Walked a b t t' (Some i)
   walked_done z =
       record {
         linked = c.linked;
@@ -233,7 +233,7 @@ module _ (a b : ℕ) (t t' : List ℕ) (i : ℕ) (w : First (meets Start a) t i)
         );
       }
 
-  pub walked_broken : r ≡ false → Walked a b t t' Nothing
+  pub walked_broken : r ≡ false → Walked a b t t' None
   walked_broken z =
       record { linked = c.linked; order_is = c.order_is; desk = c.desk; chunks = sym (ap (λ (x : RunWalk). x.list) found); ended = ap (λ (x : RunWalk). x.done) found ∙ z }
 

@@ -1,10 +1,8 @@
 -- The walk of `update_with` on rows: from the chunk that starts at a along the list, each later chunk cleared as it is passed.
-use Rattle.std.specs.Prelude.{◌≡◌, Bool, true, false, cond, List, [], ◌∷◌, ◌++◌, map, ℕ, eqb}
+use Rattle.std.specs.Prelude.{◌≡◌, Bool, true, false, cond, List, [], ◌∷◌, ◌++◌, map, ℕ, eqb, Option, Some, None}
 use Rattle.memory_table.specs.declared.Row.{Row}
 use Rattle.memory_table.specs.Table.{row_at}
 use Rattle.memory_table.specs.Order.{Entry, entry_of, entry_at, entries, order, Linked}
-use Rattle.memory_list.specs.declared.Found.{Found}
-use Rattle.memory_list.specs.declared.Found.TheVariants.{At, Nothing}
 use Rattle.memory_list.specs.declared.Key.TheVariants.{Start}
 use Rattle.memory_list.specs.Find.{meets, First}
 use Rattle.memory_list.specs.Insert.{runs_of}
@@ -49,11 +47,11 @@ pub record Emptied (c r : Row) : Type 0 where
 
 -- ── the whole walk ──
 -- the answer: the first row of the range, which is edited last, or nothing where the list order breaks it
-abbrev pub WalkEnd : ℕ → Bool → List ℕ → Found → Type 0
-WalkEnd a d t' (At i) = (d ≡ true) × First (meets Start a) t' i
-WalkEnd a d t' Nothing = d ≡ false
+abbrev pub WalkEnd : ℕ → Bool → List ℕ → Option ℕ → Type 0
+WalkEnd a d t' (Some i) = (d ≡ true) × First (meets Start a) t' i
+WalkEnd a d t' None = d ≡ false
 
-pub record Walked (a b : ℕ) (t t' : List ℕ) (r : Found) : Type 0 where
+pub record Walked (a b : ℕ) (t t' : List ℕ) (r : Option ℕ) : Type 0 where
   pub linked : Linked t'
   pub order_is : order t' ≡ order t
   pub desk : runs_of (row_at t' 0) ≡ runs_of (row_at t 0)

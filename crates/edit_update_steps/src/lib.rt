@@ -3,6 +3,7 @@
 
 ghost use Rattle.std.specs.Prelude.{◌+◌, ◌*◌, ◌≤◌, length};
 ghost use Rattle.memory_layout.specs.Layout.{ROW, STORE_LEN};
+ghost use Rattle.memory_layout.specs.Refusals.{number_of};
 ghost use Rattle.memory_table.specs.Order.{Linked};
 ghost use Rattle.memory_list.specs.Insert.{Placed};
 ghost use Rattle.edit_update_steps.specs.Walk.{Emptied, RunCleared, Walked};
@@ -10,22 +11,23 @@ ghost use Rattle.edit_scratch.specs.Tables.{Roomy};
 ghost use Rattle.edit_update_steps.specs.Steps.{EditedRow, FirstEdited};
 ghost use Rattle.edit_update_steps.specs.Stored.{UpdateSteps};
 
-use memory::Answer;
-use memory_layout::numbers;
-use memory_list::{Found, Key};
+use memory::Steps;
+use memory_layout::refusal::Refusal;
+use memory_list::Key;
 
 // The row with no pieces and an empty replacement.
 fn emptied(c: memory_table::Row) -> memory_table::Row
     ensures { Emptied c result }
 {
-    let mut d = c;
-    d.intro_at = 0;
-    d.intro_n = 0;
-    d.outro_at = 0;
-    d.outro_n = 0;
-    d.text_at = 0;
-    d.text_n = 0;
-    d
+    memory_table::Row {
+        intro_at: 0,
+        intro_n: 0,
+        outro_at: 0,
+        outro_n: 0,
+        text_at: 0,
+        text_n: 0,
+        ..c
+    }
 }
 
 // Behind row i, along the list up to the chunk that ends at `end`: each chunk must start where the one before it ends, and is cleared as it is passed.
@@ -34,60 +36,43 @@ fn clear_run(t: &mut [u32], i: u32, end: u32) -> bool
     requires placed { Placed t.old i }
     ensures { RunCleared t.old t.new i end result }
 {
-    let c = memory_table::get_row(t, i);
-    let mut at = c.end;
-    let mut next = c.next;
-    let mut cur = i;
-    let mut k: usize = 0;
-    while k < t.len() {
-        k += 1;
-        if at == end {
+    let mut c = memory_table::get_row(t, i);
+    for _k in 0..t.len() {
+        if c.end == end {
             return true;
         }
-        if next == memory_layout::LIST_END {
+        if c.next == memory_layout::LIST_END {
             return false;
         }
-        let d = memory_table::get_row(t, next);
-        if d.start != at {
+        let d = memory_table::get_row(t, c.next);
+        if d.start != c.end {
             return false;
         }
-        memory_table::put_row(t, next, emptied(d));
-        cur = next;
-        at = d.end;
-        next = d.next;
+        memory_table::put_row(t, c.next, emptied(d));
+        c = d;
     }
     false
 }
 
 // The walk from the chunk that starts at `start`. That chunk itself is edited last.
-pub fn update_walk(t: &mut [u32], start: u32, end: u32) -> Found
+pub fn update_walk(t: &mut [u32], start: u32, end: u32) -> Option<u32>
     requires { Linked t.old }
     ensures { Walked start end t.old t.new result }
 {
-    let Found::At(i) = memory_list::find(t, Key::Start, start) else {
-        return Found::Nothing;
-    };
-    if clear_run(t, i, end) {
-        return Found::At(i);
-    }
-    Found::Nothing
+    let i = memory_list::find(t, Key::Start, start)?;
+    if clear_run(t, i, end) { Some(i) } else { None }
 }
 
 // The row with the replacement at a byte; overwrite clears both piece lists.
 fn edited(c: memory_table::Row, at: u32, n: u32, overwrite: bool) -> memory_table::Row
     ensures { EditedRow overwrite at n c result }
 {
-    let mut d = c;
-    d.text_at = at;
-    d.text_n = n;
-    if overwrite {
-        d.intro_at = 0;
-        d.intro_n = 0;
-        d.outro_at = 0;
-        d.outro_n = 0;
-        return d;
+    let kept = if overwrite { emptied(c) } else { c };
+    memory_table::Row {
+        text_at: at,
+        text_n: n,
+        ..kept
     }
-    d
 }
 
 // The first chunk of the range is edited: the text goes to `byte`, above all texts in use.
@@ -113,33 +98,40 @@ pub fn update_steps(
     end: u32,
     overwrite: bool,
     byte: usize,
-) -> Answer
+) -> Steps
     requires roomy { Roomy 2 t.old }
     requires byte_bound { byte ≤ STORE_LEN }
     requires text_in_bounds { length text.now ≤ STORE_LEN → byte + length text.now ≤ length s.old }
-    ensures { UpdateSteps start end text.now overwrite len byte t.old s.old t.new s.new result.number result.value }
+    ensures { UpdateSteps start end text.now overwrite len byte t.old s.old t.new s.new (number_of result.status) result.cuts }
 {
-    let mut answer = edit_split_at::split_both(t, len, start, end);
-    if answer.number != 0 {
-        return answer;
+    let steps = edit_split_at::split_both(t, len, start, end);
+    if steps.status.is_err() {
+        return steps;
     }
     if len < end as usize {
-        answer.number = numbers::PAST_SOURCE;
-        return answer;
+        return Steps {
+            status: Err(Refusal::PastSource),
+            ..steps
+        };
     }
     if memory_frozen::frozen_within(t, start, end) {
-        answer.number = numbers::FROZEN;
-        return answer;
+        return Steps {
+            status: Err(Refusal::Frozen),
+            ..steps
+        };
     }
-    let Found::At(i) = update_walk(t, start, end) else {
-        answer.number = numbers::ACROSS_MOVED_EDGE;
-        return answer;
+    let Some(i) = update_walk(t, start, end) else {
+        return Steps {
+            status: Err(Refusal::AcrossMovedEdge),
+            ..steps
+        };
     };
     if text.len() > memory_layout::STORE_LEN {
-        answer.number = numbers::LIMIT;
-        answer.value = 0;
-        return answer;
+        return Steps {
+            status: Err(Refusal::Limit),
+            cuts: 0,
+        };
     }
     edit_first(text, t, s, i, overwrite, byte);
-    answer
+    steps
 }

@@ -16,9 +16,9 @@ use Rattle.memory.specs.WellFormed.{limits_of, WellFormed, Taken}
 use Rattle.memory.specs.Calls.{Ran}
 use Rattle.memory.specs.declared.Answer.{Answer}
 use Rattle.memory.proofs.Desks.{all_same}
+use Rattle.memory_layout.specs.Refusals.{number_of}
 use Rattle.memory_used.specs.declared.Outcome.{Outcome}
 use Rattle.memory_used.specs.Above.{Leaves}
-use Rattle.sheet_records.specs.Found.{recorded}
 use Rattle.filed_record.specs.declared.Size.{Size}
 use Rattle.filed_record.specs.Record.{record_answers_of, record_marks_of, KeptTaken, Holds}
 use Rattle.filed_record.specs.Judged.{FilesCall, RefusesCall}
@@ -84,7 +84,7 @@ module _ {w b : List ℕ} {z : Size} (h : Holds w b z) where
             same_kept = λ _. record { tables = refl; store = refl };
           }
 
-  module _ {call : List ℕ} {kind a i c text_at : ℕ} (g : FilesCall call z kind a i c text_at) where
+  module _ {call : List ℕ} {one : Recorded} (g : FilesCall call z one) where
     not_refused : refused_filing call (calls held) ≡ 0
     not_refused =
         ap (refused_filing call) held_calls
@@ -94,24 +94,24 @@ module _ {w b : List ℕ} {z : Size} (h : Holds w b z) where
         }))
 
     -- an answer is a byte
-    pub answer_byte : {source t p s t' p' s' : List ℕ} {o : Outcome} → WellFormed source t p s → Leaves (call_of (recorded call kind a i c text_at (length call))) source t p s t' p' s' o
-        → o.number ≤ 20
+    pub answer_byte : {source t p s t' p' s' : List ℕ} {o : Outcome} → WellFormed source t p s → Leaves (call_of one) source t p s t' p' s' o
+        → number_of o.status ≤ 20
     answer_byte {source} {t} {p} {s} wf x =
         omega (
           arith,
-          answer_small (limits_of t p s) (call_of (recorded call kind a i c text_at (length call))) (magic_string_of source t p s) wf.desk.formed,
+          answer_small (limits_of t p s) (call_of one) (magic_string_of source t p s) wf.desk.formed,
           x.ran.number_is,
         )
 
     -- the desk is kept where this is the first call, its core call is made, and it stands behind the others
     module _ {source t p s w₁ b₁ t' p' s' w' b' : List ℕ} {o : Outcome} (d : Taken source t p s) (f : KeepsFirst z.count t p s w b w₁ b₁) (hw : length w₁ ≡ length w)
-        (hb : length b₁ ≡ length b) (x : Leaves (call_of (recorded call kind a i c text_at (length call))) source t p s t' p' s' o)
-        (e : EntryPut call o.number z w₁ b₁ w' b') (same : length w' ≡ length w₁) where
+        (hb : length b₁ ≡ length b) (x : Leaves (call_of one) source t p s t' p' s' o)
+        (e : EntryPut call (number_of o.status) z w₁ b₁ w' b') (same : length w' ≡ length w₁) where
       abbrev h₁ : Holds w₁ b₁ z
       h₁ = first_holds h f hw hb
 
-      ran : Ran (call_of (parsed call)) source t p s t' p' s' o.number o.cuts
-      ran = subst (λ y. Ran (call_of y) source t p s t' p' s' o.number o.cuts) g.fields x.ran
+      ran : Ran (call_of (parsed call)) source t p s t' p' s' (number_of o.status) o.cuts
+      ran = subst (λ y. Ran (call_of y) source t p s t' p' s' (number_of o.status) o.cuts) g.fields x.ran
 
       abbrev x₀ : Sitting
       x₀ = sitting_of source t p s w b held
@@ -123,7 +123,7 @@ module _ {w b : List ℕ} {z : Size} (h : Holds w b z) where
       stays : SameKept w₁ b₁ w' b'
       stays = put_same_kept h₁ g e same
 
-      files_call_on : KeptTaken source w b held → FiledOn call source t p s w b t' p' s' w' b' held (record { number = o.number; value = o.cuts })
+      files_call_on : KeptTaken source w b held → FiledOn call source t p s w b t' p' s' w' b' held (record { number = number_of o.status; value = o.cuts })
       files_call_on kt =
           record {
             becomes = record {
@@ -147,7 +147,7 @@ module _ {w b : List ℕ} {z : Size} (h : Holds w b z) where
             same_kept = first_same_kept h f stays;
           }
 
-      pub files_call : Files call source t p s w b t' p' s' w' b' (record { number = o.number; value = o.cuts })
+      pub files_call : Files call source t p s w b t' p' s' w' b' (record { number = number_of o.status; value = o.cuts })
       files_call l q kt =
-          subst (λ y. FiledOn call source t p s w b t' p' s' w' b' y (record { number = o.number; value = o.cuts })) (sym (entries_are h l q))
+          subst (λ y. FiledOn call source t p s w b t' p' s' w' b' y (record { number = number_of o.status; value = o.cuts })) (sym (entries_are h l q))
           (files_call_on (subst (KeptTaken source w b) (entries_are h l q) kt))

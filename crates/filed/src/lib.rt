@@ -3,6 +3,7 @@
 
 ghost use Rattle.std.specs.Prelude.{◌≡◌, length, take, ◌≤◌};
 ghost use Rattle.memory_layout.specs.Layout.{RECORD_ANSWERS, RECORD_BYTES_LEN};
+ghost use Rattle.memory_layout.specs.Refusals.{number_of};
 ghost use Rattle.model_filed.specs.Filed.{MOST_CALLS};
 ghost use Rattle.memory.specs.WellFormed.{Full, Taken};
 ghost use Rattle.memory_used.specs.Above.{Desk};
@@ -11,9 +12,9 @@ ghost use Rattle.filed_record.specs.Record.{kept_chunks, kept_pieces, kept_store
 ghost use Rattle.filed.specs.Done.{Files, Withdraws, RunsAnew};
 
 use filed_record::Size;
-use filed_record::call::Filing;
 use memory::Answer;
-use memory_used::Used;
+use memory_layout::refusal::Refusal;
+use memory_used::{Outcome, Used};
 
 // Files a call: 16 where it is not exactly one record and 13 where it is one too many change nothing. Else the first call keeps the desk in the record, its core call is made on
 // the desk, and it stands behind the others with that call's number, whatever this is.
@@ -27,34 +28,27 @@ pub fn file(
     call: &[u8],
     size: Size,
     used: Used,
-) -> Answer
+) -> Outcome
     requires desk { Desk source.now chunks.old pieces.old store.old used }
     requires full { Full chunks.old pieces.old store.old }
     requires holds { Holds words.old bytes.old size }
     ensures { Files call.now source.now chunks.old pieces.old store.old words.old bytes.old
-        chunks.new pieces.new store.new words.new bytes.new result }
+        chunks.new pieces.new store.new words.new bytes.new (record { number = number_of result.status; value = result.cuts }) }
 {
-    match filed_record::call::judge_call(call, size) {
-        Filing::Call {
-            kind,
-            a,
-            b,
-            c,
-            text_at,
-        } => {
-            filed_kept::keep_first(chunks, pieces, store, words, bytes, size.count);
-            let text = &call[text_at..];
-            let o = sheet_run::core_call::core_call(
-                source, chunks, pieces, store, kind, a, b, c, text, used,
-            );
-            filed_entries::put_entry(words, bytes, size, call, o.number as u8);
-            Answer {
-                number: o.number,
-                value: o.cuts,
-            }
+    let entry = match filed_record::call::judge_call(call, size) {
+        Ok(entry) => entry,
+        Err(refusal) => {
+            return Outcome {
+                status: Err(refusal),
+                cuts: 0,
+                used,
+            };
         }
-        Filing::Refused(number) => Answer { number, value: 0 },
-    }
+    };
+    filed_kept::keep_first(chunks, pieces, store, words, bytes, size.count);
+    let outcome = sheet_run::core_call::record_call(source, chunks, pieces, store, entry, used);
+    filed_entries::put_entry(words, bytes, size, call, Answer::from(outcome).number as u8);
+    outcome
 }
 
 // Runs the n calls in the first `used` bytes from a desk, and writes their answers anew.
@@ -100,18 +94,15 @@ pub fn withdraw(
     k: u32,
     size: Size,
     start: Used,
-) -> Answer
+) -> Result<(), Refusal>
     requires taken { Taken source.now chunks.old pieces.old store.old }
     requires holds { Holds words.old bytes.old size }
     requires desk { (size.count ≡ 0 → ⊥) → Desk source.now (kept_chunks words.old) (kept_pieces words.old) (kept_store bytes.old) start }
     ensures { Withdraws k source.now chunks.old pieces.old store.old words.old bytes.old
-        chunks.new pieces.new store.new words.new bytes.new result }
+        chunks.new pieces.new store.new words.new bytes.new (record { number = number_of result; value = 0 }) }
 {
-    let number = filed_record::call::no_such_call(k, size.count);
-    if number != 0 {
-        return Answer { number, value: 0 };
-    }
-    let used = filed_entries::take_out(words, bytes, size, memory_layout::wide(k) - 1);
+    let i = filed_record::call::index_of(k, size.count)?;
+    let used = filed_entries::take_out(words, bytes, size, i);
     filed_kept::put_back(words, bytes, chunks, pieces, store);
     run_anew(
         source,
@@ -123,8 +114,5 @@ pub fn withdraw(
         size.count - 1,
         start,
     );
-    Answer {
-        number: 0,
-        value: 0,
-    }
+    Ok(())
 }

@@ -10,6 +10,7 @@ use Rattle.memory.specs.WellFormed.{limits_of, WellFormed, Taken}
 use Rattle.memory.specs.declared.Answer.{Answer}
 use Rattle.memory.proofs.Desks.{all_same}
 use Rattle.memory_used.specs.declared.Used.{Used}
+use Rattle.memory_layout.specs.Refusals.{number_of}
 use Rattle.memory_used.specs.declared.Outcome.{Outcome}
 use Rattle.memory_used.specs.Above.{Leaves}
 use Rattle.model_filed.specs.Filed.{Entry, Answered, unchanged, freeze_beside, edited_beside}
@@ -69,10 +70,10 @@ module _ {from to : ℕ} {source t p s w b : List ℕ} {z : Size} {u : Used} (h 
 
   -- without: the edit
   pub frozen_edit : z.count ≡ 0 → {t' p' s' : List ℕ} {o : Outcome} → Leaves (freeze from to) source t p s t' p' s' o
-      → (l : List Entry) → entries_of w b ≡ some l → KeptTaken source w b l → FrozenOn from to source t p s w b t' p' s' l (record { number = o.number; value = o.cuts })
+      → (l : List Entry) → entries_of w b ≡ some l → KeptTaken source w b l → FrozenOn from to source t p s w b t' p' s' l (record { number = number_of o.status; value = o.cuts })
   frozen_edit empty {t'} {p'} {s'} {o} x l q kt = go l q (count_is h.holds l q)
     where
-      go : (y : List Entry) → entries_of w b ≡ some y → length y ≡ z.count → FrozenOn from to source t p s w b t' p' s' y (record { number = o.number; value = o.cuts })
+      go : (y : List Entry) → entries_of w b ≡ some y → length y ≡ z.count → FrozenOn from to source t p s w b t' p' s' y (record { number = number_of o.status; value = o.cuts })
       go (c ∷ y) q n = absurd (omega arith)
       go [] q n =
           let x₀ = sitting_of source t p s w b [] in

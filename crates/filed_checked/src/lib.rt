@@ -1,20 +1,10 @@
 // Filing, withdrawing and freezing on any memory: 2 where it holds no well-formed desk or no well-formed record, then the call (document 02, L5 and L8).
 #![tactic(auto)]
 
-ghost use Rattle.std.specs.Prelude.{◌≡◌};
 ghost use Rattle.filed_record.specs.Promises.{CallFiled, CallWithdrawn, CallFrozen};
 
-use check_well_formed::Seen;
-use filed_taken::Beside;
 use memory::Answer;
-use memory_layout::numbers;
-
-// A number, and no cuts.
-fn refused(number: u32) -> Answer
-    ensures { (result.number ≡ number) × (result.value ≡ 0) }
-{
-    Answer { number, value: 0 }
-}
+use memory_layout::refusal::Refusal;
 
 // Makes the call and files it.
 pub fn file(
@@ -29,15 +19,23 @@ pub fn file(
     ensures { CallFiled call.now source.now chunks.old pieces.old store.old words.old bytes.old
         chunks.new pieces.new store.new words.new bytes.new result }
 {
-    let Seen::Desk(used) = check_well_formed::taken(source, chunks, pieces, store) else {
-        return refused(numbers::NOT_WELL_FORMED);
+    let Some(used) = check_well_formed::taken(source, chunks, pieces, store) else {
+        return Answer::from(Refusal::NotWellFormed);
     };
-    let Beside::Record { size, kept } = filed_taken::record_taken(source, words, bytes) else {
-        return refused(numbers::NOT_WELL_FORMED);
+    let Some(beside) = filed_taken::record_taken(source, words, bytes) else {
+        return Answer::from(Refusal::NotWellFormed);
     };
-    filed::file(
-        source, chunks, pieces, store, words, bytes, call, size, used,
-    )
+    Answer::from(filed::file(
+        source,
+        chunks,
+        pieces,
+        store,
+        words,
+        bytes,
+        call,
+        beside.size,
+        used,
+    ))
 }
 
 // Withdraws the k-th call.
@@ -53,13 +51,30 @@ pub fn withdraw(
     ensures { CallWithdrawn k source.now chunks.old pieces.old store.old words.old bytes.old
         chunks.new pieces.new store.new words.new bytes.new result }
 {
-    if check_well_formed::well_formed(source, chunks, pieces, store) {
-        let Beside::Record { size, kept } = filed_taken::record_taken(source, words, bytes) else {
-            return refused(numbers::NOT_WELL_FORMED);
-        };
-        return filed::withdraw(source, chunks, pieces, store, words, bytes, k, size, kept);
+    if !check_well_formed::well_formed(source, chunks, pieces, store) {
+        return Answer::from(Refusal::NotWellFormed);
     }
-    refused(numbers::NOT_WELL_FORMED)
+    let Some(beside) = filed_taken::record_taken(source, words, bytes) else {
+        return Answer::from(Refusal::NotWellFormed);
+    };
+    let withdrawn = filed::withdraw(
+        source,
+        chunks,
+        pieces,
+        store,
+        words,
+        bytes,
+        k,
+        beside.size,
+        beside.kept,
+    );
+    match withdrawn {
+        Ok(()) => Answer {
+            number: 0,
+            value: 0,
+        },
+        Err(refusal) => Answer::from(refusal),
+    }
 }
 
 // Freezes a range of the desk: 20 where calls are filed.
@@ -76,18 +91,14 @@ pub fn freeze(
     ensures { CallFrozen start end source.now chunks.old pieces.old store.old words.now bytes.now
         chunks.new pieces.new store.new result }
 {
-    let Seen::Desk(used) = check_well_formed::taken(source, chunks, pieces, store) else {
-        return refused(numbers::NOT_WELL_FORMED);
+    let Some(used) = check_well_formed::taken(source, chunks, pieces, store) else {
+        return Answer::from(Refusal::NotWellFormed);
     };
-    let Beside::Record { size, kept } = filed_taken::record_taken(source, words, bytes) else {
-        return refused(numbers::NOT_WELL_FORMED);
+    let Some(beside) = filed_taken::record_taken(source, words, bytes) else {
+        return Answer::from(Refusal::NotWellFormed);
     };
-    if size.count != 0 {
-        return refused(numbers::FROZEN);
+    if beside.size.count != 0 {
+        return Answer::from(Refusal::Frozen);
     }
-    let o = edit_freeze::freeze(source, chunks, pieces, store, start, end, used);
-    Answer {
-        number: o.number,
-        value: o.cuts,
-    }
+    Answer::from(edit_freeze::freeze(source, chunks, pieces, store, start, end, used))
 }

@@ -9,7 +9,7 @@ use native.Mathlib.Omega.{arith}
 use Rattle.model_sheet.specs.Record.{Recorded, extent, records}
 use Rattle.model_sheet.proofs.Records.{records_end}
 use Rattle.model_sheet.proofs.Upto.{records_upto}
-use Rattle.sheet_records.specs.Found.{recorded, Next}
+use Rattle.sheet_records.specs.Found.{Next}
 use Rattle.sheet_records.proofs.Walk.{Walked, walk_start, walk_rest, walk_turn, taken_one, records_taken}
 use Rattle.filed_entries.specs.Places.{Passed, Behind, Located}
 
@@ -57,10 +57,10 @@ only {s} {at} {i} {next} g p l e =
     let t = p.taken in
     let one = taken_one t in
     let n : next - at ≡ 0 + extent (drop 0 (drop at s)) = omega (arith, one.1) in
-    let own : records (take (next - at) (drop at s)) ≡ some (recorded s p.kind p.a p.b p.c p.text_at next ∷ []) =
+    let own : records (take (next - at) (drop at s)) ≡ some (p.one ∷ []) =
     records_upto (drop at s) 0 (next - at) records_end one.0 n in
-    let is : drop i l ≡ recorded s p.kind p.a p.b p.c p.text_at next ∷ drop (i + 1) l =
-    alike (going_from g l e) (records_taken t ∙ ap (map (λ m. recorded s p.kind p.a p.b p.c p.text_at next ∷ m)) (going_from (going_turn g p) l e)) in
+    let is : drop i l ≡ p.one ∷ drop (i + 1) l =
+    alike (going_from g l e) (records_taken t ∙ ap (map (λ m. p.one ∷ m)) (going_from (going_turn g p) l e)) in
     own ∙ ap (λ m. some (take 1 m)) (sym is)
   where
     alike : {o : Option (List Recorded)} {x y : List Recorded} → o ≡ some x → o ≡ some y → x ≡ y
@@ -73,6 +73,6 @@ located g p =
       before_it = going_upto g;
       it = only g p;
       behind_it = going_from (going_turn g p);
-      some_bytes = omega (arith, t.starts, t.ends);
+      some_bytes = omega (arith, t.text_inside);
       within = t.there;
     }

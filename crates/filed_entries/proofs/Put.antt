@@ -1,5 +1,5 @@
 -- The record with a call more.
-use Prim.Native.Nat.{ℕ, zero, suc, ◌+◌, ◌-◌, ◌≤◌, ◌<◌}
+use Prim.Native.Nat.{ℕ, zero, suc, ◌+◌, ◌≤◌, ◌<◌}
 use mathlib.Core.Path.{◌≡◌, refl, sym, ap, ap₂, ◌∙◌}
 use mathlib.Core.List.{List, [], ◌∷◌, ◌++◌}
 use mathlib.Core.Option.{Option, some}
@@ -32,7 +32,7 @@ drop_set_before zero (y ∷ l) i x h = absurd (omega arith)
 drop_set_before (suc n) (y ∷ l) zero x h = refl
 drop_set_before (suc n) (y ∷ l) (suc i) x h = drop_set_before n l i x (omega arith)
 
-module _ {w b : List ℕ} {z : Size} (h : Holds w b z) {call : List ℕ} {kind a b₁ c text_at : ℕ} (g : FilesCall call z kind a b₁ c text_at) where
+module _ {w b : List ℕ} {z : Size} (h : Holds w b z) {call : List ℕ} {r : Recorded} (g : FilesCall call z r) where
   -- there is room for it
   pub call_room : z.used + length call ≤ RECORD_ANSWERS
   call_room =
@@ -111,7 +111,7 @@ module _ {w b : List ℕ} {z : Size} (h : Holds w b z) {call : List ℕ} {kind a
     put_behind = ap (λ n. take n b') e.used ∙ put_calls ∙ ap (λ n. take n b ++ call) (sym h.used)
 
     put_size : Size
-    put_size = record { used = z.used + length call; count = z.count + 1; text = z.text + (length call - text_at) }
+    put_size = record { used = z.used + length call; count = z.count + 1; text = z.text + length r.text }
 
     put_holds : Holds w' b' put_size
     unfolding put_size

@@ -6,12 +6,8 @@ use Rattle.sheet_records.specs.Found.{Taken}
 
 -- a record lies from a place of s up to the next
 pub record Passed (s : List ℕ) (at next : ℕ) : Type 0 where
-  pub kind : ℕ
-  pub a : ℕ
-  pub b : ℕ
-  pub c : ℕ
-  pub text_at : ℕ
-  pub taken : Taken s at kind a b c text_at next
+  pub one : Recorded
+  pub taken : Taken s at one next
 
 -- s is whole records, more than i
 pub record Behind (s : List ℕ) (i : ℕ) : Type 0 where

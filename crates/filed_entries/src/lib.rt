@@ -34,12 +34,7 @@ fn close_gap(bytes: &mut [u8], at: usize, next: usize, end: usize)
     requires end_in_bounds { end ≤ length bytes.old }
     ensures { Closed at next end bytes.old bytes.new }
 {
-    let n = end - next;
-    let mut i: usize = 0;
-    while i < n {
-        bytes[at + i] = bytes[next + i];
-        i += 1;
-    }
+    bytes.copy_within(next..end, at);
 }
 
 // Takes out the call behind the first i, and its marks, and says how many bytes the other calls have.

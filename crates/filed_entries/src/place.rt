@@ -2,8 +2,6 @@
 ghost use Rattle.sheet_records.specs.Found.{Next};
 ghost use Rattle.filed_entries.specs.Places.{Passed, Behind, Located};
 
-use sheet_records::Read;
-
 // From `at` up to `next`.
 #[derive(Clone, Copy)]
 pub struct Place {
@@ -17,17 +15,9 @@ fn next_at(calls: &[u8], at: usize) -> usize
     ensures { Passed calls.now at result }
 {
     match sheet_records::read_at(calls, at) {
-        Read::Record {
-            kind: _,
-            a: _,
-            b: _,
-            c: _,
-            text_at: _,
-            next,
-        } => next,
-        // A record stands there, so that these are not met.
-        Read::Bad => at,
-        Read::End => at,
+        Some(entry) => entry.next,
+        // A record stands there, so that this is not met.
+        None => at,
     }
 }
 
@@ -37,10 +27,8 @@ pub fn place_of(calls: &[u8], i: usize) -> Place
     ensures { Located calls.now i result.at result.next }
 {
     let mut at: usize = 0;
-    let mut k: usize = 0;
-    while k < i {
+    for _ in 0..i {
         at = next_at(calls, at);
-        k += 1;
     }
     let next = next_at(calls, at);
     Place { at, next }

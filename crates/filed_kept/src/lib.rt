@@ -13,8 +13,8 @@ fn keep(chunks: &[u32], pieces: &[u32], store: &[u8], words: &mut [u32], bytes: 
     requires bytes_len { length bytes.old ≡ RECORD_BYTES_LEN }
     ensures { Keeps chunks.now pieces.now store.now words.old bytes.old words.new bytes.new }
 {
-    memory_texts::put_words(&mut words[memory_layout::KEPT_CHUNKS..], chunks);
-    memory_texts::put_words(&mut words[memory_layout::KEPT_PIECES..], pieces);
+    memory_texts::put(&mut words[memory_layout::KEPT_CHUNKS..], chunks);
+    memory_texts::put(&mut words[memory_layout::KEPT_PIECES..], pieces);
     memory_texts::put(&mut bytes[memory_layout::KEPT_STORE..], store);
 }
 
@@ -50,11 +50,11 @@ pub fn put_back(
     requires bytes_len { length bytes.now ≡ RECORD_BYTES_LEN }
     ensures { PutBack words.now bytes.now chunks.new pieces.new store.new }
 {
-    memory_texts::put_words(
+    memory_texts::put(
         chunks,
         &words[memory_layout::KEPT_CHUNKS..memory_layout::KEPT_PIECES],
     );
-    memory_texts::put_words(
+    memory_texts::put(
         pieces,
         &words[memory_layout::KEPT_PIECES..memory_layout::RECORD_WORDS_LEN],
     );

@@ -6,34 +6,25 @@ ghost use Rattle.memory_layout.specs.Layout.{RECORD_CALLS, RECORD_BYTES_LEN};
 ghost use Rattle.filed_record.specs.Marks.{CallMarked, TotalRead};
 ghost use Rattle.filed_marks.specs.Sums.{Sums};
 
-use filed_taken::Beside;
 use memory::Answer;
-use memory_layout::numbers;
+use memory_layout::refusal::Refusal;
 
 pub mod reading;
-
-// A number, and nothing reported.
-pub fn refused(number: u32) -> Answer
-    ensures { (result.number ≡ number) × (result.value ≡ 0) }
-{
-    Answer { number, value: 0 }
-}
 
 // Writes the marks of the k-th entry.
 pub fn set_marks(source: &[u8], words: &[u32], bytes: &mut [u8], k: u32, marks: u32) -> Answer
     ensures { CallMarked k marks source.now words.now bytes.old bytes.new result }
 {
-    let Beside::Record { size, kept } = filed_taken::record_taken(source, words, bytes) else {
-        return refused(numbers::NOT_WELL_FORMED);
+    let Some(beside) = filed_taken::record_taken(source, words, bytes) else {
+        return Answer::from(Refusal::NotWellFormed);
     };
-    let number = filed_record::call::no_such_call(k, size.count);
-    if number != 0 {
-        return refused(number);
-    }
+    let i = match filed_record::call::index_of(k, beside.size.count) {
+        Ok(i) => i,
+        Err(refusal) => return Answer::from(refusal),
+    };
     if marks > memory_layout::HIGHEST_MARKS {
-        return refused(numbers::MARKS_TOO_HIGH);
+        return Answer::from(Refusal::MarksTooHigh);
     }
-    let i = memory_layout::wide(k) - 1;
     bytes[memory_layout::RECORD_MARKS + i] = marks as u8;
     Answer {
         number: 0,
@@ -48,10 +39,8 @@ fn sum(bytes: &[u8], count: usize) -> u32
     ensures { Sums bytes.now count result }
 {
     let mut all: u32 = 0;
-    let mut i: usize = 0;
-    while i < count {
+    for i in 0..count {
         all += bytes[memory_layout::RECORD_MARKS + i] as u32;
-        i += 1;
     }
     all
 }
@@ -60,11 +49,11 @@ fn sum(bytes: &[u8], count: usize) -> u32
 pub fn total(source: &[u8], words: &[u32], bytes: &[u8]) -> Answer
     ensures { TotalRead source.now words.now bytes.now result }
 {
-    let Beside::Record { size, kept } = filed_taken::record_taken(source, words, bytes) else {
-        return refused(numbers::NOT_WELL_FORMED);
+    let Some(beside) = filed_taken::record_taken(source, words, bytes) else {
+        return Answer::from(Refusal::NotWellFormed);
     };
     Answer {
         number: 0,
-        value: sum(bytes, size.count),
+        value: sum(bytes, beside.size.count),
     }
 }

@@ -1,13 +1,13 @@
 // An entry, read into a lent buffer.
 ghost use Rattle.std.specs.Prelude.{◌≡◌, ◌≤◌, ◌<◌, length, take};
 ghost use Rattle.memory_layout.specs.Layout.{RECORD_CALLS, RECORD_BYTES_LEN};
+ghost use Rattle.memory_layout.specs.Refusals.{number_of, value_of};
 ghost use Rattle.filed_record.specs.Marks.{ShownBy};
 ghost use Rattle.filed_entries.specs.Places.{Behind};
 ghost use Rattle.filed_marks.specs.Readings.{reading_of, size_of, ReadingPut, ShownAt};
 
-use filed_taken::Beside;
 use memory::Answer;
-use memory_layout::numbers;
+use memory_layout::refusal::Refusal;
 
 // How many bytes the reading of an entry has whose call lies from `at` up to `next`.
 fn size_of(at: usize, next: usize, marked: bool) -> usize
@@ -37,22 +37,25 @@ fn put_reading(out: &mut [u8], bytes: &[u8], at: usize, next: usize, i: usize, m
 }
 
 // Shows the entry behind the first i, of those whose calls have `used` bytes: 14 where its reading is longer than `out`.
-fn show_at(bytes: &[u8], used: usize, i: usize, marked: bool, out: &mut [u8]) -> Answer
+fn show_at(
+    bytes: &[u8],
+    used: usize,
+    i: usize,
+    marked: bool,
+    out: &mut [u8],
+) -> Result<u32, Refusal>
     requires bytes_len { length bytes.now ≡ RECORD_BYTES_LEN }
     requires used_bound { (used ≤ RECORD_BYTES_LEN) × (i < RECORD_CALLS) }
     requires behind { Behind (take used bytes.now) i }
-    ensures { ShownAt marked used i bytes.now out.old out.new result }
+    ensures { ShownAt marked used i bytes.now out.old out.new (record { number = number_of result; value = value_of result }) }
 {
     let p = filed_entries::place::place_of(&bytes[0..used], i);
     let n = size_of(p.at, p.next, marked);
     if out.len() < n {
-        return crate::refused(numbers::SHORT_BUFFER);
+        return Err(Refusal::ShortBuffer);
     }
     put_reading(out, bytes, p.at, p.next, i, marked);
-    Answer {
-        number: 0,
-        value: n as u32,
-    }
+    Ok(n as u32)
 }
 
 // The k-th entry: the member's reading, or the examiner's, which has the marks.
@@ -66,12 +69,12 @@ pub fn show_entry(
 ) -> Answer
     ensures { ShownBy (reading_of marked) k source.now words.now bytes.now out.old out.new result }
 {
-    let Beside::Record { size, kept } = filed_taken::record_taken(source, words, bytes) else {
-        return crate::refused(numbers::NOT_WELL_FORMED);
+    let Some(beside) = filed_taken::record_taken(source, words, bytes) else {
+        return Answer::from(Refusal::NotWellFormed);
     };
-    let number = filed_record::call::no_such_call(k, size.count);
-    if number != 0 {
-        return crate::refused(number);
-    }
-    show_at(bytes, size.used, memory_layout::wide(k) - 1, marked, out)
+    let i = match filed_record::call::index_of(k, beside.size.count) {
+        Ok(i) => i,
+        Err(refusal) => return Answer::from(refusal),
+    };
+    Answer::from(show_at(bytes, beside.size.used, i, marked, out))
 }

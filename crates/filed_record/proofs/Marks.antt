@@ -1,9 +1,10 @@
 -- Marks looked at one by one.
-use Prim.Native.Nat.{ℕ, ◌+◌, ◌≤◌, ◌<◌}
-use mathlib.Core.Path.{◌≡◌, ap, sym}
+use Prim.Native.Nat.{ℕ, ◌+◌, ◌-◌, ◌≤◌, ◌<◌}
+use mathlib.Core.Path.{◌≡◌, ap, sym, ◌∙◌}
 use mathlib.Core.Bool.{true, false, true≢false}
 use mathlib.Core.List.{List}
-use lib.ListN.{get_or}
+use lib.ListN.{get_or, take, drop}
+use lib.Seq.{get_or-take, get_or-drop}
 use native.Mathlib.Decide.{ℕ_discrete}
 use native.Mathlib.Omega.{arith}
 use Rattle.memory_layout.specs.Layout.{RECORD_MARKS}
@@ -29,3 +30,7 @@ low_judged b n k f h = record { yes = λ _ i g. f i (omega arith); no = λ e. ab
 
 pub high_judged : (b : List ℕ) (n i : ℕ) → i < n → HIGHEST_MARKS < get_or b (RECORD_MARKS + i) 0 → MarksJudged b n false
 high_judged b n i h g = record { yes = λ e. absurd (true≢false (sym e)); no = λ _. (i, h, g) }
+
+-- the marks, as a part that is gone over
+pub marks_part : (b : List ℕ) (n i : ℕ) → i < n → get_or (take (RECORD_MARKS + n - RECORD_MARKS) (drop RECORD_MARKS b)) i 0 ≡ get_or b (RECORD_MARKS + i) 0
+marks_part b n i h = get_or-take (RECORD_MARKS + n - RECORD_MARKS) (drop RECORD_MARKS b) i 0 (omega arith) ∙ get_or-drop RECORD_MARKS b i 0

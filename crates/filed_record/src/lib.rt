@@ -7,8 +7,6 @@ ghost use Rattle.std.specs.Prelude.{◌+◌, ◌≤◌, length};
 ghost use Rattle.memory_layout.specs.Layout.{RECORD_MARKS};
 ghost use Rattle.filed_record.specs.Judged.{MarksJudged, HeldSays};
 
-use sheet_records::Judged;
-
 // How many bytes its calls have, how many calls they are, and how many bytes of text these have.
 #[derive(Clone, Copy)]
 pub struct Size {
@@ -17,53 +15,43 @@ pub struct Size {
     pub text: usize,
 }
 
-// What two slices hold.
-#[derive(Clone, Copy)]
-pub enum Held {
-    Record(Size),
-    NoRecord,
-}
-
 // Whether no marks of the first `count` entries are above the highest.
 fn marks_fit(bytes: &[u8], count: usize) -> bool
     requires { RECORD_MARKS + count ≤ length bytes.now }
     ensures { MarksJudged bytes.now count result }
 {
-    let mut i: usize = 0;
-    while i < count {
-        if bytes[memory_layout::RECORD_MARKS + i] as u32 > memory_layout::HIGHEST_MARKS {
+    for marks in &bytes[memory_layout::RECORD_MARKS..memory_layout::RECORD_MARKS + count] {
+        if *marks as u32 > memory_layout::HIGHEST_MARKS {
             return false;
         }
-        i += 1;
     }
     true
 }
 
-// The check of answer 2 for a record.
-pub fn judge_record(words: &[u32], bytes: &[u8]) -> Held
+// The check of answer 2 for a record: its size, if two slices hold a well-formed one.
+pub fn judge_record(words: &[u32], bytes: &[u8]) -> Option<Size>
     ensures { HeldSays words.now bytes.now result }
 {
     if words.len() != memory_layout::RECORD_WORDS_LEN {
-        return Held::NoRecord;
+        return None;
     }
     if bytes.len() != memory_layout::RECORD_BYTES_LEN {
-        return Held::NoRecord;
+        return None;
     }
-    let used = memory_layout::wide(words[memory_layout::RECORD_USED]);
+    let used = words[memory_layout::RECORD_USED] as usize;
     if used > memory_layout::RECORD_ANSWERS {
-        return Held::NoRecord;
+        return None;
     }
-    let Judged::Records { count, text } = sheet_records::count_records(
-        &bytes[0..used],
-        memory_layout::RECORD_CALLS,
-    ) else {
-        return Held::NoRecord;
-    };
-    if text > memory_layout::RECORD_TEXT {
-        return Held::NoRecord;
+    let calls = sheet_records::count_records(&bytes[0..used], memory_layout::RECORD_CALLS)?;
+    if calls.text > memory_layout::RECORD_TEXT {
+        return None;
     }
-    if marks_fit(bytes, count) {
-        return Held::Record(Size { used, count, text });
+    if marks_fit(bytes, calls.count) {
+        return Some(Size {
+            used,
+            count: calls.count,
+            text: calls.text,
+        });
     }
-    Held::NoRecord
+    None
 }

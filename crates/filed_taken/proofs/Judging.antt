@@ -1,6 +1,6 @@
 -- A record judged: by its calls, then by the desk that it keeps.
 use Prim.Native.Nat.{ℕ}
-use mathlib.Core.Path.{◌≡◌, subst, sym, ap, ◌∙◌}
+use mathlib.Core.Path.{◌≡◌, sym, ap, ◌∙◌}
 use mathlib.Core.List.{List, [], ◌∷◌}
 use mathlib.Core.Option.{none, some}
 use native.Mathlib.Omega.{arith}
@@ -11,20 +11,9 @@ use Rattle.memory_used.specs.Above.{Desk}
 use Rattle.model_filed.specs.Filed.{Entry}
 use Rattle.model_filed.proofs.Filing.{with_length}
 use Rattle.filed_record.specs.declared.Size.{Size}
-use Rattle.filed_record.specs.declared.Held.{Held}
-use Rattle.filed_record.specs.declared.Held.TheVariants.{Record, NoRecord}
-use Rattle.filed_record.specs.Judged.{HeldSays}
 use Rattle.filed_record.specs.Record.{record_answers_of, record_marks_of, kept_chunks, kept_pieces, kept_store, entries_of, KeptTaken, Holds}
 use Rattle.filed_record.proofs.Holding.{entries_are}
 use Rattle.filed_taken.specs.Beside.{RecordTaken}
-
--- what the check of its calls has seen: no record, or one and its size
-module _ (w b : List ℕ) {r : Held} where
-  pub held_none : r ≡ NoRecord → HeldSays w b r → entries_of w b ≡ none
-  held_none e h = subst (HeldSays w b) e h
-
-  pub held_record : (z : Size) → r ≡ Record z → HeldSays w b r → Holds w b z
-  held_record z e h = subst (HeldSays w b) e h
 
 -- as many entries as calls
 pub count_is : {w b : List ℕ} {z : Size} → Holds w b z → (l : List Entry) → entries_of w b ≡ some l → length l ≡ z.count

@@ -8,19 +8,18 @@ ghost use Rattle.check_well_formed.specs.Seen.{Sees};
 ghost use Rattle.filed_record.specs.Record.{kept_chunks, kept_pieces, kept_store};
 ghost use Rattle.filed_taken.specs.Beside.{BesideSays};
 
-use check_well_formed::Seen;
-use filed_record::{Held, Size};
+use filed_record::Size;
 use memory_used::Used;
 
-// What two slices beside a desk hold: no well-formed record, or one, its size, and what the kept desk uses. Without calls that desk is not looked at, and `kept` says nothing.
+// A well-formed record beside a desk: its size, and what the desk that it keeps uses. Without calls that desk is not looked at, and `kept` says nothing.
 #[derive(Clone, Copy)]
-pub enum Beside {
-    NoRecord,
-    Record { size: Size, kept: Used },
+pub struct Beside {
+    pub size: Size,
+    pub kept: Used,
 }
 
 // The kept desk, checked.
-fn kept_desk(source: &[u8], words: &[u32], bytes: &[u8]) -> Seen
+fn kept_desk(source: &[u8], words: &[u32], bytes: &[u8]) -> Option<Used>
     requires words_len { length words.now ≡ RECORD_WORDS_LEN }
     requires bytes_len { length bytes.now ≡ RECORD_BYTES_LEN }
     ensures { Sees (Taken source.now (kept_chunks words.now) (kept_pieces words.now) (kept_store bytes.now))
@@ -34,22 +33,19 @@ fn kept_desk(source: &[u8], words: &[u32], bytes: &[u8]) -> Seen
     )
 }
 
-pub fn record_taken(source: &[u8], words: &[u32], bytes: &[u8]) -> Beside
+// The record that two slices beside a desk hold, if it is well formed.
+pub fn record_taken(source: &[u8], words: &[u32], bytes: &[u8]) -> Option<Beside>
     ensures { BesideSays source.now words.now bytes.now result }
 {
-    let Held::Record(size) = filed_record::judge_record(words, bytes) else {
-        return Beside::NoRecord;
-    };
+    let size = filed_record::judge_record(words, bytes)?;
     if size.count == 0 {
         let kept = Used {
             pieces: 0,
             row: 0,
             byte: 0,
         };
-        return Beside::Record { size, kept };
+        return Some(Beside { size, kept });
     }
-    let Seen::Desk(kept) = kept_desk(source, words, bytes) else {
-        return Beside::NoRecord;
-    };
-    Beside::Record { size, kept }
+    let kept = kept_desk(source, words, bytes)?;
+    Some(Beside { size, kept })
 }

@@ -25,8 +25,13 @@ use Rattle.memory_used.specs.declared.Outcome.{Outcome}
 use Rattle.memory_used.specs.Above.{Desk, Leaves}
 use Rattle.memory_frozen.specs.Frozen.{frozen_in_rows}
 use Rattle.memory_frozen.proofs.Frozen.{frozen_any}
+use Rattle.edit_scratch.proofs.Refused.{code_some}
+use Rattle.memory_layout.specs.declared.refusal.Refusal.{Refusal}
+use Rattle.memory_layout.specs.Refusals.{code}
+use Rattle.std.specs.Prelude.{Err}
 use Rattle.edit_scratch.proofs.Tables.{refused_15, ran_before, ran_same, refused_1}
 use Rattle.report_indent_string.specs.declared.Indentor.{Indentor}
+use Rattle.report_indent_string.specs.declared.Indentor.TheVariants.{Tab, Spaces}
 use Rattle.report_indent_string.specs.Guess.{indentor_text, Guessed}
 use Rattle.indent_scratch.specs.Ran.{IndentRan}
 use Rattle.indent.specs.Refusal.{refusal}
@@ -87,11 +92,11 @@ module _ (source t p s exclude : List ℕ) (o : options_valid (indent_with none 
   refused_is i v = rw (o, v) (sym (r ∙ ap (refusal (all (between source) exclude)) (frozen_any source t p s)))
 
   -- the desk stays, and what it uses
-  pub refused : (i : Option Text) → all utf8 (given i) ≡ true → {used : Used} → Desk source t p s used → (number ≡ 0 → ⊥)
-      → Leaves (indent_with i exclude) source t p s t p s (record { number = number; cuts = 0; used = used })
-  refused i v d n =
-      let positive : number ≡ suc (number - 1) = omega (arith, n) in
-      record { ran = ran_before (indent_with i exclude) source t p s (number - 1) number d.well_formed (refused_is i v ∙ positive) positive; above = d.above }
+  pub refused : (i : Option Text) → all utf8 (given i) ≡ true → {used : Used} → Desk source t p s used → (e : Refusal) → code e ≡ number
+      → Leaves (indent_with i exclude) source t p s t p s (record { status = Err e; cuts = 0; used = used })
+  refused i v d e q =
+      let positive : code e ≡ suc (code e - 1) = omega (arith, code_some e) in
+      record { ran = ran_before (indent_with i exclude) source t p s (code e - 1) (code e) d.well_formed (refused_is i v ∙ sym q ∙ positive) positive; above = d.above }
 
   module _ (z : number ≡ 0) where
     -- the guess
@@ -127,9 +132,9 @@ module _ (source t p s exclude : List ℕ) (o : options_valid (indent_with none 
 -- ---- the guess in the source
 
 module _ {source : Text} {g : Indentor} (h : Guessed source g) where
-  pub tab_guessed : g.tab ≡ true → {tab : List ℕ} → tab ≡ TAB ∷ [] → tab ≡ get_indent_string source
+  pub tab_guessed : g ≡ Tab → TAB ∷ [] ≡ get_indent_string source
   unfolding indentor_text
-  tab_guessed e q = let text : indentor_text g ≡ TAB ∷ [] = rw e in q ∙ sym text ∙ h.text
+  tab_guessed e = let text : indentor_text g ≡ TAB ∷ [] = ap indentor_text e in sym text ∙ h.text
 
-  pub spaces_guessed : g.tab ≡ false → (n : ℕ) → n ≡ g.spaces → take n (drop g.at source) ≡ get_indent_string source
-  spaces_guessed e n q = ap (λ (k : ℕ). take k (drop g.at source)) q ∙ h.place e
+  pub spaces_guessed : (n at : ℕ) → g ≡ Spaces n at → (k : ℕ) → k ≡ n → take k (drop at source) ≡ get_indent_string source
+  spaces_guessed n at e k q = ap (λ (k : ℕ). take k (drop at source)) q ∙ (h.place n at e).1

@@ -1,12 +1,13 @@
 // indent.rs: `indent_with`.
 #![tactic(auto)]
 
-ghost use Rattle.std.specs.Prelude.{◌≡◌, true, [], ◌∷◌};
+ghost use Rattle.std.specs.Prelude.{◌≡◌, true};
 ghost use Rattle.std.proofs.Math.Option.{none, some};
 ghost use Rattle.utf8.specs.Rfc3629.{utf8, between};
-ghost use Rattle.model.specs.Text.{TAB, all};
+ghost use Rattle.model.specs.Text.{all};
 ghost use Rattle.model.specs.Indent.{get_indent_string};
 ghost use Rattle.model.specs.Call.{indent_with, options_valid};
+ghost use Rattle.memory_layout.specs.Refusals.{number_of};
 ghost use Rattle.memory_table.specs.Order.{Linked};
 ghost use Rattle.memory_used.specs.Above.{Desk, Leaves};
 ghost use Rattle.memory.specs.Calls.{indentor_of};
@@ -14,7 +15,7 @@ ghost use Rattle.memory_frozen.specs.Frozen.{frozen_in_rows};
 ghost use Rattle.report_indent_string.specs.Guess.{Guessed};
 ghost use Rattle.indent.specs.Refusal.{refusal};
 
-use memory_layout::numbers;
+use memory_layout::refusal::Refusal;
 use memory_used::{Outcome, Used};
 use report_indent_string::Indentor;
 
@@ -23,43 +24,41 @@ fn positions_between(source: &[u8], exclude: &[u32]) -> bool
     requires { utf8 source.now ≡ true }
     ensures { result ≡ all (between source.now) exclude.now }
 {
-    let mut i = 0;
-    while i < exclude.len() {
-        if !utf8::boundary(source, exclude[i] as usize) {
+    for position in exclude {
+        if !utf8::boundary(source, *position as usize) {
             return false;
         }
-        i += 1;
     }
     true
 }
 
-// 3 for a position inside a character, then 20 on a desk with a frozen chunk; 0 if neither.
-fn refused(source: &[u8], chunks: &[u32], exclude: &[u32]) -> u32
+// Refused for a position inside a character, then on a desk with a frozen chunk.
+fn refused(source: &[u8], chunks: &[u32], exclude: &[u32]) -> Result<(), Refusal>
     requires source_value { utf8 source.now ≡ true }
     requires linked { Linked chunks.now }
-    ensures { result ≡ refusal (all (between source.now) exclude.now) (frozen_in_rows true 0 0 chunks.now) }
+    ensures { number_of result ≡ refusal (all (between source.now) exclude.now) (frozen_in_rows true 0 0 chunks.now) }
 {
     if !positions_between(source, exclude) {
-        return numbers::INSIDE_CHARACTER;
+        return Err(Refusal::InsideCharacter);
     }
     if memory_frozen::any_frozen(chunks) {
-        return numbers::FROZEN;
+        return Err(Refusal::Frozen);
     }
-    0
+    Ok(())
 }
 
-// The guess as a part of the source, or as the lent tab.
-fn guessed<'a>(source: &'a [u8], tab: &'a [u8], g: Indentor) -> &'a [u8]
-    requires guessed { Guessed source.now g }
-    requires tab_value { tab.now ≡ TAB ∷ [] }
+// The guess as a tab, or as a part of the source.
+fn guessed<'a>(source: &'a [u8], g: Indentor) -> &'a [u8]
+    requires { Guessed source.now g }
     ensures { result.now ≡ get_indent_string source.now }
 {
-    if g.tab {
-        return tab;
+    match g {
+        Indentor::Tab => b"\t",
+        Indentor::Spaces { n, at } => {
+            let from = at as usize;
+            &source[from..from + n as usize]
+        }
     }
-    let at = g.at as usize;
-    let end = at + g.spaces as usize;
-    &source[at..end]
 }
 
 // Without an indentor: 3, 20, then by the guess.
@@ -76,17 +75,15 @@ fn by_guess(
     ensures { Leaves (indent_with none exclude.now) source.now chunks.old pieces.old store.old
         chunks.new pieces.new store.new result }
 {
-    let number = refused(source, chunks, exclude);
-    if number != 0 {
+    if let Err(refusal) = refused(source, chunks, exclude) {
         return Outcome {
-            number,
+            status: Err(refusal),
             cuts: 0,
             used,
         };
     }
-    let tab = [9u8; 1];
     let g = report_indent_string::guess_indentor(source);
-    let indentor = guessed(source, &tab[..1], g);
+    let indentor = guessed(source, g);
     indent_scratch::indent_scratch(source, chunks, pieces, store, indentor, exclude, used)
 }
 
@@ -107,22 +104,21 @@ fn by_given(
 {
     if !utf8::valid(indentor) {
         return Outcome {
-            number: numbers::NOT_UTF8,
+            status: Err(Refusal::NotUtf8),
             cuts: 0,
             used,
         };
     }
-    let number = refused(source, chunks, exclude);
-    if number != 0 {
+    if let Err(refusal) = refused(source, chunks, exclude) {
         return Outcome {
-            number,
+            status: Err(refusal),
             cuts: 0,
             used,
         };
     }
-    if indentor.len() == 0 {
+    if indentor.is_empty() {
         return Outcome {
-            number: 0,
+            status: Ok(()),
             cuts: 0,
             used,
         };
@@ -130,7 +126,7 @@ fn by_given(
     indent_scratch::indent_scratch(source, chunks, pieces, store, indentor, exclude, used)
 }
 
-// `indent_with`: 15 for an exclude list of odd count, then by the indentor given or by the guess.
+// `indent_with`: 15 for an exclude list of odd count, then by the indentor given or by the guess. The C interface gives the option as a flag and a text.
 pub fn indent_with(
     source: &[u8],
     chunks: &mut [u32],
@@ -148,7 +144,7 @@ pub fn indent_with(
 {
     if exclude.len() % 2 != 0 {
         return Outcome {
-            number: numbers::BAD_OPTION,
+            status: Err(Refusal::BadOption),
             cuts: 0,
             used,
         };

@@ -2,7 +2,8 @@
 use mathlib.Core.Path.{◌≡◌, refl, sym, ap, ap₂, ◌∙◌, subst}
 use mathlib.Core.Bool.{Bool}
 use mathlib.Core.List.{List, [], ◌∷◌, ◌++◌, map, append_assoc, append-nil, map-append}
-use mathlib.Core.Logic.{inl, inr, ⊎_elim}
+use mathlib.Core.Logic.{◌⊎◌, inl, inr, ⊎_elim}
+use Rattle.std.specs.Prelude.{Option, None}
 use Prim.Native.Nat.{ℕ, suc, ◌+◌, ◌*◌, ◌-◌, ◌≤◌, ◌<◌}
 use native.Mathlib.Omega.{arith}
 use lib.ListN.{length, length-append, length-map}
@@ -29,10 +30,10 @@ use Rattle.memory_texts.proofs.Low.{rows_same, bytes_same, entry_same, entry_sti
 use Rattle.model_indent_closed.specs.Indent.{IndentedChunks, then_chunks, indented_chunks}
 use Rattle.model_indent_closed.proofs.Growth.{chunks_grow}
 use Rattle.indent_chunks.specs.Walk.{chunks_of, WalkReady, closed_of}
-use Rattle.indent_chunks.proofs.Walk.{Past, WalkDone}
+use Rattle.indent_chunks.proofs.Walk.{Past, ChunksIndented}
 use Rattle.indent_cuts.specs.Splice.{SplicedAt}
 use Rattle.indent_cuts.proofs.Splice.{spliced_before, spliced_behind}
-use Rattle.indent_chunks.specs.Row.{RowReady, closed_row, RowIndented, RowDone}
+use Rattle.indent_chunks.specs.Row.{RowReady, closed_row, RowIndented}
 use Rattle.indent_chunks.specs.Chunks.{RestRow, head_or, chunks_of_rows, WalkAt}
 
 -- ---- links
@@ -61,7 +62,7 @@ rest_rows source store p s top byte v (cons {x = e} a ls) (cons b bs) (cons c cs
     (rest_rows source store p s top byte v ls bs cs ds)
 
 pub walk_start : {source store t p s : List ℕ} {top byte : ℕ} (indentor exclude : List ℕ) (mark : Bool) (z : Row) → WalkReady source store t p s top byte → z ≡ row_at t 0
-    → WalkAt indentor exclude source store t p s mark top byte z.start t p s 0 z.next mark top byte 0
+    → WalkAt indentor exclude source store t p s mark top byte z.start t p s 0 z.next mark top byte None
 walk_start {source} {store} {t} {p} {s} {top} {byte} indentor exclude mark z h ez =
     record {
       us = [];
@@ -79,7 +80,7 @@ walk_start {source} {store} {t} {p} {s} {top} {byte} indentor exclude mark z h e
       byte_in = h.byte_in;
       low = nil;
       todo = rest_rows source store p s top byte h.formed.source h.low h.texts_low (spans_inside source (chunks_of t p s) h.formed.covered) h.formed.texts;
-      indentor_at = λ g. absurd (omega arith);
+      indentor_at = tt;
       result = refl;
       rows_used = omega (arith, order_length t, h.few);
       bytes_used = omega arith;
@@ -111,7 +112,7 @@ pub record NextRow (t us rest : List ℕ) (cur : ℕ) : Type 0 where
   pub place : order t ≡ us ++ cur ∷ bs
   pub step : next_of t cur ≡ head_or bs
 
-module _ {indentor exclude source store t₀ p₀ s₀ : List ℕ} {mark₀ : Bool} {top₀ byte₀ n : ℕ} {t p s : List ℕ} {k cur : ℕ} {mark : Bool} {top byte laid : ℕ}
+module _ {indentor exclude source store t₀ p₀ s₀ : List ℕ} {mark₀ : Bool} {top₀ byte₀ n : ℕ} {t p s : List ℕ} {k cur : ℕ} {mark : Bool} {top byte : ℕ} {laid : Option ℕ}
     (h : WalkReady source store t₀ p₀ s₀ top₀ byte₀) (w : WalkAt indentor exclude source store t₀ p₀ s₀ mark₀ top₀ byte₀ n t p s k cur mark top byte laid) where
   abbrev us : List ℕ
   us = w.us
@@ -171,18 +172,14 @@ module _ {indentor exclude source store t₀ p₀ s₀ : List ℕ} {mark₀ : Bo
           store_front = part_kept (length store) 0 byte₀ s₀ s w.bytes.bytes (omega (arith, h.store_low)) ∙ h.store_front;
         }
 
-    -- 13
-    pub walk_past : {t' p' s' t2 p2 s2 : List ℕ} {number : ℕ} {mark' mark2 : Bool} {top' byte' laid' top2 byte2 : ℕ} →
-        RowDone indentor exclude source t p s cur mark top byte laid t' p' s' number mark' top' byte' laid' → (number ≡ 0 → ⊥)
-        → WalkDone indentor exclude source t₀ p₀ s₀ mark₀ top₀ byte₀ t2 p2 s2 number mark2 top2 byte2
-    walk_past {number = number} d nz =
-        let c = chunk_of p s (entry_at t cur) in
+    -- the chunks pass a limit
+    pub walk_past : (CHUNKS + 1 < count_of t + length (closed_row indentor exclude source t p s cur mark).chunks)
+        ⊎ (length s < byte + sum chunk_bytes (closed_row indentor exclude source t p s cur mark).chunks)
+        → Past (closed_of indentor exclude source t₀ p₀ s₀ mark₀).chunks byte₀ (length s₀)
+    walk_past d =
         let C = closed_row indentor exclude source t p s cur mark in
         let D = indented_chunks indentor exclude source C.mark (chunks_of_rows t p s bs) in
         let q = ap (λ (y : IndentedChunks). y.chunks) result_here in
-        let z : number ≡ 13 = ⊎_elim (λ y. absurd (nz y)) (λ y. y) d.zero_or in
-        let L = (closed_of indentor exclude source t₀ p₀ s₀ mark₀).chunks in
-        let P : Past L byte₀ (length s₀) =
         ⊎_elim
         (λ y.
         inl
@@ -211,11 +208,10 @@ module _ {indentor exclude source store t₀ p₀ s₀ : List ℕ} {mark₀ : Bo
           w.bytes_used,
           w.bytes.len,
         )))
-        (d.past z) in
-        record { zero_or = inr z; done = λ y. absurd (nz y); past = λ _. P }
+        d
 
     -- one chunk more
-    module _ {t' p' s' : List ℕ} {mark' : Bool} {top' byte' laid' : ℕ} (d : RowIndented indentor exclude source t p s cur mark top byte laid t' p' s' mark' top' byte' laid') where
+    module _ {t' p' s' : List ℕ} {mark' : Bool} {top' byte' : ℕ} {laid' : Option ℕ} (d : RowIndented indentor exclude source t p s cur mark top byte t' p' s' mark' top' byte' laid') where
       at : SplicedAt t' us bs d.es
       at = d.spliced.place us bs next.place
 
@@ -266,10 +262,10 @@ module _ {indentor exclude source store t₀ p₀ s₀ : List ℕ} {mark₀ : Bo
 
   -- ---- the end
 
-  pub walk_end : n ≤ k → WalkDone indentor exclude source t₀ p₀ s₀ mark₀ top₀ byte₀ t p s 0 mark top byte
+  pub walk_end : n ≤ k → ChunksIndented indentor exclude source t₀ p₀ s₀ mark₀ top₀ byte₀ t p s mark top byte
   walk_end g = go w.rest refl
     where
-      go : (r : List ℕ) → w.rest ≡ r → WalkDone indentor exclude source t₀ p₀ s₀ mark₀ top₀ byte₀ t p s 0 mark top byte
+      go : (r : List ℕ) → w.rest ≡ r → ChunksIndented indentor exclude source t₀ p₀ s₀ mark₀ top₀ byte₀ t p s mark top byte
       go (x ∷ r) e = absurd (omega (arith, ap length e, w.size))
       go [] e =
           let o : order t ≡ us = w.order_is ∙ ap (λ (l : List ℕ). us ++ l) e ∙ append-nil us in
@@ -278,21 +274,16 @@ module _ {indentor exclude source store t₀ p₀ s₀ : List ℕ} {mark₀ : Bo
           ∙ ap (λ (l : List ℕ). then_chunks (chunks_of_rows t p s us) (indented_chunks indentor exclude source mark (chunks_of_rows t p s l))) e
           ∙ ap (λ (l : List Chunk). record { mark = mark; chunks = l }) (append-nil (chunks_of_rows t p s us)) in
           record {
-            zero_or = inl refl;
-            done = λ _.
-                record {
-                  linked = w.linked;
-                  desk = w.desk;
-                  rows = w.rows;
-                  bytes = w.bytes;
-                  top_up = w.top_up;
-                  byte_up = w.byte_up;
-                  byte_in = w.byte_in;
-                  low = subst (λ (l : List ℕ). All (EntryLow p top byte) (map (entry_at t) l)) (sym o) w.low;
-                  chunks = ap (λ (l : List ℕ). chunks_of_rows t p s l) o ∙ sym (ap (λ (y : IndentedChunks). y.chunks) q);
-                  mark_is = sym (ap (λ (y : IndentedChunks). y.mark) q);
-                  rows_used = omega (arith, w.rows_used);
-                  bytes_used = omega (arith, w.bytes_used, ap (λ (y : IndentedChunks). sum chunk_bytes y.chunks) q);
-                };
-            past = λ z. absurd (omega arith);
+            linked = w.linked;
+            desk = w.desk;
+            rows = w.rows;
+            bytes = w.bytes;
+            top_up = w.top_up;
+            byte_up = w.byte_up;
+            byte_in = w.byte_in;
+            low = subst (λ (l : List ℕ). All (EntryLow p top byte) (map (entry_at t) l)) (sym o) w.low;
+            chunks = ap (λ (l : List ℕ). chunks_of_rows t p s l) o ∙ sym (ap (λ (y : IndentedChunks). y.chunks) q);
+            mark_is = sym (ap (λ (y : IndentedChunks). y.mark) q);
+            rows_used = omega (arith, w.rows_used);
+            bytes_used = omega (arith, w.bytes_used, ap (λ (y : IndentedChunks). sum chunk_bytes y.chunks) q);
           }

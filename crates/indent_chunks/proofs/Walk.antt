@@ -34,8 +34,3 @@ pub record ChunksIndented (indentor exclude source t p s : List ℕ) (mark : Boo
 -- the model's chunks pass a limit: there are too many, or more new bytes than the scratch store has room for
 abbrev pub Past : List Chunk → ℕ → ℕ → Type 0
 Past cs byte size = (CHUNKS < length cs) ⊎ (size < byte + sum chunk_bytes cs)
-
-pub record WalkDone (indentor exclude source t p s : List ℕ) (mark : Bool) (top byte : ℕ) (t' p' s' : List ℕ) (number : ℕ) (mark' : Bool) (top' byte' : ℕ) : Type 0 where
-  pub zero_or : (number ≡ 0) ⊎ (number ≡ 13)
-  pub done : number ≡ 0 → ChunksIndented indentor exclude source t p s mark top byte t' p' s' mark' top' byte'
-  pub past : number ≡ 13 → Past (closed_of indentor exclude source t p s mark).chunks byte (length s)

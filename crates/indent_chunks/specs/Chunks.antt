@@ -1,5 +1,5 @@
 -- The walk along the list: the chunks before a row are indented, those from it on are as they were.
-use Rattle.std.specs.Prelude.{◌≡◌, Bool, List, [], ◌∷◌, ◌++◌, map, ℕ, ◌+◌, ◌-◌, ◌≤◌, ◌<◌, length}
+use Rattle.std.specs.Prelude.{◌≡◌, Bool, Option, IfSome, List, [], ◌∷◌, ◌++◌, map, ℕ, ◌+◌, ◌-◌, ◌≤◌, length}
 use Rattle.memory_layout.specs.Layout.{CHUNKS}
 use Rattle.utf8.specs.Chars.{All}
 use Rattle.memory_table.specs.Table.{row_at}
@@ -32,7 +32,7 @@ abbrev pub chunks_of_rows : List ℕ → List ℕ → List ℕ → List ℕ → 
 chunks_of_rows t p s xs = map (chunk_of p s) (map (entry_at t) xs)
 
 -- k of n chunks are done: the rows us hold what became of them
-pub record WalkAt (indentor exclude source store t₀ p₀ s₀ : List ℕ) (mark₀ : Bool) (top₀ byte₀ n : ℕ) (t p s : List ℕ) (k cur : ℕ) (mark : Bool) (top byte laid : ℕ) : Type 0 where
+pub record WalkAt (indentor exclude source store t₀ p₀ s₀ : List ℕ) (mark₀ : Bool) (top₀ byte₀ n : ℕ) (t p s : List ℕ) (k cur : ℕ) (mark : Bool) (top byte : ℕ) (laid : Option ℕ) : Type 0 where
   pub us : List ℕ
   pub rest : List ℕ
   pub order_is : order t ≡ us ++ rest
@@ -48,7 +48,7 @@ pub record WalkAt (indentor exclude source store t₀ p₀ s₀ : List ℕ) (mar
   pub byte_in : byte ≤ length s
   pub low : All (EntryLow p top byte) (map (entry_at t) us)
   pub todo : All (RestRow source store p s top byte) (map (entry_at t) rest)
-  pub indentor_at : 0 < laid → IndentorAt indentor s byte laid
+  pub indentor_at : IfSome laid (IndentorAt indentor s byte)
   pub result : closed_of indentor exclude source t₀ p₀ s₀ mark₀ ≡ then_chunks (chunks_of_rows t p s us) (indented_chunks indentor exclude source mark (chunks_of_rows t p s rest))
   pub rows_used : top + (CHUNKS - count_of t) + (sum chunk_pieces (chunks_of_rows t p s rest) + length rest) ≤ top₀ + (sum chunk_pieces (chunks_of t₀ p₀ s₀) + CHUNKS)
   pub bytes_used : byte ≤ byte₀ + sum chunk_bytes (chunks_of_rows t p s us)

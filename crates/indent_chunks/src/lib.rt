@@ -7,16 +7,15 @@ ghost use Rattle.memory_layout.specs.Layout.{NONE};
 ghost use Rattle.memory_table.specs.Order.{entry_at};
 ghost use Rattle.indent_chunks.specs.Row.{RowAt, RowReady, RowDone};
 
-use memory_layout::numbers;
+use indent_line_starts::Next;
 
-// What a chunk leaves: 0, or 13 where the chunks pass a limit; the mark behind it; the piece row and the byte behind those in use; the byte where the indentor lies.
+// Behind a chunk: the mark; the piece row and the byte behind those in use; the byte where the indentor lies, if it is laid.
 #[derive(Clone, Copy)]
 pub struct Walked {
-    pub number: u32,
     pub mark: bool,
     pub top: u32,
     pub byte: u32,
-    pub laid: u32,
+    pub laid: Option<u32>,
 }
 
 // A chunk without a replacement. At the first line start of all, the indentor is laid in the store.
@@ -33,35 +32,26 @@ fn indent_lines(
     mark: bool,
     top: u32,
     byte: u32,
-    laid: u32,
-) -> Walked
+    laid: Option<u32>,
+) -> Option<Walked>
     requires row_at { RowAt indentor.now source.now t.old p.old s.old i top byte laid }
     requires i_value { ((entry_at t.old i).text.0 ≡ NONE) × (start ≡ (entry_at t.old i).start) × (end ≡ (entry_at t.old i).end) }
-    ensures { RowDone indentor.now exclude.now source.now t.old p.old s.old i mark top byte laid
-        t.new p.new s.new result.number result.mark result.top result.byte result.laid }
+    ensures { RowDone indentor.now exclude.now source.now t.old p.old s.old i mark top byte
+        t.new p.new s.new result }
 {
-    let q = indent_line_starts::next_start(source, start, end, exclude, mark);
-    let x = q.at;
-    if x == end {
-        return Walked {
-            number: 0,
-            mark: q.mark,
-            top,
-            byte,
-            laid,
-        };
-    }
-    let o = indent_head_tail::lay_indentor(s, indentor, byte, laid);
-    if !o.fits {
-        return Walked {
-            number: numbers::LIMIT,
-            mark,
-            top,
-            byte,
-            laid,
-        };
-    }
-    let c = indent_source_chunk::indent_source(
+    let x = match indent_line_starts::next_start(source, start, end, exclude, mark) {
+        Next::Start(x) => x,
+        Next::End(mark) => {
+            return Some(Walked {
+                mark,
+                top,
+                byte,
+                laid,
+            });
+        }
+    };
+    let at = indent_head_tail::lay_indentor(s, indentor, byte, laid)?;
+    let cut = indent_source_chunk::indent_source(
         source,
         exclude,
         t,
@@ -70,20 +60,19 @@ fn indent_lines(
         start,
         x,
         end,
-        o.laid,
+        at.laid,
         indentor.len() as u32,
         top,
-    );
-    Walked {
-        number: c.number,
-        mark: c.mark,
-        top: c.top,
-        byte: o.byte,
-        laid: o.laid,
-    }
+    )?;
+    Some(Walked {
+        mark: cut.mark,
+        top: cut.top,
+        byte: at.byte,
+        laid: Some(at.laid),
+    })
 }
 
-// One chunk: new piece rows from row top on, new texts from `byte` on.
+// One chunk: new piece rows from row top on, new texts from `byte` on; nothing where the chunks pass a limit.
 pub fn indent_row(
     source: &[u8],
     store: &[u8],
@@ -96,11 +85,11 @@ pub fn indent_row(
     mark: bool,
     top: u32,
     byte: u32,
-    laid: u32,
-) -> Walked
+    laid: Option<u32>,
+) -> Option<Walked>
     requires { RowReady indentor.now source.now store.now t.old p.old s.old i top byte laid }
-    ensures { RowDone indentor.now exclude.now source.now t.old p.old s.old i mark top byte laid
-        t.new p.new s.new result.number result.mark result.top result.byte result.laid }
+    ensures { RowDone indentor.now exclude.now source.now t.old p.old s.old i mark top byte
+        t.new p.new s.new result }
 {
     let r = memory_table::get_row(t, i);
     if r.text_at == memory_layout::NONE {
@@ -109,20 +98,18 @@ pub fn indent_row(
         );
     }
     if indent_line_starts::is_excluded(exclude, r.start) {
-        return Walked {
-            number: 0,
+        return Some(Walked {
             mark,
             top,
             byte,
             laid,
-        };
+        });
     }
-    let n = indent_replaced_chunk::indent_replacement(store, indentor, t, s, i, mark, byte);
-    Walked {
-        number: n.number,
-        mark: n.mark,
+    let w = indent_replaced_chunk::indent_replacement(store, indentor, t, s, i, mark, byte)?;
+    Some(Walked {
+        mark: w.mark,
         top,
-        byte: n.byte,
+        byte: w.byte,
         laid,
-    }
+    })
 }

@@ -2,7 +2,6 @@
 use mathlib.Core.Path.{◌≡◌, refl, sym, ap, ap₂, ◌∙◌, subst}
 use mathlib.Core.Bool.{Bool, true, false}
 use mathlib.Core.List.{List, [], ◌∷◌, ◌++◌, map, map-append, append_assoc}
-use mathlib.Core.Logic.{inl, inr}
 use Prim.Native.Nat.{ℕ, suc, ◌+◌, ◌-◌, ◌≤◌, ◌<◌}
 use native.Mathlib.Omega.{arith}
 use native.Mathlib.Decide.{dec_lt}
@@ -24,10 +23,10 @@ use Rattle.memory_texts.proofs.Low.{rows_same, bytes_same, none_below, run_same,
 use Rattle.memory_texts.specs.Low.{RowsKept, EntryLow}
 use Rattle.model_indent_closed.specs.Indent.{split_lines}
 use Rattle.model_indent_closed.proofs.Indent.{split_lines_inside, split_lines_at_start}
-use Rattle.indent_mark.specs.Bytes.{starts_from, NextStart}
+use Rattle.indent_line_starts.specs.Next.{StartAt}
 use Rattle.indent_cuts.specs.Splice.{with_intro_at, Begun, CutRoom, CutDone}
 use Rattle.indent_cuts.proofs.Splice.{Cutting, cutting_none, cutting_placed, cutting_more, cutting_end}
-use Rattle.indent_cuts.specs.Lines.{lines_from, parts, LinesReady, PartsDone}
+use Rattle.indent_cuts.specs.Lines.{lines_from, parts, LinesReady, Parts}
 
 pub leb_less : (x y : ℕ) → leb x y ≡ false → y < x
 leb_less x y e = elim (dec_lt y x) [ yes k ↦ k | no k ↦ no_tf (sym (le-leb x y (omega arith)) ∙ e) ]
@@ -151,47 +150,29 @@ module _ {exclude source t₀ p₀ : List ℕ} {i from₀ end : ℕ} {mark₀ : 
       }
 
   -- where no line start is left
-  none_left : (m : Bool) → W ≡ record { mark = m; starts = [] } → PartsDone 0 t₀ p₀ i top₀ y W₀ t p 0 m top
+  pub lines_end : {m : Bool} → W ≡ record { mark = m; starts = [] } → Parts 0 t₀ p₀ i top₀ y W₀.starts t p top × (m ≡ W₀.mark)
   unfolding starts_f mark_f
-  none_left m e =
-      record {
-        zero_or = inl refl;
-        done = λ _.
-            record {
-              es = a.ds ++ entry_at t cur ∷ [];
-              spliced = cutting_end a.cutting;
-              rows = a.rows;
-              up = a.up;
-              used = omega (arith, a.used);
-              low = λ byte b k. let x = a.low byte b k in all_snoc x.0 x.1;
-              chunks = λ s byte b k.
-                  map-append (chunk_of p s) a.ds (entry_at t cur ∷ [])
-                  ∙ sym (a.chunks s byte b k ∙ ap (λ (l : List ℕ). map (chunk_of p s) a.ds ++ split_lines (bytes_at s y) (chunk_of p s (entry_at t cur)) l) (ap starts_f e));
-            };
-        mark_is = λ _. sym (a.mark_is ∙ ap mark_f e);
-        past = λ z. absurd (omega arith);
-      }
+  lines_end e = (
+    record {
+      es = a.ds ++ entry_at t cur ∷ [];
+      spliced = cutting_end a.cutting;
+      rows = a.rows;
+      up = a.up;
+      used = omega (arith, a.used);
+      low = λ byte b k. let x = a.low byte b k in all_snoc x.0 x.1;
+      chunks = λ s byte b k.
+          map-append (chunk_of p s) a.ds (entry_at t cur ∷ [])
+          ∙ sym (a.chunks s byte b k ∙ ap (λ (l : List ℕ). map (chunk_of p s) a.ds ++ split_lines (bytes_at s y) (chunk_of p s (entry_at t cur)) l) (ap starts_f e));
+    },
+    sym (a.mark_is ∙ ap mark_f e),
+  )
 
-  -- the search found none, or there was nothing to search
-  pub lines_end : {x : ℕ} {m : Bool} → NextStart source exclude mark from end x m → x ≡ end → PartsDone 0 t₀ p₀ i top₀ y W₀ t p 0 m top
-  lines_end {m = m} n e = none_left m (n.none_left e)
-
-  pub lines_out : end ≤ from → PartsDone 0 t₀ p₀ i top₀ y W₀ t p 0 mark top
-  unfolding starts_from
-  lines_out k =
-      let e : from ≡ end = omega (arith, a.up_to) in
-      let z : end - from ≡ 0 = omega arith in
-      none_left mark (rw z)
-
-  module _ {x : ℕ} {m : Bool} (n : NextStart source exclude mark from end x m) (ne : x ≡ end → ⊥) where
-    below : x < end
-    below = elim (dec_lt x end) [ yes k ↦ k | no k ↦ absurd (ne (omega (arith, n.up_to))) ]
-
+  module _ {x : ℕ} (n : StartAt source exclude mark from end x) where
     abbrev W' : Starts
     W' = lines_from exclude source false (x + 1) end
 
     next : W ≡ then_start x W'
-    next = n.found below
+    next = n.found
 
     past_start : (entry_at t cur).start < x
     past_start = omega (arith, a.after, n.from_on)
@@ -201,14 +182,8 @@ module _ {exclude source t₀ p₀ : List ℕ} {i from₀ end : ℕ} {mark₀ : 
     part_more = ap (λ (r : Starts). parts (entry_at t cur).start r.starts) next ∙ parts_inside (entry_at t cur).start x W'.starts past_start
 
     -- too many chunks
-    pub lines_full : leb CHUNKS (count_of t) ≡ true → PartsDone 0 t₀ p₀ i top₀ y W₀ t p 13 mark top
-    lines_full f =
-        record {
-          zero_or = inr refl;
-          done = λ z. absurd (omega arith);
-          mark_is = λ z. absurd (omega arith);
-          past = λ z. omega (arith, a.count, a.cutting.count, part_more, parts_some x W'.starts, leb-true CHUNKS (count_of t) f);
-        }
+    pub lines_full : leb CHUNKS (count_of t) ≡ true → CHUNKS + 1 < count_of t₀ + parts (entry_at t₀ i).start W₀.starts
+    lines_full f = omega (arith, a.count, a.cutting.count, part_more, parts_some x W'.starts, leb-true CHUNKS (count_of t) f)
 
     -- one more cut
     module _ (f : leb CHUNKS (count_of t) ≡ false) {t' p' : List ℕ} {k : ℕ} (c : CutDone t p t' p' cur k x y top) where
@@ -248,7 +223,7 @@ module _ {exclude source t₀ p₀ : List ℕ} {i from₀ end : ℕ} {mark₀ : 
             ds = a.ds ++ first x e ∷ [];
             cutting = cutting_more a.cutting c.part;
             after = omega (arith, start_is);
-            up_to = omega (arith, below);
+            up_to = omega (arith, n.below);
             mark_is = a.mark_is ∙ ap mark_f next;
             count = a.count ∙ omega (arith, part_more, length-append a.ds (first x e ∷ []), ap (λ (z : ℕ). parts z W'.starts) start_is);
             rows = record { len = c.begun.rows.len ∙ a.rows.len; rows = λ j g. c.begun.rows.rows j (omega (arith, a.up)) ∙ a.rows.rows j g };

@@ -1,5 +1,5 @@
 -- A source chunk cut at its line starts, on rows: each part that begins at one has the indentor as its first intro piece.
-use Rattle.std.specs.Prelude.{◌≡◌, Bool, true, false, List, [], ◌∷◌, map, ◌⊎◌, ℕ, suc, ◌+◌, ◌*◌, ◌-◌, ◌≤◌, ◌<◌, ltb, length}
+use Rattle.std.specs.Prelude.{◌≡◌, Bool, true, false, Option, MatchOption, List, [], ◌∷◌, map, ℕ, suc, ◌+◌, ◌*◌, ◌-◌, ◌≤◌, ◌<◌, ltb, length}
 use Rattle.memory_layout.specs.Layout.{CHUNKS, CHUNKS_LEN}
 use Rattle.utf8.specs.Chars.{All}
 use Rattle.memory_table.specs.Order.{Entry, entry_at, count_of, Linked}
@@ -9,6 +9,7 @@ use Rattle.memory_list.specs.Insert.{Placed}
 use Rattle.memory_texts.specs.Low.{RowsKept, EntryLow}
 use Rattle.model_indent_closed.specs.Indent.{split_lines}
 use Rattle.indent_mark.specs.Bytes.{starts_from, part}
+use Rattle.indent_cuts.specs.declared.Cut.{Cut}
 use Rattle.indent_cuts.specs.Splice.{Spliced}
 
 -- the line starts of the source from a position up to another, and the mark behind them
@@ -45,8 +46,7 @@ pub record Parts (more : ℕ) (t p : List ℕ) (i top : ℕ) (y : Place) (starts
   pub chunks : (s : List ℕ) (byte : ℕ) → y.0 + y.1 ≤ byte → EntryLow p top byte (entry_at t i)
       → map (chunk_of p' s) es ≡ split_lines (bytes_at s y) (chunk_of p s (entry_at t i)) starts
 
-pub record PartsDone (more : ℕ) (t p : List ℕ) (i top : ℕ) (y : Place) (starts : Starts) (t' p' : List ℕ) (number : ℕ) (mark' : Bool) (top' : ℕ) : Type 0 where
-  pub zero_or : (number ≡ 0) ⊎ (number ≡ 13)
-  pub done : number ≡ 0 → Parts more t p i top y starts.starts t' p' top'
-  pub mark_is : number ≡ 0 → mark' ≡ starts.mark
-  pub past : number ≡ 13 → CHUNKS + 1 < count_of t + parts (entry_at t i).start starts.starts
+-- the parts, and the mark behind the chunk; or there would be too many chunks
+abbrev pub PartsDone : ℕ → List ℕ → List ℕ → ℕ → ℕ → Place → Starts → List ℕ → List ℕ → Option Cut → Type 0
+PartsDone more t p i top y starts t' p' r =
+    MatchOption r (CHUNKS + 1 < count_of t + parts (entry_at t i).start starts.starts) (λ c. Parts more t p i top y starts.starts t' p' c.top × (c.mark ≡ starts.mark))

@@ -8,7 +8,7 @@ ghost use Rattle.memory_list.specs.Insert.{Placed};
 ghost use Rattle.indent_cuts.specs.Splice.{CutRoom, CutDone};
 ghost use Rattle.indent_cuts.specs.Lines.{lines_from, LinesReady, PartsDone};
 
-use memory_layout::numbers;
+use indent_line_starts::Next;
 
 // Row i cut at q, and the indentor put in front of the new row, which is `insert` at q to the right and in front, with the row at hand: the text lies at `laid`, its row
 // is row top. Returns the new row's number.
@@ -34,15 +34,14 @@ fn is_full(t: &[u32]) -> bool
     memory_layout::LAST_ROW <= z.start
 }
 
-// What cuts leave: 0, or 13 where there would be too many chunks; the mark behind the chunk; the piece row behind those in use.
+// Behind a chunk that was cut: the mark, and the piece row behind those in use.
 #[derive(Clone, Copy)]
 pub struct Cut {
-    pub number: u32,
     pub mark: bool,
     pub top: u32,
 }
 
-// Row i cut at its line starts from a position on, which lies behind the row's start.
+// Row i cut at its line starts from a position on, which lies behind the row's start; nothing where there would be too many chunks.
 pub fn cut_lines(
     source: &[u8],
     exclude: &[u32],
@@ -55,40 +54,26 @@ pub fn cut_lines(
     laid: u32,
     len: u32,
     top: u32,
-) -> Cut
+) -> Option<Cut>
     requires { LinesReady source.now t.old p.old i from end top }
     ensures { PartsDone 0 t.old p.old i top (laid, len) (lines_from exclude.now source.now mark from end)
-        t.new p.new result.number result.mark result.top }
+        t.new p.new result }
 {
     let mut cur = i;
     let mut at = from;
     let mut m = mark;
     let mut row = top;
-    while at < end {
-        let q = indent_line_starts::next_start(source, at, end, exclude, m);
-        let x = q.at;
-        if x == end {
-            return Cut {
-                number: 0,
-                mark: q.mark,
-                top: row,
-            };
-        }
+    loop {
+        let x = match indent_line_starts::next_start(source, at, end, exclude, m) {
+            Next::Start(x) => x,
+            Next::End(mark) => return Some(Cut { mark, top: row }),
+        };
         if is_full(t) {
-            return Cut {
-                number: numbers::LIMIT,
-                mark: m,
-                top: row,
-            };
+            return None;
         }
         cur = cut_part(t, p, cur, x, laid, len, row);
         at = x + 1;
         m = false;
         row += 1;
-    }
-    Cut {
-        number: 0,
-        mark: m,
-        top: row,
     }
 }

@@ -1,8 +1,8 @@
 -- Laws of what `Own` in specs/ defines.
 use mathlib.Core.Path.{◌≡◌, refl, sym, ap, ◌∙◌, subst}
-use mathlib.Core.Bool.{Bool, true, false}
+use mathlib.Core.Bool.{Bool}
 use mathlib.Core.List.{List, [], ◌++◌, append-nil}
-use Prim.Native.Nat.{ℕ, zero, suc, ◌+◌, ◌-◌, ◌≤◌, ◌<◌}
+use Prim.Native.Nat.{ℕ, ◌+◌, ◌-◌, ◌≤◌, ◌<◌}
 use native.Mathlib.Omega.{arith}
 use native.Mathlib.Nat.{add-zero}
 use lib.ListN.{length, take}
@@ -12,17 +12,16 @@ use Rattle.memory_table.specs.Order.{entry_at}
 use Rattle.memory_table.specs.Sides.{side}
 use Rattle.model.specs.Text.{Text}
 use Rattle.model.specs.Indent.{indent_pieces}
-use Rattle.model.proofs.Lists.{clash}
 use Rattle.memory.specs.Layout.{Place, bytes_at, piece_at, run_of}
 use Rattle.memory_texts.specs.Over.{over}
 use Rattle.memory_texts.proofs.Over.{length_over, take_over, over_all}
 use Rattle.memory_texts.specs.Carry.{Carried, RoomOf}
 use Rattle.memory_texts.proofs.Carry.{carried_rows, carried_bytes, carried_run, carried_below, kept_piece}
 use Rattle.memory_list.proofs.Split.{desk_set}
-use Rattle.memory_texts.proofs.Low.{bytes_same}
 use Rattle.indent_head_tail.specs.Run.{RunReady}
 use Rattle.indent_head_tail.proofs.Run.{RunIndented}
-use Rattle.indent_head_tail.specs.Own.{RunPut, moved, OwnReady, OwnDone, LayReady, Laid}
+use Rattle.indent_head_tail.specs.Own.{RunPut, moved, OwnReady, OwnDone, LayReady, LaidText}
+use Rattle.std.specs.Prelude.{Option}
 
 -- ---- a run put into tables that only grow
 
@@ -54,66 +53,41 @@ module _ {ts : List Text} {p s : List ℕ} {byte top : ℕ} {p' s' : List ℕ} {
 
 -- ---- the head or the tail
 
-pub record OwnIndented (outro : Bool) (indentor : Text) (mark : Bool) (ts : List Text) (t p s : List ℕ) (top byte : ℕ) (t' p' s' : List ℕ) (fits mark' : Bool) (byte' : ℕ) : Type 0 where
-  pub done : fits ≡ true → OwnDone outro indentor mark ts t p s top byte t' p' s' mark' byte'
-  pub short : fits ≡ false → length s < byte + length (concat (indent_pieces indentor mark ts).pieces)
-
 module _ (outro : Bool) (indentor : Text) (mark : Bool) (pieces store t p s : List ℕ) (top byte : ℕ) (h : OwnReady outro pieces store t p s top byte)
     (q : Place) (run_is : q ≡ side outro (entry_at t 0)) where
   pub own_run_ready : RunReady pieces store q.0 q.1 p s top byte
   own_run_ready = subst (λ (x : Place). RunReady pieces store x.0 x.1 p s top byte) (sym run_is) h.run
 
-  module _ {p' s' : List ℕ} {fits mark' : Bool} {byte' : ℕ} (d : RunIndented indentor mark (run_of pieces store (q.0, q.1)) p s byte top p' s' fits mark' byte') where
+  -- the texts are too long, by row 0's name for the run
+  pub own_short : length s < byte + length (concat (indent_pieces indentor mark (run_of pieces store (q.0, q.1))).pieces)
+      → length s < byte + length (concat (indent_pieces indentor mark (run_of pieces store (side outro (entry_at t 0)))).pieces)
+  own_short l = subst (λ (x : Place). length s < byte + length (concat (indent_pieces indentor mark (run_of pieces store x)).pieces)) run_is l
+
+  module _ {p' s' : List ℕ} {mark' : Bool} {byte' : ℕ} (d : RunIndented indentor mark (run_of pieces store (q.0, q.1)) p s byte top p' s' mark' byte') where
     -- the run by row 0's name
-    at_row : RunIndented indentor mark (run_of pieces store (side outro (entry_at t 0))) p s byte top p' s' fits mark' byte'
-    at_row = subst (λ (x : Place). RunIndented indentor mark (run_of pieces store x) p s byte top p' s' fits mark' byte') run_is d
+    at_row : RunIndented indentor mark (run_of pieces store (side outro (entry_at t 0))) p s byte top p' s' mark' byte'
+    at_row = subst (λ (x : Place). RunIndented indentor mark (run_of pieces store x) p s byte top p' s' mark' byte') run_is d
 
-    pub own_short : fits ≡ false → OwnIndented outro indentor mark (run_of pieces store (side outro (entry_at t 0))) t p s top byte t p' s' fits mark' byte'
-    own_short e = record { done = λ k. clash k e; short = at_row.short }
-
-    pub own_done : fits ≡ true → (t' : List ℕ) → Put t t' 0 (moved outro top (row_at t 0)) → length t' ≡ length t
-        → OwnIndented outro indentor mark (run_of pieces store (side outro (entry_at t 0))) t p s top byte t' p' s' fits mark' byte'
-    own_done e t' u m =
+    pub own_done : (t' : List ℕ) → Put t t' 0 (moved outro top (row_at t 0)) → length t' ≡ length t
+        → OwnDone outro indentor mark (run_of pieces store (side outro (entry_at t 0))) t p s top byte t' p' s' mark' byte'
+    own_done t' u m =
         record {
-          done = λ _.
-              record {
-                desk = desk_set t t' (moved outro top (row_at t 0)) h.linked u refl refl refl m;
-                len = m;
-                put = run_put (at_row.done e) (at_row.room e);
-                mark_is = at_row.mark_is e;
-              };
-          short = λ k. clash e k;
+          desk = desk_set t t' (moved outro top (row_at t 0)) h.linked u refl refl refl m;
+          len = m;
+          put = run_put at_row.done at_row.room;
+          mark_is = at_row.mark_is;
         }
 
 -- ---- the indentor
 
-module _ {indentor s : List ℕ} {byte laid : ℕ} (w : LayReady indentor s byte laid) where
-  pub laid_before : (laid ≡ 0 → ⊥) → Laid indentor s byte s true byte laid
-  laid_before n =
-      record {
-        done = λ _.
-            record { bytes = bytes_same byte s; byte_up = omega arith; byte_in = w.byte_in; at = w.before (positive laid n); bytes_used = omega arith };
-        short = λ k. clash refl k;
-      }
-    where
-      positive : (n : ℕ) → (n ≡ 0 → ⊥) → 0 < n
-      positive zero z = absurd (z refl)
-      positive (suc n) z = omega arith
-
-  pub laid_short : length s - byte < length indentor → Laid indentor s byte s false byte laid
-  laid_short l = record { done = λ k. clash k refl; short = λ _. omega (arith, w.byte_in) }
-
-  pub laid_now : length indentor ≤ length s - byte → {s' : List ℕ} → s' ≡ over s byte indentor → Laid indentor s byte s' true (byte + length indentor) byte
+module _ {indentor s : List ℕ} {byte : ℕ} {laid : Option ℕ} (w : LayReady indentor s byte laid) where
+  pub laid_now : length indentor ≤ length s - byte → {s' : List ℕ} → s' ≡ over s byte indentor → LaidText indentor s byte s' (byte + length indentor) byte
   laid_now l {s'} x =
       let len : length s' ≡ length s = ap length x ∙ length_over s byte indentor (omega (arith, w.byte_in)) in
       record {
-        done = λ _.
-            record {
-              bytes = record { len = len; bytes = ap (take byte) x ∙ take_over s byte indentor w.byte_in };
-              byte_up = omega arith;
-              byte_in = omega (arith, w.byte_in);
-              at = record { text = ap (λ (y : List ℕ). bytes_at y (byte, length indentor)) x ∙ over_all s byte indentor w.byte_in; low = omega arith };
-              bytes_used = omega arith;
-            };
-        short = λ k. clash refl k;
+        bytes = record { len = len; bytes = ap (take byte) x ∙ take_over s byte indentor w.byte_in };
+        byte_up = omega arith;
+        byte_in = omega (arith, w.byte_in);
+        at = record { text = ap (λ (y : List ℕ). bytes_at y (byte, length indentor)) x ∙ over_all s byte indentor w.byte_in; low = omega arith };
+        bytes_used = omega arith;
       }

@@ -1,6 +1,6 @@
 -- Laws of what `Run` in specs/ defines.
 use mathlib.Core.Path.{◌≡◌, refl, sym, ap, ap₂, ◌∙◌, subst}
-use mathlib.Core.Bool.{Bool, true, false}
+use mathlib.Core.Bool.{Bool, true}
 use mathlib.Core.List.{List, [], ◌∷◌, ◌++◌}
 use Prim.Native.Nat.{ℕ, ◌+◌, ◌*◌, ◌-◌, ◌^◌, ◌≤◌, ◌<◌}
 use native.Mathlib.Omega.{arith}
@@ -13,7 +13,6 @@ use Rattle.utf8.specs.Chars.{concat}
 use Rattle.memory_table.specs.Pieces.{with_piece}
 use Rattle.model.specs.Text.{Text}
 use Rattle.model.specs.Indent.{indent_frag, Pieces, then_piece, indent_pieces}
-use Rattle.model.proofs.Lists.{clash}
 use Rattle.memory.specs.Layout.{tabulate, run_of}
 use Rattle.memory_texts.specs.Over.{over}
 use Rattle.memory_texts.proofs.Over.{two_sets}
@@ -21,64 +20,33 @@ use Rattle.memory_texts.proofs.Texts.{concat_nil, concat_snoc, run_tabulate}
 use Rattle.memory.proofs.Desks.{length_tabulate}
 use Rattle.memory_texts.specs.Carry.{Carried, RoomOf}
 use Rattle.memory_texts.proofs.Carry.{carried_none, carried_one, carried_more}
-use Rattle.indent_mark.specs.Bytes.{Filling, mark_behind}
+use Rattle.indent_mark.specs.Bytes.{Filled, mark_behind}
 use Rattle.indent_mark.proofs.ByCharacters.{indent_frag_is}
 use Rattle.model_preservation.proofs.Indent.{pieces_length}
-use Rattle.indent_head_tail.specs.Run.{PieceRoom, PieceIndented, TextIndented, RunReady, first_ones, texts, Running}
+use Rattle.indent_head_tail.specs.Run.{PieceRoom, PieceIndented, RunReady, first_ones, texts, Running}
 
 -- ---- one text
 
-module _ {xs s s' : List ℕ} {byte end : ℕ} {f : Bool} (x : Filling s byte xs s' f end) where
-  pub piece_short : {p p' : List ℕ} {row : ℕ} → f ≡ false → PieceIndented xs p s byte row p' s' f end
-  piece_short e = record { done = λ k. clash k e; room = λ k. clash k e; short = x.short }
-
-  pub piece_size : f ≡ true → byte ≤ end
-  piece_size e = omega (arith, (x.done e).next_is)
-
-  pub piece_end : f ≡ true → end ≤ length s
-  piece_end e = omega (arith, (x.done e).next_is, x.room e)
-
-  pub piece_done : (p p' : List ℕ) (row : ℕ) → f ≡ true → row * 2 + 2 ≤ length p → p' ≡ with_piece p row byte (end - byte) → PieceIndented xs p s byte row p' s' f end
-  piece_done p p' row e h put =
-      let n : end - byte ≡ length xs = omega (arith, (x.done e).next_is) in
-      record {
-        done = λ _. record {
-          store_is = (x.done e).out_is;
-          pieces_is = put ∙ two_sets p (row * 2) byte (end - byte) (omega arith) ∙ ap (λ (k : ℕ). over p (row * 2) (byte ∷ k ∷ [])) n;
-          byte_is = (x.done e).next_is;
-        };
-        room = x.room;
-        short = x.short;
-      }
-
--- ---- a text of the lent tables
-
-module _ (indentor : Text) (mark : Bool) {text t : Text} (e : text ≡ t) {p s : List ℕ} {byte row : ℕ} {p' s' : List ℕ} {fits : Bool} {end : ℕ}
-    (x : PieceIndented (indent_frag indentor mark text).text p s byte row p' s' fits end) where
-  of_text : PieceIndented (indent_frag indentor mark t).text p s byte row p' s' fits end
-  of_text = subst (λ (z : Text). PieceIndented (indent_frag indentor mark z).text p s byte row p' s' fits end) e x
-
-  pub text_short : fits ≡ false → (mark' : Bool) (end' : ℕ) → TextIndented indentor mark t p s byte row p' s' false mark' end'
-  text_short k mark' end' = record { piece = record { done = λ z. clash z refl; room = λ z. clash z refl; short = λ _. of_text.short k }; mark_is = λ z. clash z refl }
-
-  pub text_end : fits ≡ true → length s < 2 ^ 32 → end < 2 ^ 32
-  text_end k narrow = omega (arith, (x.done k).byte_is, x.room k)
-
-  pub text_done : fits ≡ true → (mark' : Bool) → mark' ≡ mark_behind mark text → TextIndented indentor mark t p s byte row p' s' true mark' end
-  text_done k mark' m =
-      record {
-        piece = record { done = λ _. of_text.done k; room = λ _. of_text.room k; short = λ z. clash refl z };
-        mark_is = λ _. m ∙ ap (mark_behind mark) e;
-      }
+pub piece_done : {xs s s' : List ℕ} {byte end : ℕ} → Filled s byte xs s' end → (p p' : List ℕ) (row : ℕ) → row * 2 + 2 ≤ length p → p' ≡ with_piece p row byte (end - byte)
+    → PieceIndented xs p s byte row p' s' end
+piece_done {xs} {byte = byte} {end} x p p' row h put =
+    let n : end - byte ≡ length xs = omega (arith, x.done.next_is) in
+    record {
+      done = record {
+        store_is = x.done.out_is;
+        pieces_is = put ∙ two_sets p (row * 2) byte (end - byte) (omega arith) ∙ ap (λ (k : ℕ). over p (row * 2) (byte ∷ k ∷ [])) n;
+        byte_is = x.done.next_is;
+      };
+      room = x.room;
+    }
 
 -- ---- a run
 
--- the texts are put from a byte and a row on, and the mark behind them is the model's; or they are too long
-pub record RunIndented (indentor : Text) (mark : Bool) (ts : List Text) (p s : List ℕ) (byte top : ℕ) (p' s' : List ℕ) (fits mark' : Bool) (byte' : ℕ) : Type 0 where
-  pub done : fits ≡ true → Carried (indent_pieces indentor mark ts).pieces p s byte top p' s' byte' (top + length ts)
-  pub room : fits ≡ true → RoomOf (indent_pieces indentor mark ts).pieces p s byte top
-  pub mark_is : fits ≡ true → mark' ≡ (indent_pieces indentor mark ts).mark
-  pub short : fits ≡ false → length s < byte + length (concat (indent_pieces indentor mark ts).pieces)
+-- the texts are put from a byte and a row on, and the mark behind them is the model's
+pub record RunIndented (indentor : Text) (mark : Bool) (ts : List Text) (p s : List ℕ) (byte top : ℕ) (p' s' : List ℕ) (mark' : Bool) (byte' : ℕ) : Type 0 where
+  pub done : Carried (indent_pieces indentor mark ts).pieces p s byte top p' s' byte' (top + length ts)
+  pub room : RoomOf (indent_pieces indentor mark ts).pieces p s byte top
+  pub mark_is : mark' ≡ (indent_pieces indentor mark ts).mark
 
 -- one text more
 indent_snoc : (indentor : Text) (mark : Bool) (l : List Text) (t : Text)
@@ -128,7 +96,7 @@ module _ (indentor : Text) (mark : Bool) (f : ℕ → Text) (p s : List ℕ) (by
           narrow = omega (arith, r.same_bytes);
         }
 
-    module _ (t : Text) (e : t ≡ f i) {p'' s'' : List ℕ} {fits : Bool} {end : ℕ} (x : PieceIndented (indent_frag indentor m t).text p' s' next (top + i) p'' s'' fits end) where
+    module _ (t : Text) (e : t ≡ f i) where
       -- the texts up to this one
       ones_pieces : (first_ones indentor mark f (i + 1)).pieces ≡ (first_ones indentor mark f i).pieces ++ ((indent_frag indentor m t).text ∷ [])
       ones_pieces =
@@ -140,12 +108,12 @@ module _ (indentor : Text) (mark : Bool) (f : ℕ → Text) (p s : List ℕ) (by
       ones_bytes = ap (λ (z : List Text). length (concat z)) ones_pieces ∙ ap length (concat_snoc (first_ones indentor mark f i).pieces _)
           ∙ length-append (concat (first_ones indentor mark f i).pieces) _
 
-      pub running_short : fits ≡ false → length s < byte + length (concat (first_ones indentor mark f n).pieces)
-      running_short k = omega (arith, x.short k, r.carried.byte_is, r.same_bytes, ones_bytes, ones_mono (i + 1) n (omega arith))
+      pub running_short : length s' < next + length (indent_frag indentor m t).text → length s < byte + length (concat (first_ones indentor mark f n).pieces)
+      running_short k = omega (arith, k, r.carried.byte_is, r.same_bytes, ones_bytes, ones_mono (i + 1) n (omega arith))
 
-      module _ (k : fits ≡ true) where
+      module _ {p'' s'' : List ℕ} {end : ℕ} (x : PieceIndented (indent_frag indentor m t).text p' s' next (top + i) p'' s'' end) where
         bytes_next : byte + length (concat (first_ones indentor mark f (i + 1)).pieces) ≤ length s
-        bytes_next = omega (arith, x.room k, r.carried.byte_is, r.same_bytes, ones_bytes)
+        bytes_next = omega (arith, x.room, r.carried.byte_is, r.same_bytes, ones_bytes)
 
         room_next : length p < 2 ^ 32 → length s < 2 ^ 32 → RoomOf (first_ones indentor mark f (i + 1)).pieces p s byte top
         room_next np ns = record { rows_in = omega (arith, ones_length (i + 1)); bytes_in = bytes_next; rows_narrow = np; narrow = ns }
@@ -155,7 +123,7 @@ module _ (indentor : Text) (mark : Bool) (f : ℕ → Text) (p s : List ℕ) (by
         running_more v m' em np ns lp ls =
             let us : List Text = (indent_frag indentor m t).text ∷ [] in
             let a : top + i + 1 ≡ top + (i + 1) = omega arith in
-            let g = carried_more r.carried us (subst (λ (z : List Text). RoomOf z p s byte top) ones_pieces (room_next np ns)) (carried_one (x.done k)) in
+            let g = carried_more r.carried us (subst (λ (z : List Text). RoomOf z p s byte top) ones_pieces (room_next np ns)) (carried_one x.done) in
             record {
               mark_is =
                   em
@@ -179,32 +147,24 @@ module _ (indentor : Text) (mark : Bool) (pieces store : List ℕ) (at n : ℕ) 
   run_ones : indent_pieces indentor mark (run_of pieces store (at, n)) ≡ ones n
   run_ones = ap (indent_pieces indentor mark) (run_tabulate pieces store at n)
 
-  pub run_short : (p' s' : List ℕ) (mark' : Bool) (byte' : ℕ) → length s < byte + length (concat (ones n).pieces)
-      → RunIndented indentor mark (run_of pieces store (at, n)) p s byte top p' s' false mark' byte'
-  run_short p' s' mark' byte' h =
-      record {
-        done = λ k. clash k refl;
-        room = λ k. clash k refl;
-        mark_is = λ k. clash k refl;
-        short = λ _. omega (arith, h, ap (λ (z : Pieces). length (concat z.pieces)) run_ones);
-      }
+  pub run_short : length s < byte + length (concat (ones n).pieces) → length s < byte + length (concat (indent_pieces indentor mark (run_of pieces store (at, n))).pieces)
+  run_short h = omega (arith, h, ap (λ (z : Pieces). length (concat z.pieces)) run_ones)
 
   module _ {i next : ℕ} {p' s' : List ℕ} {m : Bool} (r : Running indentor mark (texts pieces store at) p s byte top i p' s' next m) (e : i ≡ n) where
-    pub run_done : RunIndented indentor mark (run_of pieces store (at, n)) p s byte top p' s' true m next
+    pub run_done : RunIndented indentor mark (run_of pieces store (at, n)) p s byte top p' s' m next
     run_done =
         let q : ones i ≡ indent_pieces indentor mark (run_of pieces store (at, n)) = ap ones e ∙ sym run_ones in
         let l : length (run_of pieces store (at, n)) ≡ i = ap length (run_tabulate pieces store at n) ∙ length_tabulate (texts pieces store at) n ∙ sym e in
         record {
-          done = λ _.
+          done =
               subst (λ (z : Pieces). Carried z.pieces p s byte top p' s' next (top + length (run_of pieces store (at, n)))) q
               (subst (λ (k : ℕ). Carried (ones i).pieces p s byte top p' s' next (top + k)) (sym l) r.carried);
-          room = λ _.
+          room =
               record {
                 rows_in = omega (arith, w.rows, pieces_length indentor mark (run_of pieces store (at, n)), l);
                 bytes_in = omega (arith, r.room, ap (λ (z : Pieces). length (concat z.pieces)) q);
                 rows_narrow = w.rows_narrow;
                 narrow = w.narrow;
               };
-          mark_is = λ _. r.mark_is ∙ ap (λ (z : Pieces). z.mark) q;
-          short = λ k. clash refl k;
+          mark_is = r.mark_is ∙ ap (λ (z : Pieces). z.mark) q;
         }

@@ -1,5 +1,5 @@
 -- The head or the tail indented, with row 0 naming the new run; and the indentor laid in the store.
-use Rattle.std.specs.Prelude.{◌≡◌, Bool, true, false, List, ℕ, ◌+◌, ◌^◌, ◌≤◌, ◌<◌, length}
+use Rattle.std.specs.Prelude.{◌≡◌, Bool, Option, MatchOption, IfSome, List, ℕ, ◌+◌, ◌^◌, ◌≤◌, ◌<◌, length}
 use Rattle.utf8.specs.Chars.{concat}
 use Rattle.memory_table.specs.declared.Row.{Row}
 use Rattle.memory_table.specs.Table.{row_at}
@@ -12,6 +12,7 @@ use Rattle.memory_used.specs.Below.{Below}
 use Rattle.memory_list.specs.Insert.{runs_of}
 use Rattle.memory_list.specs.Split.{DeskSet}
 use Rattle.memory_texts.specs.Low.{RowsKept, BytesKept}
+use Rattle.indent_head_tail.specs.declared.LaidAt.{LaidAt}
 use Rattle.indent_head_tail.specs.Run.{RunReady}
 
 -- ---- a run put into tables that only grow
@@ -52,9 +53,9 @@ pub record IndentorAt (indentor s : List ℕ) (byte laid : ℕ) : Type 0 where
   pub text : bytes_at s (laid, length indentor) ≡ indentor
   pub low : laid + length indentor ≤ byte
 
--- it lies there, unless `laid` is 0
-pub record LayReady (indentor s : List ℕ) (byte laid : ℕ) : Type 0 where
-  pub before : 0 < laid → IndentorAt indentor s byte laid
+-- it lies there, if it is laid
+pub record LayReady (indentor s : List ℕ) (byte : ℕ) (laid : Option ℕ) : Type 0 where
+  pub before : IfSome laid (IndentorAt indentor s byte)
   pub byte_in : byte ≤ length s
   pub narrow : length s < 2 ^ 32
 
@@ -65,6 +66,5 @@ pub record LaidText (indentor s : List ℕ) (byte : ℕ) (s' : List ℕ) (byte' 
   pub at : IndentorAt indentor s' byte' laid'
   pub bytes_used : byte' ≤ byte + length indentor
 
-pub record Laid (indentor s : List ℕ) (byte : ℕ) (s' : List ℕ) (fits : Bool) (byte' laid' : ℕ) : Type 0 where
-  pub done : fits ≡ true → LaidText indentor s byte s' byte' laid'
-  pub short : fits ≡ false → length s < byte + length indentor
+abbrev pub Laid : List ℕ → List ℕ → ℕ → List ℕ → Option LaidAt → Type 0
+Laid indentor s byte s' r = MatchOption r (length s < byte + length indentor) (λ w. LaidText indentor s byte s' w.byte w.laid)

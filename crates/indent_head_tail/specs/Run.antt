@@ -1,5 +1,5 @@
 -- The head's or the tail's pieces in turn, each with the indentor put in: its bytes behind the texts in use, its place in a row behind those in use.
-use Rattle.std.specs.Prelude.{◌≡◌, Bool, true, false, List, ℕ, ◌+◌, ◌*◌, ◌^◌, ◌≤◌, ◌<◌, length}
+use Rattle.std.specs.Prelude.{◌≡◌, Bool, true, Option, MatchOption, List, ℕ, ◌+◌, ◌*◌, ◌^◌, ◌≤◌, ◌<◌, length}
 use Rattle.utf8.specs.Rfc3629.{utf8}
 use Rattle.utf8.specs.Chars.{All, concat}
 use Rattle.model.specs.Text.{Text}
@@ -9,6 +9,7 @@ use Rattle.memory.specs.Layout.{bytes_at, piece_at, tabulate, run_of}
 use Rattle.memory.specs.WellFormed.{RunIn, PieceIn}
 use Rattle.memory_texts.specs.Carry.{Pushed, Carried}
 use Rattle.indent_mark.specs.Bytes.{mark_behind}
+use Rattle.indent_head_tail.specs.declared.Indented.{Indented}
 
 -- ---- one text
 
@@ -17,11 +18,10 @@ pub record PieceRoom (p s : List ℕ) (row byte : ℕ) : Type 0 where
   pub byte_in : byte ≤ length s
   pub narrow : length s < 2 ^ 32
 
--- the text xs is put at a byte and a row, or it does not fit
-pub record PieceIndented (xs p s : List ℕ) (byte row : ℕ) (p' s' : List ℕ) (fits : Bool) (end : ℕ) : Type 0 where
-  pub done : fits ≡ true → Pushed xs p s byte row p' s' end
-  pub room : fits ≡ true → byte + length xs ≤ length s
-  pub short : fits ≡ false → length s < byte + length xs
+-- the text xs is put at a byte and a row, where it fits
+pub record PieceIndented (xs p s : List ℕ) (byte row : ℕ) (p' s' : List ℕ) (end : ℕ) : Type 0 where
+  pub done : Pushed xs p s byte row p' s' end
+  pub room : byte + length xs ≤ length s
 
 -- ---- a text of the lent tables
 
@@ -30,10 +30,11 @@ pub record TextReady (pieces store p s : List ℕ) (from row byte : ℕ) : Type 
   pub valid : utf8 (bytes_at store (piece_at pieces from)) ≡ true
   pub room : PieceRoom p s row byte
 
--- the text t with the indentor put in, and the mark behind it
-pub record TextIndented (indentor : Text) (mark : Bool) (t : Text) (p s : List ℕ) (byte row : ℕ) (p' s' : List ℕ) (fits mark' : Bool) (end : ℕ) : Type 0 where
-  pub piece : PieceIndented (indent_frag indentor mark t).text p s byte row p' s' fits end
-  pub mark_is : fits ≡ true → mark' ≡ mark_behind mark t
+-- the text t with the indentor put in, and the mark behind it; or it does not fit
+abbrev pub TextIndented : Text → Bool → Text → List ℕ → List ℕ → ℕ → ℕ → List ℕ → List ℕ → Option Indented → Type 0
+TextIndented indentor mark t p s byte row p' s' r =
+    MatchOption r (length s < byte + length (indent_frag indentor mark t).text)
+    (λ w. PieceIndented (indent_frag indentor mark t).text p s byte row p' s' w.byte × (w.mark ≡ mark_behind mark t))
 
 -- ---- a run
 

@@ -1,41 +1,29 @@
 // The line starts of a text: the next one from a place on, and the mark behind what was passed.
 #![tactic(auto)]
 
-ghost use Rattle.std.specs.Prelude.{◌≡◌, true, ◌&&◌, ◌+◌, ◌≤◌, leb, ltb, length};
+ghost use Rattle.std.specs.Prelude.{◌≡◌, true, ◌+◌, ◌≤◌, length};
 ghost use Rattle.utf8.specs.Rfc3629.{follows};
 ghost use Rattle.model.specs.Indent.{excluded};
-ghost use Rattle.indent_mark.specs.Bytes.{begins_line, mark_past, NextStart};
+ghost use Rattle.indent_mark.specs.Bytes.{begins_line, mark_past};
+ghost use Rattle.indent_line_starts.specs.Next.{NextStart};
 
-// The next line start, or the end and the mark behind.
+// What comes next: a line start, or the end, with the mark behind it.
 #[derive(Clone, Copy)]
-pub struct Start {
-    pub at: u32,
-    pub mark: bool,
-}
-
-// `s.0 <= index && index < s.1`
-fn is_within(a: u32, b: u32, i: u32) -> bool
-    ensures { result ≡ (leb a i && ltb i b) }
-{
-    if i < a {
-        return false;
-    }
-    i < b
+pub enum Next {
+    Start(u32),
+    End(bool),
 }
 
 // `ExcludeSet::contains`; `exclude` holds pairs, start and end.
 pub fn is_excluded(exclude: &[u32], i: u32) -> bool
     ensures { result ≡ excluded exclude.now i }
 {
-    let n = exclude.len();
-    let mut k: usize = 0;
-    while 1 < n - k {
-        let a = exclude[k];
-        let b = exclude[k + 1];
-        if is_within(a, b, i) {
+    let mut rest = exclude;
+    while let [start, end, more @ ..] = rest {
+        if *start <= i && i < *end {
             return true;
         }
-        k += 2;
+        rest = more;
     }
     false
 }
@@ -44,59 +32,36 @@ pub fn is_excluded(exclude: &[u32], i: u32) -> bool
 fn follows_on(b: u8) -> bool
     ensures { result ≡ follows b }
 {
-    if b < 0x80 {
-        return false;
-    }
-    b < 0xC0
+    matches!(b, 0x80..=0xBF)
 }
 
 // Whether a line begins with the byte at i.
 fn begins(b: u8, exclude: &[u32], i: u32, mark: bool) -> bool
     ensures { result ≡ begins_line exclude.now mark i b }
 {
-    if !indent_mark::takes_mark(mark, b) {
-        return false;
-    }
-    if follows_on(b) {
-        return false;
-    }
-    !is_excluded(exclude, i)
+    indent_mark::takes_mark(mark, b) && !follows_on(b) && !is_excluded(exclude, i)
 }
 
 // The mark behind the byte at i, where no line begins with it.
 fn mark_past_byte(b: u8, exclude: &[u32], i: u32, mark: bool) -> bool
     ensures { result ≡ mark_past exclude.now mark i b }
 {
-    if mark {
-        return true;
-    }
-    if indent_mark::mark_on(mark, b) {
-        return !is_excluded(exclude, i);
-    }
-    false
-}
-
-fn wide(x: u32) -> usize
-    ensures { result ≡ x }
-{
-    x as usize
+    mark || (b == b'\n' && !is_excluded(exclude, i))
 }
 
 // The next line start of the text from `at` on, below `end`.
-pub fn next_start(text: &[u8], at: u32, end: u32, exclude: &[u32], mark: bool) -> Start
+pub fn next_start(text: &[u8], at: u32, end: u32, exclude: &[u32], mark: bool) -> Next
     requires at_le_end { at ≤ end }
     requires end_in_bounds { end ≤ length text.now }
-    ensures { NextStart text.now exclude.now mark at end result.at result.mark }
+    ensures { NextStart text.now exclude.now mark at end result }
 {
-    let mut i = at;
     let mut m = mark;
-    while i < end {
-        let b = text[wide(i)];
+    for i in at..end {
+        let b = text[i as usize];
         if begins(b, exclude, i, m) {
-            return Start { at: i, mark: false };
+            return Next::Start(i);
         }
         m = mark_past_byte(b, exclude, i, m);
-        i += 1;
     }
-    Start { at: end, mark: m }
+    Next::End(m)
 }

@@ -1,5 +1,5 @@
 -- indent.rs byte by byte, on any list of bytes. On valid texts this is the model's way, by characters (proofs/ByCharacters.antt).
-use Rattle.std.specs.Prelude.{ℕ, ◌+◌, ◌-◌, ◌≤◌, ◌<◌, ◌≡◌, Bool, true, false, ◌&&◌, ◌||◌, not, cond, List, [], ◌∷◌, ◌++◌, eqb, length, take, drop}
+use Rattle.std.specs.Prelude.{ℕ, Option, MatchOption, ◌+◌, ◌-◌, ◌≤◌, ◌<◌, Bool, true, false, ◌&&◌, ◌||◌, not, cond, List, [], ◌∷◌, ◌++◌, eqb, length, take, drop}
 use Rattle.utf8.specs.Rfc3629.{follows}
 use Rattle.model.specs.Text.{Text, LF, CR}
 use Rattle.model.specs.Indent.{excluded, Starts, then_start}
@@ -23,11 +23,14 @@ takes mark b = mark && (not (eqb b LF) && not (eqb b CR))
 abbrev pub indented_byte : Text → Bool → ℕ → Text
 indented_byte indentor mark b = cond (takes mark b) (indentor ++ (b ∷ [])) (b ∷ [])
 
--- what putting a text into a buffer at a place leaves: the text is there, or it does not fit
-pub record Filling (d : List ℕ) (place : ℕ) (xs d' : List ℕ) (fits : Bool) (end : ℕ) : Type 0 where
-  pub done : fits ≡ true → Wrote d place xs d' end
-  pub room : fits ≡ true → place + length xs ≤ length d
-  pub short : fits ≡ false → length d < place + length xs
+-- a text was put into a buffer at a place, where it fits
+pub record Filled (d : List ℕ) (place : ℕ) (xs d' : List ℕ) (end : ℕ) : Type 0 where
+  pub done : Wrote d place xs d' end
+  pub room : place + length xs ≤ length d
+
+-- what putting it there gives: the place behind it, or nothing where it does not fit
+abbrev pub Filling : List ℕ → ℕ → List ℕ → List ℕ → Option ℕ → Type 0
+Filling d place xs d' r = MatchOption r (length d < place + length xs) (Filled d place xs d')
 
 -- ---- the line starts of `indent_with`
 
@@ -48,11 +51,3 @@ starts_from exclude mark i (b ∷ s) =
 -- the bytes from a up to b
 abbrev pub part : Text → ℕ → ℕ → Text
 part text a b = take (b - a) (drop a text)
-
--- what `next_start` finds from a place on: a line start r, which takes the mark, and those behind it; or no other up to the end
-pub record NextStart (text exclude : List ℕ) (mark : Bool) (at end r : ℕ) (m : Bool) : Type 0 where
-  pub from_on : at ≤ r
-  pub up_to : r ≤ end
-  pub found : r < end → starts_from exclude mark at (part text at end) ≡ then_start r (starts_from exclude false (r + 1) (part text (r + 1) end))
-  pub again : r < end → starts_from exclude true r (part text r end) ≡ then_start r (starts_from exclude false (r + 1) (part text (r + 1) end))
-  pub none_left : r ≡ end → starts_from exclude mark at (part text at end) ≡ record { mark = m; starts = [] }

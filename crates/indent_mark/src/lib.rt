@@ -8,24 +8,16 @@ ghost use Rattle.indent_mark.specs.Bytes.{mark_on, takes};
 pub fn mark_on(mark: bool, b: u8) -> bool
     ensures { result ≡ mark_on mark b }
 {
-    if b == 10 {
-        return true;
+    match b {
+        b'\n' => true,
+        b'\r' => mark,
+        _ => false,
     }
-    if b == 13 {
-        return mark;
-    }
-    false
 }
 
 // Whether a byte takes the mark: no line feed and no carriage return.
 pub fn takes_mark(mark: bool, b: u8) -> bool
     ensures { result ≡ takes mark b }
 {
-    if !mark {
-        return false;
-    }
-    if b == 10 {
-        return false;
-    }
-    b != 13
+    mark && b != b'\n' && b != b'\r'
 }

@@ -1,5 +1,5 @@
 -- A chunk with a replacement: what it asks and leaves, and the text that is written.
-use Rattle.std.specs.Prelude.{◌≡◌, Bool, true, false, List, ◌⊎◌, ℕ, ◌+◌, ◌≤◌, ◌<◌, length}
+use Rattle.std.specs.Prelude.{◌≡◌, Bool, Option, MatchOption, List, ℕ, ◌+◌, ◌≤◌, ◌<◌, length}
 use Rattle.memory_table.specs.Order.{entry_at, Linked}
 use Rattle.model.specs.Indent.{indent_frag}
 use Rattle.model.specs.WellFormed.{Valid}
@@ -8,6 +8,7 @@ use Rattle.memory_texts.specs.Over.{over}
 use Rattle.memory_list.specs.Insert.{Placed}
 use Rattle.memory_list.specs.Split.{RowSet}
 use Rattle.indent_cuts.specs.Splice.{with_text_at}
+use Rattle.indent_replaced_chunk.specs.declared.Written.{Written}
 
 -- ---- a replacement
 
@@ -20,12 +21,15 @@ pub record ReplacementReady (store t s : List ℕ) (i byte : ℕ) : Type 0 where
   pub narrow : length s < 4294967295
 
 -- a replacement's text with the indentor put in, written at `byte`; or it does not fit
-pub record WrittenAt (indentor : List ℕ) (mark : Bool) (text s : List ℕ) (byte : ℕ) (s' : List ℕ) (fits mark' : Bool) (end : ℕ) : Type 0 where
-  pub store_is : fits ≡ true → s' ≡ over s byte (indent_frag indentor mark text).text
-  pub end_is : fits ≡ true → end ≡ byte + length (indent_frag indentor mark text).text
-  pub room : fits ≡ true → byte + length (indent_frag indentor mark text).text ≤ length s
-  pub mark_is : fits ≡ true → mark' ≡ (indent_frag indentor mark text).mark
-  pub short : fits ≡ false → length s < byte + length (indent_frag indentor mark text).text
+pub record WrittenAt (indentor : List ℕ) (mark : Bool) (text s : List ℕ) (byte : ℕ) (s' : List ℕ) (mark' : Bool) (end : ℕ) : Type 0 where
+  pub store_is : s' ≡ over s byte (indent_frag indentor mark text).text
+  pub end_is : end ≡ byte + length (indent_frag indentor mark text).text
+  pub room : byte + length (indent_frag indentor mark text).text ≤ length s
+  pub mark_is : mark' ≡ (indent_frag indentor mark text).mark
+
+abbrev pub Writing : List ℕ → Bool → List ℕ → List ℕ → ℕ → List ℕ → Option Written → Type 0
+Writing indentor mark text s byte s' r =
+    MatchOption r (length s < byte + length (indent_frag indentor mark text).text) (λ w. WrittenAt indentor mark text s byte s' w.mark w.byte)
 
 pub record Replaced (indentor text t s : List ℕ) (i : ℕ) (mark : Bool) (byte : ℕ) (t' s' : List ℕ) (mark' : Bool) (byte' : ℕ) : Type 0 where
   pub set : RowSet t t' i (with_text_at (byte, length (indent_frag indentor mark text).text) (entry_at t i))
@@ -35,7 +39,7 @@ pub record Replaced (indentor text t s : List ℕ) (i : ℕ) (mark : Bool) (byte
   pub room : byte + length (indent_frag indentor mark text).text ≤ length s
   pub mark_is : mark' ≡ (indent_frag indentor mark text).mark
 
-pub record ReplacementDone (indentor store t s : List ℕ) (i : ℕ) (mark : Bool) (byte : ℕ) (t' s' : List ℕ) (number : ℕ) (mark' : Bool) (byte' : ℕ) : Type 0 where
-  pub zero_or : (number ≡ 0) ⊎ (number ≡ 13)
-  pub done : number ≡ 0 → Replaced indentor (bytes_at store (entry_at t i).text) t s i mark byte t' s' mark' byte'
-  pub past : number ≡ 13 → length s < byte + length (indent_frag indentor mark (bytes_at store (entry_at t i).text)).text
+abbrev pub ReplacementDone : List ℕ → List ℕ → List ℕ → List ℕ → ℕ → Bool → ℕ → List ℕ → List ℕ → Option Written → Type 0
+ReplacementDone indentor store t s i mark byte t' s' r =
+    MatchOption r (length s < byte + length (indent_frag indentor mark (bytes_at store (entry_at t i).text)).text)
+    (λ w. Replaced indentor (bytes_at store (entry_at t i).text) t s i mark byte t' s' w.mark w.byte)

@@ -14,6 +14,9 @@ use Rattle.memory.specs.WellFormed.{Readable, WellFormed}
 use Rattle.memory.proofs.Desks.{desk_full}
 use Rattle.edit_rebuild.specs.Rebuilt.{Finished}
 use Rattle.edit_scratch.specs.Loaded.{Loaded}
+use Rattle.edit_scratch.proofs.Refused.{code_some}
+use Rattle.memory_layout.specs.declared.refusal.Refusal.{Refusal}
+use Rattle.memory_layout.specs.Refusals.{code}
 use Rattle.edit_scratch.proofs.Tables.{loaded_readable, loaded_desk, loaded_count, ran_past_limits, ran_finished, may_write_0}
 use Rattle.indent_turns.specs.Steps.{StepsReady, IndentSteps}
 use Rattle.indent_scratch.specs.Ran.{IndentScratch, IndentRan}
@@ -39,31 +42,30 @@ module _ {source t p s t₀ p₀ s₀ t1 p1 s1 : List ℕ} (w : WellFormed sourc
 
 -- ---- the call past its tests, by any indentor
 
-module _ {indentor exclude source t p s t₀ p₀ s₀ t1 p1 s1 t2 p2 s2 : List ℕ} {r : ℕ} (w : WellFormed source t p s) (f : IndentScratch t₀ p₀ s₀)
-    (d : Loaded t p s t₀ p₀ s₀ t1 p1 s1) (x : IndentSteps indentor exclude source t1 p s t2 p2 s2 r) where
-  not_13 : (r ≡ 13 → ⊥) → r ≡ 0
-  not_13 n = ⊎_elim {C = r ≡ 0} (λ z. z) (λ z. absurd (n z)) x.zero_or
-
-  pub indent_readable : (r ≡ 13 → ⊥) → Readable t2 p2 s2
-  indent_readable n = (x.did (not_13 n)).readable
-
-  pub indent_past : r ≡ 13 → IndentRan indentor exclude source t p s t p s 13 0
-  indent_past z e h q i =
+module _ {indentor exclude source t p s t₀ p₀ s₀ t1 p1 s1 t2 p2 s2 : List ℕ} (w : WellFormed source t p s) (f : IndentScratch t₀ p₀ s₀) (d : Loaded t p s t₀ p₀ s₀ t1 p1 s1) where
+  pub indent_past : (e : Refusal) → IndentSteps indentor exclude source t1 p s t2 p2 s2 (code e) → IndentRan indentor exclude source t p s t p s (code e) 0
+  indent_past r x =
+      let z : code r ≡ 13 = ⊎_elim {C = code r ≡ 13} (λ z. absurd (code_some r z)) (λ z. z) x.zero_or in
+      subst (λ (n : ℕ). IndentRan indentor exclude source t p s t p s n 0) (sym z)
+      (λ e h q i.
       ran_past_limits e source t p s w h
-      (ap (λ (y : Result). within full y.desk) (q ∙ ap (indent_by indentor exclude) (sym (loaded_desk w f.scratch d))) ∙ x.past z)
+      (ap (λ (y : Result). within full y.desk) (q ∙ ap (indent_by indentor exclude) (sym (loaded_desk w f.scratch d))) ∙ x.past z))
 
-  -- the chunks that the walk added
-  grown : (r ≡ 13 → ⊥) → (c : ℕ) → c ≡ count_of t2 - count_of t → count_of t2 ≡ count_of t + c
-  grown n c e = omega (arith, (x.did (not_13 n)).cuts, loaded_count w f.scratch d)
+  module _ (x : IndentSteps indentor exclude source t1 p s t2 p2 s2 0) where
+    pub indent_readable : Readable t2 p2 s2
+    indent_readable = (x.did refl).readable
 
-  pub indent_some : (r ≡ 13 → ⊥) → count_of t ≤ count_of t2
-  indent_some n = omega (arith, grown n (count_of t2 - count_of t) refl)
+    -- the chunks that the walk added
+    grown : (c : ℕ) → c ≡ count_of t2 - count_of t → count_of t2 ≡ count_of t + c
+    grown c e = omega (arith, (x.did refl).cuts, loaded_count w f.scratch d)
 
-  pub indent_ran : {t' p' s' : List ℕ} {c r' c' : ℕ} → (r ≡ 13 → ⊥) → c ≡ count_of t2 - count_of t → Finished t2 p2 s2 t p s t' p' s' r c r' c'
-      → IndentRan indentor exclude source t p s t' p' s' r' c'
-  indent_ran {t'} {p'} {s'} {c} {r'} {c'} n k y e h q i =
-      let g = x.did (not_13 n) in
-      let z : Finished t2 p2 s2 t p s t' p' s' 0 c r' c' = subst (λ (k : ℕ). Finished t2 p2 s2 t p s t' p' s' k c r' c') (not_13 n) y in
-      ran_finished w h
-      (record { readable = g.readable; result = q ∙ ap (indent_by indentor exclude) (sym (loaded_desk w f.scratch d)) ∙ g.result; cuts = grown n c k })
-      (may_write_0 e i) z
+    pub indent_some : count_of t ≤ count_of t2
+    indent_some = omega (arith, grown (count_of t2 - count_of t) refl)
+
+    pub indent_ran : {t' p' s' : List ℕ} {c r' c' : ℕ} → c ≡ count_of t2 - count_of t → Finished t2 p2 s2 t p s t' p' s' 0 c r' c'
+        → IndentRan indentor exclude source t p s t' p' s' r' c'
+    indent_ran {t'} {p'} {s'} {c} {r'} {c'} k z e h q i =
+        let g = x.did refl in
+        ran_finished w h
+        (record { readable = g.readable; result = q ∙ ap (indent_by indentor exclude) (sym (loaded_desk w f.scratch d)) ∙ g.result; cuts = grown c k })
+        (may_write_0 e i) z

@@ -3,12 +3,12 @@
 
 ghost use Rattle.std.specs.Prelude.{◌≡◌, ◌-◌, ◌≤◌, length};
 ghost use Rattle.memory_layout.specs.Layout.{ROW};
+ghost use Rattle.memory_layout.specs.Refusals.{number_of};
 ghost use Rattle.memory_table.specs.Order.{count_of};
 ghost use Rattle.memory_used.specs.Above.{Above, Desk};
 ghost use Rattle.indent_scratch.specs.Ran.{IndentScratch, IndentRan};
 
-use memory::Answer;
-use memory_layout::numbers;
+use memory::Steps;
 use memory_used::{Outcome, Used};
 
 // How many chunks a walk has added to the rows: row 0 has their number, and each cut adds one.
@@ -37,21 +37,21 @@ fn indent_by(
     requires desk { Desk source.now chunks.old pieces.old store.old used }
     requires indent_scratch { IndentScratch t.old p.old s.old }
     ensures { IndentRan indentor.now exclude.now source.now chunks.old pieces.old store.old
-        chunks.new pieces.new store.new result.number result.cuts
+        chunks.new pieces.new store.new (number_of result.status) result.cuts
         × Above chunks.new pieces.new store.new result.used }
 {
     edit_scratch::load(chunks, pieces, store, t, p, s);
-    let number = indent_steps::indent_steps(source, pieces, store, t, p, s, indentor, exclude);
-    if number == numbers::LIMIT {
+    let walked = indent_steps::indent_steps(source, pieces, store, t, p, s, indentor, exclude);
+    if let Err(refusal) = walked {
         return Outcome {
-            number: numbers::LIMIT,
+            status: Err(refusal),
             cuts: 0,
             used,
         };
     }
-    let steps = Answer {
-        number,
-        value: added(chunks, t),
+    let steps = Steps {
+        status: Ok(()),
+        cuts: added(chunks, t),
     };
     edit_room_above::finish(t, p, s, chunks, pieces, store, steps)
 }
@@ -68,23 +68,17 @@ pub fn indent_scratch(
 ) -> Outcome
     requires { Desk source.now chunks.old pieces.old store.old used }
     ensures { IndentRan indentor.now exclude.now source.now chunks.old pieces.old store.old
-        chunks.new pieces.new store.new result.number result.cuts
+        chunks.new pieces.new store.new (number_of result.status) result.cuts
         × Above chunks.new pieces.new store.new result.used }
 {
-    let rows = memory_layout::SCRATCH_LEN;
-    let words = memory_layout::INDENT_PIECES_LEN;
-    let size = memory_layout::INDENT_STORE_LEN;
-    let mut t = [0u32; memory_layout::SCRATCH_LEN];
-    let mut p = [0u32; memory_layout::INDENT_PIECES_LEN];
-    let mut s = [0u8; memory_layout::INDENT_STORE_LEN];
     indent_by(
         source,
         chunks,
         pieces,
         store,
-        &mut t[..rows],
-        &mut p[..words],
-        &mut s[..size],
+        &mut [0; memory_layout::SCRATCH_LEN],
+        &mut [0; memory_layout::INDENT_PIECES_LEN],
+        &mut [0; memory_layout::INDENT_STORE_LEN],
         indentor,
         exclude,
         used,

@@ -16,6 +16,8 @@ use Rattle.model_indent_closed.specs.Indent.{split_lines}
 use Rattle.model_indent_closed.proofs.Indent.{split_lines_at_start}
 use Rattle.edit_room_above.specs.Run.{TopRoom}
 use Rattle.edit_insert_row.specs.Added.{RowAdded}
+use Rattle.std.specs.Prelude.{Option, Some, None}
+use Rattle.indent_cuts.specs.declared.Cut.{Cut}
 use Rattle.indent_cuts.specs.Splice.{with_intro_at}
 use Rattle.indent_cuts.proofs.Splice.{set_then, begun_set, begun}
 use Rattle.indent_cuts.specs.Lines.{lines_from, parts, LinesReady, Parts, PartsDone}
@@ -65,33 +67,23 @@ module _ {exclude source t p : List ℕ} {i start x end top : ℕ} (h : SourceRe
               ∙ sym (split_lines_at_start (bytes_at s y) (chunk_of p s (entry_at t i)) x l (omega (arith, h.at_start)));
         }
 
-    pub own_done : front ≡ true → {w : Starts} {t2 p2 : List ℕ} {number : ℕ} {mark : Bool} {top2 : ℕ} → PartsDone 0 t1 p1 i above y w t2 p2 number mark top2
-        → PartsDone ((entry_at t i).intro.1 + 1) t p i top y (then_start x w) t2 p2 number mark top2
-    own_done f {w} k =
-        record {
-          zero_or = k.zero_or;
-          done = λ z. own_parts f (k.done z);
-          mark_is = k.mark_is;
-          past = λ z. omega (
-            arith,
-            k.past z,
-            set.count,
-            ap (λ (z : Entry). parts z.start w.starts) set.here,
-            parts_at_start (entry_at t i).start x w.starts (omega (arith, h.at_start)),
-          );
-        }
+    pub own_done : front ≡ true → (w : Starts) (t2 p2 : List ℕ) (r : Option Cut) → PartsDone 0 t1 p1 i above y w t2 p2 r → PartsDone ((entry_at t i).intro.1 + 1) t p i top y (then_start x w) t2 p2 r
+    own_done f w t2 p2 None k =
+        omega (
+          arith,
+          k,
+          set.count,
+          ap (λ (z : Entry). parts z.start w.starts) set.here,
+          parts_at_start (entry_at t i).start x w.starts (omega (arith, h.at_start)),
+        )
+    own_done f w t2 p2 (Some c) k = (own_parts f k.0, k.1)
 
   -- ---- the first one inside
 
-  pub inner_done : {y : Place} {t2 p2 : List ℕ} {number : ℕ} {mark : Bool} {top2 : ℕ} → PartsDone 0 t p i top y (lines_from exclude source true x end) t2 p2 number mark top2
-      → PartsDone ((entry_at t i).intro.1 + 1) t p i top y (then_start x (lines_from exclude source false (x + 1) end)) t2 p2 number mark top2
-  inner_done {y} {t2} {p2} {number} {mark} {top2} k =
-      let d = subst (λ (w : Starts). PartsDone 0 t p i top y w t2 p2 number mark top2) h.begins k in
-      record {
-        zero_or = d.zero_or;
-        done = λ z.
-            let q = d.done z in
-            record { es = q.es; spliced = q.spliced; rows = q.rows; up = q.up; used = omega (arith, q.used); low = q.low; chunks = q.chunks };
-        mark_is = d.mark_is;
-        past = d.past;
-      }
+  pub inner_done : (y : Place) (t2 p2 : List ℕ) (r : Option Cut) → PartsDone 0 t p i top y (lines_from exclude source true x end) t2 p2 r
+      → PartsDone ((entry_at t i).intro.1 + 1) t p i top y (then_start x (lines_from exclude source false (x + 1) end)) t2 p2 r
+  inner_done y t2 p2 r k = more (then_start x (lines_from exclude source false (x + 1) end)) r (subst (λ (w : Starts). PartsDone 0 t p i top y w t2 p2 r) h.begins k)
+    where
+      more : (w : Starts) (r : Option Cut) → PartsDone 0 t p i top y w t2 p2 r → PartsDone ((entry_at t i).intro.1 + 1) t p i top y w t2 p2 r
+      more w None d = d
+      more w (Some c) d = let q = d.0 in (record { es = q.es; spliced = q.spliced; rows = q.rows; up = q.up; used = omega (arith, q.used); low = q.low; chunks = q.chunks }, d.1)

@@ -22,10 +22,10 @@ pub fn indent_source(
     laid: u32,
     len: u32,
     top: u32,
-) -> Cut
+) -> Option<Cut>
     requires { SourceReady exclude.now source.now t.old p.old i start x end top }
     ensures { PartsDone ((entry_at t.old i).intro.1 + 1) t.old p.old i top (laid, len)
-        (then_start x (lines_from exclude.now source.now false (x + 1) end)) t.new p.new result.number result.mark result.top }
+        (then_start x (lines_from exclude.now source.now false (x + 1) end)) t.new p.new result }
 {
     if x == start {
         let next = edit_insert_row::add_row(t, p, i, false, true, laid, len, top as usize);

@@ -9,31 +9,30 @@ ghost use Rattle.memory_layout.specs.Layout.{ROW};
 ghost use Rattle.memory_table.specs.Table.{row_at};
 ghost use Rattle.memory_table.specs.Order.{entry_at};
 ghost use Rattle.memory_table.specs.Sides.{side};
-ghost use Rattle.indent_turns.specs.Walk.{stopped_at, onward_at, run_from, chunks_from, over_at, RunEnded, PieceReady, PieceTurned, ChunkReady, ChunkTurned, PartReady};
+ghost use Rattle.indent_turns.specs.Walk.{onward_at, run_from, chunks_from, RunEnded, PieceReady, PieceTurned, ChunkReady, ChunkTurned, PartReady};
 ghost use Rattle.indent_turns.specs.Walk.{PartTurned, TurnReady, Turned};
 
-use memory_layout::numbers;
+use memory_layout::refusal::Refusal;
 
 // The parts of the desk, in the order of the walk.
-pub const HEAD: u32 = 0;
-
-const CHUNKS: u32 = 1;
-
-const TAIL: u32 = 2;
+#[derive(Clone, Copy)]
+pub enum Part {
+    Head,
+    Chunks,
+    Tail,
+}
 
 // A place on the walk: the part, the text in it (a lent piece row behind `row`, or the chunk row `row`), how many of n are done, the piece row and the byte behind those in use, and
-// the byte where the indentor lies, 0 as long as it is not laid (new texts are laid behind the lent store). Where there is no more, the number is the walk's answer.
+// the byte where the indentor lies, if it is laid (new texts are laid behind the lent store).
 #[derive(Clone, Copy)]
 pub struct TextAt {
-    pub more: bool,
-    pub number: u32,
-    pub part: u32,
+    pub part: Part,
     pub row: u32,
     pub n: u32,
     pub i: u32,
     pub top: u32,
     pub byte: u32,
-    pub laid: u32,
+    pub laid: Option<u32>,
 }
 
 // The place behind a turn, and the mark behind its text.
@@ -43,28 +42,19 @@ pub struct Texted {
     pub mark: bool,
 }
 
-// 13: the desk would pass a limit.
-fn stopped(at: TextAt) -> TextAt
-    ensures { result ≡ stopped_at at }
-{
-    let mut q = at;
-    q.more = false;
-    q.number = numbers::LIMIT;
-    q
-}
-
 // Behind a text.
-fn onward(at: TextAt, row: u32, top: u32, byte: u32, laid: u32) -> TextAt
+fn onward(at: TextAt, row: u32, top: u32, byte: u32, laid: Option<u32>) -> TextAt
     requires { at.i < at.n }
     ensures { result ≡ onward_at at row top byte laid }
 {
-    let mut q = at;
-    q.row = row;
-    q.i = at.i + 1;
-    q.top = top;
-    q.byte = byte;
-    q.laid = laid;
-    q
+    TextAt {
+        row,
+        i: at.i + 1,
+        top,
+        byte,
+        laid,
+        ..at
+    }
 }
 
 // A piece of the head or the tail.
@@ -76,23 +66,20 @@ fn piece_turn(
     s: &mut [u8],
     at: TextAt,
     mark: bool,
-) -> Texted
+) -> Result<Texted, Refusal>
     requires { PieceReady pieces.now store.now p.old s.old at }
-    ensures { PieceTurned indentor.now pieces.now store.now at mark p.old s.old p.new s.new result.at result.mark }
+    ensures { PieceTurned indentor.now pieces.now store.now at mark p.old s.old p.new s.new result }
 {
     let from = at.row as usize + at.i as usize;
     let row = at.top as usize + at.i as usize;
-    let w = indent_head_tail::indent_at(pieces, store, indentor, p, s, from, row, at.byte, mark);
-    if !w.fits {
-        return Texted {
-            at: stopped(at),
-            mark,
-        };
-    }
-    Texted {
+    let text = indent_head_tail::indent_at(pieces, store, indentor, p, s, from, row, at.byte, mark);
+    let Some(w) = text else {
+        return Err(Refusal::Limit);
+    };
+    Ok(Texted {
         at: onward(at, at.row, at.top, w.byte, at.laid),
         mark: w.mark,
-    }
+    })
 }
 
 // A chunk: its part of the source, or its replacement.
@@ -106,44 +93,39 @@ fn chunk_turn(
     s: &mut [u8],
     at: TextAt,
     mark: bool,
-) -> Texted
+) -> Result<Texted, Refusal>
     requires { ChunkReady indentor.now source.now store.now t.old p.old s.old at }
     ensures { ChunkTurned indentor.now exclude.now source.now at mark t.old p.old s.old
-        t.new p.new s.new result.at result.mark }
+        t.new p.new s.new result }
 {
     let r = memory_table::get_row(t, at.row);
-    let w = indent_chunks::indent_row(
+    let walked = indent_chunks::indent_row(
         source, store, indentor, exclude, t, p, s, at.row, mark, at.top, at.byte, at.laid,
     );
-    if w.number != 0 {
-        return Texted {
-            at: stopped(at),
-            mark,
-        };
-    }
-    Texted {
+    let Some(w) = walked else {
+        return Err(Refusal::Limit);
+    };
+    Ok(Texted {
         at: onward(at, r.next, w.top, w.byte, w.laid),
         mark: w.mark,
-    }
+    })
 }
 
 // The start of the head or the tail, as row 0 names it.
-pub fn run_begins(t: &[u32], part: u32, outro: bool, top: u32, byte: u32) -> TextAt
+pub fn run_begins(t: &[u32], part: Part, outro: bool, top: u32, byte: u32) -> TextAt
     requires { ROW ≤ length t.now }
     ensures { result ≡ run_from part (side outro (entry_at t.now 0)) top byte }
 {
     let z = memory_table::get_row(t, 0);
     let q = memory_table::side(z, outro);
     TextAt {
-        more: true,
-        number: 0,
         part,
         row: q.at,
         n: q.n,
         i: 0,
         top,
         byte,
-        laid: 0,
+        laid: None,
     }
 }
 
@@ -164,44 +146,35 @@ fn chunks_begin(t: &[u32], top: u32, byte: u32) -> TextAt
 {
     let z = memory_table::get_row(t, 0);
     TextAt {
-        more: true,
-        number: 0,
-        part: CHUNKS,
+        part: Part::Chunks,
         row: z.next,
         n: z.start,
         i: 0,
         top,
         byte,
-        laid: 0,
+        laid: None,
     }
 }
 
-// The end of the walk.
-fn over(at: TextAt) -> TextAt
-    ensures { result ≡ over_at at }
-{
-    let mut q = at;
-    q.more = false;
-    q
-}
-
-// Behind the last text of a part: the next part, or the end.
-fn part_turn(t: &mut [u32], at: TextAt) -> TextAt
+// Behind the last text of a part: the next part, or nothing at the end.
+fn part_turn(t: &mut [u32], at: TextAt) -> Option<TextAt>
     requires { PartReady t.old at }
     ensures { PartTurned at t.old t.new result }
 {
-    if at.part == CHUNKS {
-        return run_begins(t, TAIL, true, at.top, at.byte);
+    match at.part {
+        Part::Head => {
+            run_ends(t, false, at.top);
+            Some(chunks_begin(t, at.top + at.n, at.byte))
+        }
+        Part::Chunks => Some(run_begins(t, Part::Tail, true, at.top, at.byte)),
+        Part::Tail => {
+            run_ends(t, true, at.top);
+            None
+        }
     }
-    if at.part == TAIL {
-        run_ends(t, true, at.top);
-        return over(at);
-    }
-    run_ends(t, false, at.top);
-    chunks_begin(t, at.top + at.n, at.byte)
 }
 
-// A turn: a text, with the mark in front of it; or the next part, which leaves the mark.
+// A turn: a text, with the mark in front of it; or the next part, which leaves the mark. Nothing is left at the end; 13 where the desk would pass a limit.
 pub fn turn<'l>(
     source: &[u8],
     pieces: &[u32],
@@ -213,19 +186,25 @@ pub fn turn<'l>(
     s: &'l mut [u8],
     at: TextAt,
     mark: bool,
-) -> Texted
+) -> Result<Option<Texted>, Refusal>
     requires { TurnReady indentor.now exclude.now source.now pieces.now store.now at mark t.old p.old s.old }
     ensures { Turned indentor.now exclude.now source.now pieces.now store.now at mark t.old p.old s.old
-        result.at result.mark t.new p.new s.new }
+        result t.new p.new s.new }
 {
     if at.i == at.n {
-        return Texted {
-            at: part_turn(t, at),
-            mark,
+        return match part_turn(t, at) {
+            Some(at) => Ok(Some(Texted { at, mark })),
+            None => Ok(None),
         };
     }
-    if at.part == CHUNKS {
-        return chunk_turn(source, store, indentor, exclude, t, p, s, at, mark);
+    match at.part {
+        Part::Chunks => {
+            let texted = chunk_turn(source, store, indentor, exclude, t, p, s, at, mark)?;
+            Ok(Some(texted))
+        }
+        Part::Head | Part::Tail => {
+            let texted = piece_turn(pieces, store, indentor, p, s, at, mark)?;
+            Ok(Some(texted))
+        }
     }
-    piece_turn(pieces, store, indentor, p, s, at, mark)
 }

@@ -2,20 +2,19 @@
 use Prim.Native.Nat.{ℕ}
 use mathlib.Core.Path.{◌≡◌, refl, subst}
 use mathlib.Core.List.{List}
+use Rattle.std.specs.Prelude.{Option, Some, None}
 use Rattle.memory.specs.WellFormed.{WellFormed}
 use Rattle.memory_used.specs.declared.Used.{Used}
 use Rattle.memory_used.specs.Above.{Above, Desk}
-use Rattle.check_well_formed.specs.declared.Seen.{Seen}
-use Rattle.check_well_formed.specs.declared.Seen.TheVariants.{NoDesk, Desk as SeenDesk}
 use Rattle.check_well_formed.specs.Seen.{Sees}
 use Rattle.inner_calls.specs.Paper.{PaperMade}
 
--- what the check has seen
-module _ (source t p s : List ℕ) {r : Seen} where
-  pub seen_none : r ≡ NoDesk → Sees (WellFormed source t p s) t p s r → WellFormed source t p s → ⊥
+-- no desk, or one and what it uses
+module _ (source t p s : List ℕ) {r : Option Used} where
+  pub seen_none : r ≡ None → Sees (WellFormed source t p s) t p s r → WellFormed source t p s → ⊥
   seen_none e h = subst (Sees (WellFormed source t p s) t p s) e h
 
-  pub seen_desk : (u : Used) → r ≡ SeenDesk u → Sees (WellFormed source t p s) t p s r → Desk source t p s u
+  pub seen_desk : (u : Used) → r ≡ Some u → Sees (WellFormed source t p s) t p s r → Desk source t p s u
   seen_desk u e h =
       let x : WellFormed source t p s × Above t p s u = subst (Sees (WellFormed source t p s) t p s) e h in
       record { well_formed = x.0; above = x.1 }

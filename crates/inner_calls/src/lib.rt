@@ -7,10 +7,10 @@ ghost use Rattle.memory.specs.WellFormed.{WellFormed};
 ghost use Rattle.memory_used.specs.Above.{Desk};
 ghost use Rattle.inner_calls.specs.Paper.{PaperMade};
 
-use check_well_formed::Seen;
 use memory::Answer;
-use memory_layout::numbers;
+use memory_layout::refusal::Refusal;
 use memory_used::{Outcome, Used};
+use sheet_records::kinds::Kind;
 
 // A call of a paper: its kind, up to three numbers, and where its text lies among the texts.
 #[derive(Clone, Copy)]
@@ -32,16 +32,22 @@ const CUTS: u32 = 8;
 // The most calls that an answer can count.
 const MOST: usize = 0xFFFF_FFFF;
 
-// The kind that a sheet's record has for the same call (kinds 1 to 7: remove, reset, relocate, and the four insertions).
-fn record_kind(kind: u32) -> u8 {
+// The highest kind of a call.
+const KINDS: u32 = 15;
+
+// The number that stands for another kind, which is no call: none that a call answers.
+const NO_CALL: u32 = 99;
+
+// The kind of a sheet's record with the same call (kinds 1 to 7: remove, reset, relocate, and the four insertions).
+fn record_kind(kind: u32) -> Kind {
     match kind {
-        1 => 1,
-        2 => 3,
-        4 => 4,
-        5 => 5,
-        6 => 6,
-        7 => 7,
-        _ => 8,
+        1 => Kind::Remove,
+        2 => Kind::Reset,
+        4 => Kind::AppendLeft,
+        5 => Kind::AppendRight,
+        6 => Kind::PrependLeft,
+        7 => Kind::PrependRight,
+        _ => Kind::Relocate,
     }
 }
 
@@ -58,8 +64,7 @@ fn edit_text(
     requires { Desk source.now chunks.old pieces.old store.old used }
     ensures { Desk source.now chunks.new pieces.new store.new result.used }
 {
-    let kind = k.kind;
-    match kind {
+    match k.kind {
         8 => edit_insert::insert_whole(source, chunks, pieces, store, text, true, used),
         9 => edit_insert::insert_whole(source, chunks, pieces, store, text, false, used),
         _ => edit_update::update_with(
@@ -88,8 +93,7 @@ fn edit_ends(
     requires { Desk source.now chunks.old pieces.old store.old used }
     ensures { Desk source.now chunks.new pieces.new store.new result.used }
 {
-    let kind = k.kind;
-    match kind {
+    match k.kind {
         11 => trim::trim(source, chunks, pieces, store, k.a, used),
         12 => trim::trim_start(source, chunks, pieces, store, k.a, used),
         13 => trim::trim_end(source, chunks, pieces, store, k.a, used),
@@ -97,8 +101,8 @@ fn edit_ends(
     }
 }
 
-// One call. Kind 15 is an indent, by its text where its first number is not 0; another kind is no call, and its number is one that no call answers.
-fn make(
+// A call of kinds 1 to 15. The last is an indent, by its text where its first number is not 0.
+fn edit(
     k: Call,
     source: &[u8],
     chunks: &mut [u32],
@@ -111,14 +115,13 @@ fn make(
     requires { Desk source.now chunks.old pieces.old store.old used }
     ensures { Desk source.now chunks.new pieces.new store.new result.used }
 {
-    let kind = k.kind;
-    match kind {
+    match k.kind {
         1..=7 => sheet_run::core_call::core_call(
             source,
             chunks,
             pieces,
             store,
-            record_kind(kind),
+            record_kind(k.kind).code(),
             k.a,
             k.b,
             k.c,
@@ -127,28 +130,37 @@ fn make(
         ),
         8..=10 => edit_text(k, source, chunks, pieces, store, text, used),
         11..=14 => edit_ends(k, source, chunks, pieces, store, used),
-        15 => indent::indent_with(source, chunks, pieces, store, k.a != 0, text, exclude, used),
-        _ => Outcome {
-            number: 99,
-            cuts: 0,
-            used,
-        },
+        _ => indent::indent_with(source, chunks, pieces, store, k.a != 0, text, exclude, used),
     }
 }
 
+// One call, and what the desk then uses: its number, and from bit 8 on its cuts.
+fn make(
+    k: Call,
+    source: &[u8],
+    chunks: &mut [u32],
+    pieces: &mut [u32],
+    store: &mut [u8],
+    text: &[u8],
+    exclude: &[u32],
+    used: Used,
+) -> (u32, Used)
+    requires { Desk source.now chunks.old pieces.old store.old used }
+    ensures { Desk source.now chunks.new pieces.new store.new result.1 }
+{
+    if k.kind == 0 || KINDS < k.kind {
+        return (NO_CALL, used);
+    }
+    let outcome = edit(k, source, chunks, pieces, store, text, exclude, used);
+    let answer = Answer::from(outcome);
+    (answer.number | (answer.value << CUTS), outcome.used)
+}
+
 // The part of the texts that a call names; empty where it does not lie inside.
-fn part<'a>(texts: &'a [u8], at: u32, n: u32) -> &'a [u8] {
-    let len = texts.len();
+fn part(texts: &[u8], at: u32, n: u32) -> &[u8] {
     let start = at as usize;
-    let count = n as usize;
-    if start > len {
-        return &texts[..0];
-    }
-    if count > len - start {
-        return &texts[..0];
-    }
-    let end = start + count;
-    &texts[start..end]
+    let end = start + n as usize;
+    texts.get(start..end).unwrap_or(&texts[..0])
 }
 
 // The i-th call of a list.
@@ -166,20 +178,11 @@ fn call_at(calls: &[u32], i: usize) -> Call
     }
 }
 
-fn smaller(a: usize, b: usize) -> usize
-    ensures { (result ≤ a) × (result ≤ b) }
-{
-    if a < b {
-        return a;
-    }
-    b
-}
-
 // How many calls of a list have room for their numbers, and an answer can count.
 fn count(calls: &[u32], numbers: &[u32]) -> usize
     ensures { (result * 6 ≤ length calls.now) × (result ≤ length numbers.now) × (result ≤ 0xFFFFFFFF) }
 {
-    smaller(smaller(calls.len() / WORDS, numbers.len()), MOST)
+    (calls.len() / WORDS).min(numbers.len()).min(MOST)
 }
 
 // The i-th call of a list, made. No indent excludes a position.
@@ -192,10 +195,10 @@ fn step(
     texts: &[u8],
     i: usize,
     used: Used,
-) -> Outcome
+) -> (u32, Used)
     requires desk { Desk source.now chunks.old pieces.old store.old used }
     requires i_in_bounds { i * 6 + 6 ≤ length calls.now }
-    ensures { Desk source.now chunks.new pieces.new store.new result.used }
+    ensures { Desk source.now chunks.new pieces.new store.new result.1 }
 {
     let k = call_at(calls, i);
     let text = part(texts, k.at, k.n);
@@ -218,12 +221,10 @@ fn all(
 {
     let n = count(calls, numbers);
     let mut used = first;
-    let mut i = 0;
-    while i < n {
-        let o = step(source, chunks, pieces, store, calls, texts, i, used);
-        numbers[i] = o.number | (o.cuts << CUTS);
-        used = o.used;
-        i += 1;
+    for i in 0..n {
+        let made = step(source, chunks, pieces, store, calls, texts, i, used);
+        numbers[i] = made.0;
+        used = made.1;
     }
     n
 }
@@ -232,17 +233,10 @@ fn all(
 pub fn inner_open(source: &[u8], chunks: &mut [u32], pieces: &mut [u32], store: &mut [u8]) -> Answer
     ensures { result.number ≡ 0 → WellFormed source.now chunks.new pieces.new store.new }
 {
-    if check_well_formed::sized(chunks, pieces, store) {
-        let o = open::open_with(source, chunks, pieces, store);
-        return Answer {
-            number: o.number,
-            value: 0,
-        };
+    if !check_well_formed::sized(chunks, pieces, store) {
+        return Answer::from(Refusal::NotWellFormed);
     }
-    Answer {
-        number: numbers::NOT_WELL_FORMED,
-        value: 0,
-    }
+    Answer::from(open::open_with(source, chunks, pieces, store))
 }
 
 // Makes the calls of a list on a desk in tables of any size: 2 where there is none. A call is six words: its kind (1 to 15, as in crates/replay_read/src/names.rt),
@@ -260,15 +254,9 @@ pub fn inner_paper(
     ensures { PaperMade source.now chunks.old pieces.old store.old numbers.old
         chunks.new pieces.new store.new numbers.new result }
 {
-    let Seen::Desk(used) = check_well_formed::holds_desk(source, chunks, pieces, store) else {
-        return Answer {
-            number: numbers::NOT_WELL_FORMED,
-            value: 0,
-        };
+    let Some(used) = check_well_formed::holds_desk(source, chunks, pieces, store) else {
+        return Answer::from(Refusal::NotWellFormed);
     };
     let n = all(source, chunks, pieces, store, calls, texts, numbers, used);
-    Answer {
-        number: 0,
-        value: n as u32,
-    }
+    Answer::from(Ok(n as u32))
 }

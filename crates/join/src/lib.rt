@@ -3,20 +3,13 @@
 
 pub mod run;
 
-ghost use Rattle.std.specs.Prelude.{◌≡◌};
+ghost use Rattle.memory_layout.specs.Refusals.{number_of, value_of};
 ghost use Rattle.memory_used.specs.Above.{Desk};
 ghost use Rattle.join_lists.specs.Promises.{Joins};
 
-use join_lists::ListJudged;
-use memory::Answer;
-use memory_layout::numbers;
+use memory_layout::refusal::Refusal;
 use memory_used::Used;
-
-fn refused(number: u32) -> Answer
-    ensures { (result.number ≡ number) × (result.value ≡ 0) }
-{
-    Answer { number, value: 0 }
-}
+use memory_view::DeskView;
 
 // 16, then 18, 19 and 13; these change nothing. Else the calls of both lists are made, and the value is their cuts.
 pub fn join(
@@ -27,24 +20,24 @@ pub fn join(
     first: &[u8],
     second: &[u8],
     used: Used,
-) -> Answer
+) -> Result<u32, Refusal>
     requires { Desk source.now chunks.old pieces.old store.old used }
     ensures { Joins first.now second.now source.now chunks.old pieces.old store.old
-        chunks.new pieces.new store.new result }
+        chunks.new pieces.new store.new (record { number = number_of result; value = value_of result }) }
 {
-    let ListJudged::Records { count: n } = join_lists::judge_list(first) else {
-        return refused(numbers::BAD_SHEET);
+    let Some(n) = join_lists::judge_list(first) else {
+        return Err(Refusal::BadSheet);
     };
-    let ListJudged::Records { count: m } = join_lists::judge_list(second) else {
-        return refused(numbers::BAD_SHEET);
+    let Some(m) = join_lists::judge_list(second) else {
+        return Err(Refusal::BadSheet);
     };
-    let number = join_refused::number(source, chunks, pieces, store, first, second);
-    if number != 0 {
-        return refused(number);
-    }
+    let desk = DeskView {
+        source,
+        chunks,
+        pieces,
+        store,
+    };
+    join_refused::test_premises(desk, first, second)?;
     let cuts = run::run_both(source, chunks, pieces, store, first, n, second, m, used);
-    Answer {
-        number: 0,
-        value: cuts,
-    }
+    Ok(cuts)
 }

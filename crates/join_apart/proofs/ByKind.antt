@@ -13,7 +13,10 @@ use Rattle.model_sheet.specs.Sheet.{inserts_left, inserts_front, call_of}
 use Rattle.model_join.specs.Tests.{left_zone, right_zone, is_move, free_of}
 use Rattle.join_apart.specs.Kinds.{is_range}
 use Rattle.join_apart.specs.Places.{stretch, place_of, fits_in}
-use Rattle.join_apart.specs.Marking.{call}
+
+-- the call of a record with these fields
+abbrev pub call : ℕ → ℕ → ℕ → ℕ → Text → Edit
+call kind a b c t = call_of (record { kind = kind; a = a; b = b; c = c; text = t })
 
 -- ── tests made one after the other ──
 pub tests_third : {u v w x y z : Bool} → u ≡ x → v ≡ y → w ≡ z → u ≡ true → v ≡ true → w ≡ x && (y && (z && true))
@@ -39,10 +42,6 @@ pub range_out : (a b : ℕ) (q : Bool) → b ≤ a → ltb a b ≡ ltb a b && q
 range_out a b q h = rw (le-ltb a b h)
 
 -- ── kinds ──
--- none of the kinds 1 to 3
-pub no_range : (k : ℕ) → (k ≡ 1 → ⊥) → (k ≡ 2 → ⊥) → (k ≡ 3 → ⊥) → false ≡ is_range k
-no_range k h i j = rw (ne_eqb k 1 h, ne_eqb k 2 i, ne_eqb k 3 j)
-
 -- left of 0 is the head, right of the end is the tail
 left_stretch : (n p : ℕ) → stretch n (left_zone p) ≡ (p, 1)
 left_stretch n zero = refl

@@ -14,7 +14,7 @@ use Rattle.model.proofs.Lists.{both, and_left, and_right, false_of, all_map₂, 
 use Rattle.model_sheet.specs.Record.{Recorded}
 use Rattle.model_sheet.specs.Sheet.{inserts_left, inserts_front, call_of, recorded_calls}
 use Rattle.model_join.specs.Tests.{is_wide, free_of, all_within, all_apart, one_move, edits_apart}
-use Rattle.join_apart.specs.Places.{taken, fits_in}
+use Rattle.join_apart.specs.Places.{fits_in}
 use Rattle.join_apart.specs.Marking.{Once}
 use Rattle.join_apart.specs.Moves.{first_move, spared}
 use Rattle.join_apart.proofs.Taking.{Fit, apart_once, once_apart}

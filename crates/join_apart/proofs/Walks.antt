@@ -13,9 +13,8 @@ use Rattle.check_marks.specs.Marks.{Marked}
 use Rattle.model_join.specs.Tests.{is_move, free_of}
 use Rattle.join_apart.specs.Places.{place_of, fits_in}
 use Rattle.join_apart.specs.Moves.{first_move}
-use Rattle.join_apart.specs.Marking.{call}
 use Rattle.join_apart.proofs.Sparing.{first_here, first_later, first_of_second, first_none}
-use Rattle.join_apart.proofs.ByKind.{is_relocate, no_move}
+use Rattle.join_apart.proofs.ByKind.{call, is_relocate, no_move}
 use Rattle.join_apart.proofs.Marked.{Marks, edits_one, edits_on, edits_no}
 use Rattle.join_apart.proofs.Upto.{Upto, Between, upto_on}
 

@@ -8,7 +8,7 @@ use lib.Dec.{ltb, leb}
 use borrow.Author.Tests.{ltb-true, leb-true, lt-ltb, le-ltb}
 use Rattle.model.specs.Call.{Edit, remove, update_with, reset, insert, append, prepend, relocate, trim, trim_start, trim_end}
 use Rattle.model.specs.Call.{freeze, trim_lines, indent_with, listed}
-use Rattle.model.proofs.Lists.{both, and_left, and_right, clash}
+use Rattle.model.proofs.Lists.{and_left, and_right, clash}
 use Rattle.model_join.specs.Tests.{Zone, bytes, head_zone, tail_zone, no_zone, left_zone, right_zone, zone, meets, is_move}
 use Rattle.memory.specs.Layout.{Place}
 use Rattle.memory.specs.WellFormed.{among}

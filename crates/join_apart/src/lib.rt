@@ -23,10 +23,7 @@ fn places_apart(n: usize, first: &[u8], second: &[u8]) -> bool
     ensures { PlacesApart n first.now second.now result }
 {
     let mut marks = [0u64; PLACE_MARKS];
-    if mark_list(&mut marks[..PLACE_MARKS], n, first) {
-        return mark_list(&mut marks[..PLACE_MARKS], n, second);
-    }
-    false
+    mark_list(&mut marks, n, first) && mark_list(&mut marks, n, second)
 }
 
 // Judges the calls of two lists over a source of n bytes.
@@ -37,8 +34,5 @@ pub fn apart(n: usize, first: &[u8], second: &[u8]) -> bool
     if n == 0 {
         return false;
     }
-    if places_apart(n, first, second) {
-        return moves_free(first, second);
-    }
-    false
+    places_apart(n, first, second) && moves_free(first, second)
 }

@@ -1,54 +1,45 @@
 // The move of two lists: none of its positions may lie strictly inside a range that a record replaces.
 ghost use Rattle.std.specs.Prelude.{◌≡◌, ◌&&◌, not, ltb};
+ghost use Rattle.sheet_records.specs.Found.{recorded};
 ghost use Rattle.join_apart.specs.Moves.{FindsMove, FindsFirst, SparesRecord, Spares, MovesFree};
 
-use sheet_records::Read;
+use sheet_records::kinds::Kind;
+use sheet_records::{Record, Records};
 
 // A move: the bytes from a up to b, to c.
 #[derive(Clone, Copy)]
-pub enum Moved {
-    Move { a: u32, b: u32, c: u32 },
-    Nothing,
+pub struct Move {
+    pub a: u32,
+    pub b: u32,
+    pub c: u32,
 }
 
 // The first move of a list.
-fn find_move(records: &[u8]) -> Moved
+fn find_move(records: &[u8]) -> Option<Move>
     ensures { FindsMove records.now result }
 {
-    let mut at: usize = 0;
-    while at < records.len() {
-        match sheet_records::read_at(records, at) {
-            Read::Record {
-                kind,
-                a,
-                b,
-                c,
-                text_at: _,
-                next,
-            } => {
-                if kind == 8 {
-                    return Moved::Move { a, b, c };
-                }
-                at = next;
-            }
-            Read::Bad => {
-                return Moved::Nothing;
-            }
-            Read::End => {
-                return Moved::Nothing;
-            }
+    for entry in Records::new(records) {
+        let Ok(entry) = entry else {
+            return None;
+        };
+        if let Kind::Relocate = entry.kind {
+            return Some(Move {
+                a: entry.a,
+                b: entry.b,
+                c: entry.c,
+            });
         }
     }
-    Moved::Nothing
+    None
 }
 
 // The move of the first list, else of the second.
-fn first_move(first: &[u8], second: &[u8]) -> Moved
+fn first_move(first: &[u8], second: &[u8]) -> Option<Move>
     ensures { FindsFirst first.now second.now result }
 {
     match find_move(first) {
-        Moved::Move { a, b, c } => Moved::Move { a, b, c },
-        Moved::Nothing => find_move(second),
+        Some(moved) => Some(moved),
+        None => find_move(second),
     }
 }
 
@@ -60,42 +51,27 @@ fn outside(from: u32, to: u32, p: u32) -> bool
 }
 
 // Whether a record does not replace a range that has a position of the move strictly inside.
-fn spares_record(kind: u8, from: u32, to: u32, third: u32, a: u32, b: u32, c: u32) -> bool
-    ensures { SparesRecord kind from to third a b c result }
+fn spares_record(r: Record, moved: Move) -> bool
+    ensures { SparesRecord (recorded r.entry) moved result }
 {
-    if kind == 2 {
-        return outside(from, to, a) && (outside(from, to, b) && outside(from, to, c));
+    match r.kind {
+        Kind::Update => {
+            outside(r.a, r.b, moved.a) && (outside(r.a, r.b, moved.b) && outside(r.a, r.b, moved.c))
+        }
+        _ => true,
     }
-    true
 }
 
 // Whether this holds of every record of a list.
-fn spares(records: &[u8], a: u32, b: u32, c: u32) -> bool
-    ensures { Spares records.now a b c result }
+fn spares(records: &[u8], moved: Move) -> bool
+    ensures { Spares records.now moved result }
 {
-    let mut at: usize = 0;
-    while at < records.len() {
-        match sheet_records::read_at(records, at) {
-            Read::Record {
-                kind,
-                a: from,
-                b: to,
-                c: third,
-                text_at: _,
-                next,
-            } => {
-                if spares_record(kind, from, to, third, a, b, c) {
-                    at = next;
-                } else {
-                    return false;
-                }
-            }
-            Read::Bad => {
-                return false;
-            }
-            Read::End => {
-                return false;
-            }
+    for entry in Records::new(records) {
+        let Ok(entry) = entry else {
+            return false;
+        };
+        if !spares_record(entry, moved) {
+            return false;
         }
     }
     true
@@ -106,7 +82,7 @@ pub fn moves_free(first: &[u8], second: &[u8]) -> bool
     ensures { MovesFree first.now second.now result }
 {
     match first_move(first, second) {
-        Moved::Move { a, b, c } => spares(first, a, b, c) && spares(second, a, b, c),
-        Moved::Nothing => true,
+        Some(moved) => spares(first, moved) && spares(second, moved),
+        None => true,
     }
 }

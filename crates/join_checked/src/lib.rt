@@ -3,9 +3,8 @@
 
 ghost use Rattle.join_lists.specs.Promises.{Joined};
 
-use check_well_formed::Seen;
 use memory::Answer;
-use memory_layout::numbers;
+use memory_layout::refusal::Refusal;
 
 // Joins two lists of records.
 pub fn join(
@@ -19,11 +18,8 @@ pub fn join(
     ensures { Joined first.now second.now source.now chunks.old pieces.old store.old
         chunks.new pieces.new store.new result }
 {
-    let Seen::Desk(used) = check_well_formed::taken(source, chunks, pieces, store) else {
-        return Answer {
-            number: numbers::NOT_WELL_FORMED,
-            value: 0,
-        };
+    let Some(used) = check_well_formed::taken(source, chunks, pieces, store) else {
+        return Answer::from(Refusal::NotWellFormed);
     };
-    join::join(source, chunks, pieces, store, first, second, used)
+    Answer::from(join::join(source, chunks, pieces, store, first, second, used))
 }

@@ -3,25 +3,15 @@
 
 ghost use Rattle.join_lists.specs.Judged.{JudgesList};
 
-use sheet_records::{Judged, count_records, sheet};
+use sheet_records::{count_records, sheet};
 
-// What the bytes of a list are.
-#[derive(Clone, Copy)]
-pub enum ListJudged {
-    // Whole records up to the end, so many.
-    Records { count: usize },
-    Broken,
-}
-
-// L1's records alone, at most as many records and bytes as a sheet may have.
-pub fn judge_list(s: &[u8]) -> ListJudged
+// How many records a list has, if it is L1's records alone, whole up to its end, and at most as many records and bytes as a sheet may have.
+pub fn judge_list(s: &[u8]) -> Option<usize>
     ensures { JudgesList s.now result }
 {
     if s.len() > sheet::MOST_BYTES {
-        return ListJudged::Broken;
+        return None;
     }
-    match count_records(s, sheet::MOST_RECORDS) {
-        Judged::Records { count, text: _ } => ListJudged::Records { count },
-        Judged::Broken => ListJudged::Broken,
-    }
+    let records = count_records(s, sheet::MOST_RECORDS)?;
+    Some(records.count)
 }

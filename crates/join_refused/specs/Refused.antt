@@ -7,6 +7,7 @@ use Rattle.model_join.specs.Tests.{each_alone}
 use Rattle.model_join.specs.Join.{refused_join}
 use Rattle.memory.specs.Layout.{magic_string_of}
 use Rattle.memory.specs.WellFormed.{limits_of}
+use Rattle.memory_view.specs.declared.DeskView.{DeskView}
 
 -- of two lists of records, whether every call of both is accepted alone
 abbrev pub BothAlone : List ℕ → List ℕ → List ℕ → List ℕ → List ℕ → List ℕ → Bool → Type 0
@@ -19,3 +20,10 @@ abbrev pub RefusedWith : List ℕ → List ℕ → List ℕ → List ℕ → Lis
 RefusedWith first second source t p s n =
     (l l' : List Recorded) → records first ≡ some l → records second ≡ some l'
     → n ≡ refused_join (limits_of t p s) (magic_string_of source t p s) (recorded_calls l ++ recorded_calls l')
+
+-- both said of a desk's view
+abbrev pub BothAloneOn : List ℕ → List ℕ → DeskView → Bool → Type 0
+BothAloneOn first second d = BothAlone first second d.source.now d.chunks.now d.pieces.now d.store.now
+
+abbrev pub RefusedOn : List ℕ → List ℕ → DeskView → ℕ → Type 0
+RefusedOn first second d = RefusedWith first second d.source.now d.chunks.now d.pieces.now d.store.now

@@ -1,49 +1,34 @@
 // The premises of the any-order rule on two lists and a desk, tested in the order of their numbers (document 02, L7).
 #![tactic(auto)]
 
-ghost use Rattle.memory.specs.WellFormed.{WellFormed};
-ghost use Rattle.join_refused.specs.Refused.{BothAlone, RefusedWith};
+ghost use Rattle.memory_layout.specs.Refusals.{number_of};
+ghost use Rattle.memory_view.specs.View.{IsWellFormed};
+ghost use Rattle.join_refused.specs.Refused.{BothAloneOn, RefusedOn};
 
-use memory_layout::numbers;
+use memory_layout::refusal::Refusal;
+use memory_view::DeskView;
 
 // Whether every call of both lists is accepted alone.
-fn both_alone(
-    source: &[u8],
-    chunks: &[u32],
-    pieces: &[u32],
-    store: &[u8],
-    first: &[u8],
-    second: &[u8],
-) -> bool
-    requires { WellFormed source.now chunks.now pieces.now store.now }
-    ensures { BothAlone first.now second.now source.now chunks.now pieces.now store.now result }
+fn both_alone(desk: DeskView, first: &[u8], second: &[u8]) -> bool
+    requires { IsWellFormed desk }
+    ensures { BothAloneOn first.now second.now desk.entry result }
 {
-    if join_alone::each_alone(source, chunks, pieces, store, first) {
-        return join_alone::each_alone(source, chunks, pieces, store, second);
-    }
-    false
+    join_alone::each_alone(desk, first) && join_alone::each_alone(desk, second)
 }
 
-// The number with which two lists of records are refused; 0 where they keep every premise.
-pub fn number(
-    source: &[u8],
-    chunks: &[u32],
-    pieces: &[u32],
-    store: &[u8],
-    first: &[u8],
-    second: &[u8],
-) -> u32
-    requires { WellFormed source.now chunks.now pieces.now store.now }
-    ensures { RefusedWith first.now second.now source.now chunks.now pieces.now store.now result }
+// Tests every premise on two lists of records: 18, 19, then 13 where one is not kept.
+pub fn test_premises(desk: DeskView, first: &[u8], second: &[u8]) -> Result<(), Refusal>
+    requires { IsWellFormed desk }
+    ensures { RefusedOn first.now second.now desk.entry (number_of result) }
 {
-    if join_apart::apart(source.len(), first, second) {
-        if both_alone(source, chunks, pieces, store, first, second) {
-            if join_space::has_space(chunks, pieces, store, first, second) {
-                return 0;
-            }
-            return numbers::LIMIT;
-        }
-        return numbers::REFUSED_ALONE;
+    if !join_apart::apart(desk.source.len(), first, second) {
+        return Err(Refusal::NotApart);
     }
-    numbers::NOT_APART
+    if !both_alone(desk, first, second) {
+        return Err(Refusal::RefusedAlone);
+    }
+    if !join_space::has_space(desk, first, second) {
+        return Err(Refusal::Limit);
+    }
+    Ok(())
 }

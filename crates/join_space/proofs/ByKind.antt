@@ -1,6 +1,7 @@
 -- What the call of a record needs, by the record's kind.
 use Prim.Native.Nat.{ℕ}
 use mathlib.Core.Path.{◌≡◌, refl, sym, ap, ◌∙◌}
+use mathlib.Core.Logic.{◌⊎◌, inl, inr}
 use lib.Dec.{eqb}
 use borrow.Author.Tests.{ne_eqb}
 use native.Mathlib.Omega.{arith}
@@ -8,6 +9,10 @@ use Rattle.model.proofs.Lists.{bool-elim}
 use Rattle.model_sheet.specs.Record.{Recorded}
 use Rattle.model_sheet.specs.Sheet.{call_of}
 use Rattle.model_join.specs.Tests.{new_pieces, new_bytes}
+use Rattle.sheet_records.specs.declared.kinds.Kind.{Kind}
+use Rattle.sheet_records.specs.declared.kinds.Kind.TheVariants.{Remove, Update, Reset, Relocate}
+use Rattle.sheet_records.specs.Kinds.{code}
+use Rattle.sheet_records.proofs.OfKinds.{not_remove, not_update, not_reset, not_relocate}
 use Rattle.join_space.specs.Space.{NewPieces, NewBytes}
 
 -- the record with another kind
@@ -19,23 +24,23 @@ module _ {k : ℕ} where
   no_piece : (i : ℕ) → k ≡ i → ((r : Recorded) → new_pieces (call_of (of_kind r i)) ≡ 0) → NewPieces k 0
   no_piece i e h = record { is = λ r q. sym (ap (λ x. new_pieces (call_of (of_kind r x))) (q ∙ e) ∙ h r); few = omega arith }
 
-  pub removal_piece : k ≡ 1 → NewPieces k 0
+  removal_piece : k ≡ 1 → NewPieces k 0
   unfolding call_of
   removal_piece e = no_piece 1 e (λ r. refl)
 
-  pub update_piece : k ≡ 2 → NewPieces k 0
+  update_piece : k ≡ 2 → NewPieces k 0
   unfolding call_of
   update_piece e = no_piece 2 e (λ r. refl)
 
-  pub reset_piece : k ≡ 3 → NewPieces k 0
+  reset_piece : k ≡ 3 → NewPieces k 0
   unfolding call_of
   reset_piece e = no_piece 3 e (λ r. refl)
 
-  pub move_piece : k ≡ 8 → NewPieces k 0
+  move_piece : k ≡ 8 → NewPieces k 0
   unfolding call_of
   move_piece e = no_piece 8 e (λ r. refl)
 
-  pub insert_piece : ((((Unit {0} × (k ≡ 1 → ⊥)) × (k ≡ 2 → ⊥)) × (k ≡ 3 → ⊥)) × (k ≡ 8 → ⊥)) → NewPieces k 1
+  insert_piece : ((((Unit {0} × (k ≡ 1 → ⊥)) × (k ≡ 2 → ⊥)) × (k ≡ 3 → ⊥)) × (k ≡ 8 → ⊥)) → NewPieces k 1
   unfolding call_of
   insert_piece ((((_, h₁), h₂), h₃), h₄) =
       record {
@@ -54,20 +59,20 @@ module _ {k : ℕ} where
   no_bytes i n e h = record { is = λ r q _. sym (ap (λ x. new_bytes (call_of (of_kind r x))) (q ∙ e) ∙ h r); few = omega arith }
 
   module _ (n : ℕ) where
-    pub removal_bytes : k ≡ 1 → NewBytes k n 0
+    removal_bytes : k ≡ 1 → NewBytes k n 0
     unfolding call_of
     removal_bytes e = no_bytes 1 n e (λ r. refl)
 
-    pub reset_bytes : k ≡ 3 → NewBytes k n 0
+    reset_bytes : k ≡ 3 → NewBytes k n 0
     unfolding call_of
     reset_bytes e = no_bytes 3 n e (λ r. refl)
 
-    pub move_bytes : k ≡ 8 → NewBytes k n 0
+    move_bytes : k ≡ 8 → NewBytes k n 0
     unfolding call_of
     move_bytes e = no_bytes 8 n e (λ r. refl)
 
     -- an update or an insertion: its text
-    pub text_bytes : (((Unit {0} × (k ≡ 1 → ⊥)) × (k ≡ 3 → ⊥)) × (k ≡ 8 → ⊥)) → NewBytes k n n
+    text_bytes : (((Unit {0} × (k ≡ 1 → ⊥)) × (k ≡ 3 → ⊥)) × (k ≡ 8 → ⊥)) → NewBytes k n n
     unfolding call_of
     text_bytes (((_, h₁), h₃), h₄) =
         record {
@@ -78,3 +83,21 @@ module _ {k : ℕ} where
               bool-elim (eqb r.kind 2) (λ e. rw (one, e) (omega (arith, z))) (λ e. rw (one, e, three, eight) (omega (arith, z)));
           few = omega arith;
         }
+
+-- ── the same of a kind by name ──
+pub no_pieces : (k : Kind) → (k ≡ Remove) ⊎ ((k ≡ Update) ⊎ ((k ≡ Reset) ⊎ (k ≡ Relocate))) → NewPieces (code k) 0
+no_pieces k (inl e) = removal_piece (ap code e)
+no_pieces k (inr (inl e)) = update_piece (ap code e)
+no_pieces k (inr (inr (inl e))) = reset_piece (ap code e)
+no_pieces k (inr (inr (inr e))) = move_piece (ap code e)
+
+pub one_piece : (k : Kind) → (k ≡ Remove → ⊥) → (k ≡ Update → ⊥) → (k ≡ Reset → ⊥) → (k ≡ Relocate → ⊥) → NewPieces (code k) 1
+one_piece k r u s m = insert_piece ((((tt, not_remove k r), not_update k u), not_reset k s), not_relocate k m)
+
+pub none_carried : (k : Kind) (n : ℕ) → (k ≡ Remove) ⊎ ((k ≡ Reset) ⊎ (k ≡ Relocate)) → NewBytes (code k) n 0
+none_carried k n (inl e) = removal_bytes n (ap code e)
+none_carried k n (inr (inl e)) = reset_bytes n (ap code e)
+none_carried k n (inr (inr e)) = move_bytes n (ap code e)
+
+pub all_carried : (k : Kind) (n : ℕ) → (k ≡ Remove → ⊥) → (k ≡ Reset → ⊥) → (k ≡ Relocate → ⊥) → NewBytes (code k) n n
+all_carried k n r s m = text_bytes n (((tt, not_remove k r), not_reset k s), not_relocate k m)

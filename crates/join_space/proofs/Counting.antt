@@ -1,5 +1,5 @@
 -- The walk over a list of records that counts what their calls need.
-use Prim.Native.Nat.{ℕ, ◌+◌, ◌-◌, ◌≤◌, ◌<◌}
+use Prim.Native.Nat.{ℕ, ◌+◌, ◌≤◌, ◌<◌}
 use mathlib.Core.Path.{◌≡◌, refl, ap}
 use mathlib.Core.List.{List}
 use mathlib.Core.Option.{none, some}
@@ -9,8 +9,7 @@ use Rattle.model.specs.Text.{sum}
 use Rattle.model_sheet.specs.Record.{Recorded, next_record, records}
 use Rattle.model_sheet.specs.Sheet.{recorded_calls}
 use Rattle.model_join.specs.Tests.{new_pieces, new_bytes}
-use Rattle.sheet_records.specs.Found.{recorded, Taken}
-use Rattle.sheet_records.proofs.Walk.{taken_text}
+use Rattle.sheet_records.specs.Found.{Taken}
 use Rattle.join_space.specs.Space.{NewPieces, NewBytes, Needed}
 use Rattle.sheet_records.proofs.Behind.{behind, behind_end, behind_bad}
 
@@ -41,12 +40,10 @@ counting_start s =
     }
 
 module _ {s : List ℕ} {at calls pieces bytes : ℕ} (w : Counting s at calls pieces bytes) where
-  pub counting_turn : {kind a b c text_at next x y : ℕ} → Taken s at kind a b c text_at next → NewPieces kind x → NewBytes kind (next - text_at) y
+  pub counting_turn : {r : Recorded} {next x y : ℕ} → Taken s at r next → NewPieces r.kind x → NewBytes r.kind (length r.text) y
       → Counting s next (calls + 1) (pieces + x) (bytes + y)
-  counting_turn {kind} {a} {b} {c} {text_at} {next} {x} {y} g h k =
-      let one = recorded s kind a b c text_at next in
-      let starts = g.starts in
-      let ends = g.ends in
+  counting_turn {r} {next} {x} {y} g h k =
+      let inside = g.text_inside in
       record {
         left = λ l e.
             let m = w.left l e in
@@ -55,8 +52,8 @@ module _ {s : List ℕ} {at calls pieces bytes : ℕ} (w : Counting s at calls p
               rest = f.rest;
               are = f.onward;
               calls_are = omega (arith, m.calls_are, ap length f.first);
-              pieces_are = omega (arith, m.pieces_are, ap (λ q. sum new_pieces (recorded_calls q)) f.first, h.is one refl);
-              bytes_are = omega (arith, m.bytes_are, ap (λ q. sum new_bytes (recorded_calls q)) f.first, k.is one refl (taken_text g));
+              pieces_are = omega (arith, m.pieces_are, ap (λ q. sum new_pieces (recorded_calls q)) f.first, h.is r refl);
+              bytes_are = omega (arith, m.bytes_are, ap (λ q. sum new_bytes (recorded_calls q)) f.first, k.is r refl refl);
             };
         few_calls = omega (arith, w.few_calls);
         few_pieces = omega (arith, w.few_pieces, h.few);
@@ -81,7 +78,12 @@ module _ {s : List ℕ} {at calls pieces bytes : ℕ} (w : Counting s at calls p
         bytes = omega (arith, w.few_bytes, w.within);
       }
 
-  -- bytes that are no records are said to need nothing
-  pub counting_bad : at < length s → next_record (drop at s) ≡ none → Needed s (record { calls = 0; pieces = 0; bytes = 0 })
+  -- of bytes that are no records nothing is said but that no count is above their number
+  pub counting_bad : at < length s → next_record (drop at s) ≡ none → Needed s (record { calls = calls; pieces = pieces; bytes = bytes })
   counting_bad h q =
-      record { are = λ l e. behind_bad s at (w.left l e).are h q; calls = omega arith; pieces = omega arith; bytes = omega arith }
+      record {
+        are = λ l e. behind_bad s at (w.left l e).are h q;
+        calls = omega (arith, w.few_calls, w.within);
+        pieces = omega (arith, w.few_calls, w.few_pieces, w.within);
+        bytes = omega (arith, w.few_bytes, w.within);
+      }

@@ -8,6 +8,7 @@ use Rattle.model_sheet.specs.Sheet.{call_of, recorded_calls}
 use Rattle.model_join.specs.Tests.{new_pieces, new_bytes, has_space}
 use Rattle.memory.specs.Layout.{magic_string_of}
 use Rattle.memory.specs.WellFormed.{limits_of}
+use Rattle.memory_view.specs.declared.DeskView.{DeskView}
 use Rattle.join_space.specs.declared.Needs.{Needs}
 
 -- n is the new pieces of any call of this kind
@@ -47,3 +48,10 @@ abbrev pub Spaced : List ℕ → List ℕ → List ℕ → List ℕ → List ℕ
 Spaced t p s first second b =
     (source : List ℕ) (l l' : List Recorded) → records first ≡ some l → records second ≡ some l'
     → b ≡ has_space (limits_of t p s) (magic_string_of source t p s) (recorded_calls l ++ recorded_calls l')
+
+-- both said of a desk's view
+abbrev pub ReckonedOn : DeskView → Needs → Bool → Type 0
+ReckonedOn d = Reckoned d.chunks.now d.pieces.now d.store.now
+
+abbrev pub SpacedOn : DeskView → List ℕ → List ℕ → Bool → Type 0
+SpacedOn d = Spaced d.chunks.now d.pieces.now d.store.now

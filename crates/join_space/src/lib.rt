@@ -2,9 +2,12 @@
 #![tactic(auto)]
 
 ghost use Rattle.memory.specs.WellFormed.{Sized, Readable};
-ghost use Rattle.join_space.specs.Space.{NewPieces, NewBytes, Needed, Reckoned, Spaced};
+ghost use Rattle.sheet_records.specs.Kinds.{code};
+ghost use Rattle.join_space.specs.Space.{NewPieces, NewBytes, Needed, ReckonedOn, SpacedOn};
 
-use sheet_records::Read;
+use memory_view::DeskView;
+use sheet_records::Records;
+use sheet_records::kinds::Kind;
 
 // What the calls of a list may need: how many calls, new pieces, and bytes of text.
 #[derive(Clone, Copy)]
@@ -18,26 +21,21 @@ pub struct Needs {
 const MOST_CUTS: usize = 3;
 
 // The new pieces of a record's call: an insertion has one.
-fn new_pieces(kind: u8) -> usize
-    ensures { NewPieces kind result }
+fn new_pieces(kind: Kind) -> usize
+    ensures { NewPieces (code kind) result }
 {
     match kind {
-        1 => 0,
-        2 => 0,
-        3 => 0,
-        8 => 0,
+        Kind::Remove | Kind::Update | Kind::Reset | Kind::Relocate => 0,
         _ => 1,
     }
 }
 
 // The bytes of its text, of which n stand in the record.
-fn new_bytes(kind: u8, n: usize) -> usize
-    ensures { NewBytes kind n result }
+fn new_bytes(kind: Kind, n: usize) -> usize
+    ensures { NewBytes (code kind) n result }
 {
     match kind {
-        1 => 0,
-        3 => 0,
-        8 => 0,
+        Kind::Remove | Kind::Reset | Kind::Relocate => 0,
         _ => n,
     }
 }
@@ -46,57 +44,31 @@ fn new_bytes(kind: u8, n: usize) -> usize
 fn count_needs(records: &[u8]) -> Needs
     ensures { Needed records.now result }
 {
-    let mut at: usize = 0;
-    let mut calls: usize = 0;
-    let mut pieces: usize = 0;
-    let mut bytes: usize = 0;
-    while at < records.len() {
-        match sheet_records::read_at(records, at) {
-            Read::Record {
-                kind,
-                a: _,
-                b: _,
-                c: _,
-                text_at,
-                next,
-            } => {
-                calls += 1;
-                pieces += new_pieces(kind);
-                bytes += new_bytes(kind, next - text_at);
-                at = next;
-            }
-            Read::Bad => {
-                return Needs {
-                    calls: 0,
-                    pieces: 0,
-                    bytes: 0,
-                };
-            }
-            Read::End => {
-                return Needs {
-                    calls: 0,
-                    pieces: 0,
-                    bytes: 0,
-                };
-            }
-        }
+    let mut needs = Needs {
+        calls: 0,
+        pieces: 0,
+        bytes: 0,
+    };
+    for entry in Records::new(records) {
+        let Ok(entry) = entry else {
+            return needs;
+        };
+        needs.calls += 1;
+        needs.pieces += new_pieces(entry.kind);
+        needs.bytes += new_bytes(entry.kind, entry.text.len());
     }
-    Needs {
-        calls,
-        pieces,
-        bytes,
-    }
+    needs
 }
 
 // Whether the desk keeps the limits of its tables with so much more.
-fn has_room(chunks: &[u32], pieces: &[u32], store: &[u8], n: Needs) -> bool
-    requires readable { Readable chunks.now pieces.now store.now }
-    requires sized { Sized chunks.now pieces.now store.now }
-    ensures { Reckoned chunks.now pieces.now store.now n result }
+fn has_room(desk: DeskView, n: Needs) -> bool
+    requires readable { Readable desk.chunks.now desk.pieces.now desk.store.now }
+    requires sized { Sized desk.chunks.now desk.pieces.now desk.store.now }
+    ensures { ReckonedOn desk.entry n result }
 {
-    let most_chunks = chunks.len() / memory_layout::ROW - 1;
-    let most_pieces = pieces.len() / memory_layout::PIECE_ROOM;
-    let most_bytes = store.len();
+    let most_chunks = desk.chunks.len() / memory_layout::ROW - 1;
+    let most_pieces = desk.pieces.len() / memory_layout::PIECE_ROOM;
+    let most_bytes = desk.store.len();
     if n.calls > most_chunks / MOST_CUTS {
         return false;
     }
@@ -107,9 +79,9 @@ fn has_room(chunks: &[u32], pieces: &[u32], store: &[u8], n: Needs) -> bool
         return false;
     }
     edit_scratch::keeps(
-        chunks,
-        pieces,
-        store,
+        desk.chunks,
+        desk.pieces,
+        desk.store,
         (most_chunks - MOST_CUTS * n.calls) as u32,
         most_pieces - n.pieces,
         most_bytes - n.bytes,
@@ -117,10 +89,10 @@ fn has_room(chunks: &[u32], pieces: &[u32], store: &[u8], n: Needs) -> bool
 }
 
 // Whether the desk has the reckoned space for the calls of both lists.
-pub fn has_space(chunks: &[u32], pieces: &[u32], store: &[u8], first: &[u8], second: &[u8]) -> bool
-    requires readable { Readable chunks.now pieces.now store.now }
-    requires sized { Sized chunks.now pieces.now store.now }
-    ensures { Spaced chunks.now pieces.now store.now first.now second.now result }
+pub fn has_space(desk: DeskView, first: &[u8], second: &[u8]) -> bool
+    requires readable { Readable desk.chunks.now desk.pieces.now desk.store.now }
+    requires sized { Sized desk.chunks.now desk.pieces.now desk.store.now }
+    ensures { SpacedOn desk.entry first.now second.now result }
 {
     let a = count_needs(first);
     let b = count_needs(second);
@@ -129,5 +101,5 @@ pub fn has_space(chunks: &[u32], pieces: &[u32], store: &[u8], first: &[u8], sec
         pieces: a.pieces + b.pieces,
         bytes: a.bytes + b.bytes,
     };
-    has_room(chunks, pieces, store, both)
+    has_room(desk, both)
 }

@@ -4,7 +4,7 @@ ghost use Rattle.memory.specs.Calls.{Opened};
 ghost use Rattle.memory.specs.Calls.{Checked};
 
 use memory::Answer;
-use memory_layout::numbers;
+use memory_layout::refusal::Refusal;
 
 pub fn magic_string_open(
     source: &[u8],
@@ -15,8 +15,10 @@ pub fn magic_string_open(
     ensures { Opened source.now chunks.old pieces.old store.old
         chunks.new pieces.new store.new result.number × (result.value ≡ 0) }
 {
-    let number = open::open(source, chunks, pieces, store);
-    Answer { number, value: 0 }
+    if let Err(refusal) = open::open(source, chunks, pieces, store) {
+        return Answer::from(refusal);
+    }
+    Answer::from(Ok(0))
 }
 
 pub fn magic_string_well_formed(
@@ -27,14 +29,8 @@ pub fn magic_string_well_formed(
 ) -> Answer
     ensures { Checked source.now chunks.now pieces.now store.now result.number × (result.value ≡ 0) }
 {
-    if check_well_formed::well_formed(source, chunks, pieces, store) {
-        return Answer {
-            number: 0,
-            value: 0,
-        };
+    if !check_well_formed::well_formed(source, chunks, pieces, store) {
+        return Answer::from(Refusal::NotWellFormed);
     }
-    Answer {
-        number: numbers::NOT_WELL_FORMED,
-        value: 0,
-    }
+    Answer::from(Ok(0))
 }

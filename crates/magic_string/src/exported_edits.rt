@@ -3,9 +3,8 @@ ghost use Rattle.model.specs.Call.{remove, update_with, reset, insert, append, p
 ghost use Rattle.model.specs.Call.{trim_lines, indent_with};
 ghost use Rattle.memory.specs.Calls.{Edited, indentor_of, flag};
 
-use check_well_formed::Seen;
 use memory::Answer;
-use memory_layout::numbers;
+use memory_layout::refusal::Refusal;
 
 pub fn magic_string_remove(
     source: &[u8],
@@ -18,17 +17,10 @@ pub fn magic_string_remove(
     ensures { Edited (remove start end) source.now chunks.old pieces.old store.old
         chunks.new pieces.new store.new result.number result.value }
 {
-    let Seen::Desk(used) = check_well_formed::taken(source, chunks, pieces, store) else {
-        return Answer {
-            number: numbers::NOT_WELL_FORMED,
-            value: 0,
-        };
+    let Some(used) = check_well_formed::taken(source, chunks, pieces, store) else {
+        return Answer::from(Refusal::NotWellFormed);
     };
-    let o = edit_remove::remove(source, chunks, pieces, store, start, end, used);
-    Answer {
-        number: o.number,
-        value: o.cuts,
-    }
+    Answer::from(edit_remove::remove(source, chunks, pieces, store, start, end, used))
 }
 
 pub fn magic_string_update_with(
@@ -45,19 +37,12 @@ pub fn magic_string_update_with(
         chunks.new pieces.new store.new result.number result.value }
 {
     let overwrites = memory::flag(overwrite);
-    let Seen::Desk(used) = check_well_formed::taken(source, chunks, pieces, store) else {
-        return Answer {
-            number: numbers::NOT_WELL_FORMED,
-            value: 0,
-        };
+    let Some(used) = check_well_formed::taken(source, chunks, pieces, store) else {
+        return Answer::from(Refusal::NotWellFormed);
     };
-    let o = edit_update::update_with(
+    Answer::from(edit_update::update_with(
         source, chunks, pieces, store, start, end, text, overwrites, used,
-    );
-    Answer {
-        number: o.number,
-        value: o.cuts,
-    }
+    ))
 }
 
 pub fn magic_string_reset(
@@ -71,17 +56,10 @@ pub fn magic_string_reset(
     ensures { Edited (reset start end) source.now chunks.old pieces.old store.old
         chunks.new pieces.new store.new result.number result.value }
 {
-    let Seen::Desk(used) = check_well_formed::taken(source, chunks, pieces, store) else {
-        return Answer {
-            number: numbers::NOT_WELL_FORMED,
-            value: 0,
-        };
+    let Some(used) = check_well_formed::taken(source, chunks, pieces, store) else {
+        return Answer::from(Refusal::NotWellFormed);
     };
-    let o = edit_reset::reset(source, chunks, pieces, store, start, end, used);
-    Answer {
-        number: o.number,
-        value: o.cuts,
-    }
+    Answer::from(edit_reset::reset(source, chunks, pieces, store, start, end, used))
 }
 
 // Left of the position or right, at the front of the piece list or the back: any value but 0 is yes.
@@ -100,19 +78,12 @@ pub fn magic_string_insert(
 {
     let on_left = memory::flag(left);
     let at_front = memory::flag(front);
-    let Seen::Desk(used) = check_well_formed::taken(source, chunks, pieces, store) else {
-        return Answer {
-            number: numbers::NOT_WELL_FORMED,
-            value: 0,
-        };
+    let Some(used) = check_well_formed::taken(source, chunks, pieces, store) else {
+        return Answer::from(Refusal::NotWellFormed);
     };
-    let o = edit_insert::insert(
+    Answer::from(edit_insert::insert(
         source, chunks, pieces, store, at, text, on_left, at_front, used,
-    );
-    Answer {
-        number: o.number,
-        value: o.cuts,
-    }
+    ))
 }
 
 pub fn magic_string_append(
@@ -125,17 +96,10 @@ pub fn magic_string_append(
     ensures { Edited (append text.now) source.now chunks.old pieces.old store.old
         chunks.new pieces.new store.new result.number result.value }
 {
-    let Seen::Desk(used) = check_well_formed::taken(source, chunks, pieces, store) else {
-        return Answer {
-            number: numbers::NOT_WELL_FORMED,
-            value: 0,
-        };
+    let Some(used) = check_well_formed::taken(source, chunks, pieces, store) else {
+        return Answer::from(Refusal::NotWellFormed);
     };
-    let o = edit_insert::insert_whole(source, chunks, pieces, store, text, true, used);
-    Answer {
-        number: o.number,
-        value: o.cuts,
-    }
+    Answer::from(edit_insert::insert_whole(source, chunks, pieces, store, text, true, used))
 }
 
 pub fn magic_string_prepend(
@@ -148,17 +112,10 @@ pub fn magic_string_prepend(
     ensures { Edited (prepend text.now) source.now chunks.old pieces.old store.old
         chunks.new pieces.new store.new result.number result.value }
 {
-    let Seen::Desk(used) = check_well_formed::taken(source, chunks, pieces, store) else {
-        return Answer {
-            number: numbers::NOT_WELL_FORMED,
-            value: 0,
-        };
+    let Some(used) = check_well_formed::taken(source, chunks, pieces, store) else {
+        return Answer::from(Refusal::NotWellFormed);
     };
-    let o = edit_insert::insert_whole(source, chunks, pieces, store, text, false, used);
-    Answer {
-        number: o.number,
-        value: o.cuts,
-    }
+    Answer::from(edit_insert::insert_whole(source, chunks, pieces, store, text, false, used))
 }
 
 pub fn magic_string_relocate(
@@ -173,17 +130,10 @@ pub fn magic_string_relocate(
     ensures { Edited (relocate start end to) source.now chunks.old pieces.old store.old
         chunks.new pieces.new store.new result.number result.value }
 {
-    let Seen::Desk(used) = check_well_formed::taken(source, chunks, pieces, store) else {
-        return Answer {
-            number: numbers::NOT_WELL_FORMED,
-            value: 0,
-        };
+    let Some(used) = check_well_formed::taken(source, chunks, pieces, store) else {
+        return Answer::from(Refusal::NotWellFormed);
     };
-    let o = edit_relocate::relocate(source, chunks, pieces, store, start, end, to, used);
-    Answer {
-        number: o.number,
-        value: o.cuts,
-    }
+    Answer::from(edit_relocate::relocate(source, chunks, pieces, store, start, end, to, used))
 }
 
 pub fn magic_string_trim(
@@ -196,17 +146,10 @@ pub fn magic_string_trim(
     ensures { Edited (trim pattern) source.now chunks.old pieces.old store.old
         chunks.new pieces.new store.new result.number result.value }
 {
-    let Seen::Desk(used) = check_well_formed::taken(source, chunks, pieces, store) else {
-        return Answer {
-            number: numbers::NOT_WELL_FORMED,
-            value: 0,
-        };
+    let Some(used) = check_well_formed::taken(source, chunks, pieces, store) else {
+        return Answer::from(Refusal::NotWellFormed);
     };
-    let o = trim::trim(source, chunks, pieces, store, pattern, used);
-    Answer {
-        number: o.number,
-        value: o.cuts,
-    }
+    Answer::from(trim::trim(source, chunks, pieces, store, pattern, used))
 }
 
 pub fn magic_string_trim_start(
@@ -219,17 +162,10 @@ pub fn magic_string_trim_start(
     ensures { Edited (trim_start pattern) source.now chunks.old pieces.old store.old
         chunks.new pieces.new store.new result.number result.value }
 {
-    let Seen::Desk(used) = check_well_formed::taken(source, chunks, pieces, store) else {
-        return Answer {
-            number: numbers::NOT_WELL_FORMED,
-            value: 0,
-        };
+    let Some(used) = check_well_formed::taken(source, chunks, pieces, store) else {
+        return Answer::from(Refusal::NotWellFormed);
     };
-    let o = trim::trim_start(source, chunks, pieces, store, pattern, used);
-    Answer {
-        number: o.number,
-        value: o.cuts,
-    }
+    Answer::from(trim::trim_start(source, chunks, pieces, store, pattern, used))
 }
 
 pub fn magic_string_trim_end(
@@ -242,17 +178,10 @@ pub fn magic_string_trim_end(
     ensures { Edited (trim_end pattern) source.now chunks.old pieces.old store.old
         chunks.new pieces.new store.new result.number result.value }
 {
-    let Seen::Desk(used) = check_well_formed::taken(source, chunks, pieces, store) else {
-        return Answer {
-            number: numbers::NOT_WELL_FORMED,
-            value: 0,
-        };
+    let Some(used) = check_well_formed::taken(source, chunks, pieces, store) else {
+        return Answer::from(Refusal::NotWellFormed);
     };
-    let o = trim::trim_end(source, chunks, pieces, store, pattern, used);
-    Answer {
-        number: o.number,
-        value: o.cuts,
-    }
+    Answer::from(trim::trim_end(source, chunks, pieces, store, pattern, used))
 }
 
 pub fn magic_string_trim_lines(
@@ -264,17 +193,10 @@ pub fn magic_string_trim_lines(
     ensures { Edited (trim_lines) source.now chunks.old pieces.old store.old
         chunks.new pieces.new store.new result.number result.value }
 {
-    let Seen::Desk(used) = check_well_formed::taken(source, chunks, pieces, store) else {
-        return Answer {
-            number: numbers::NOT_WELL_FORMED,
-            value: 0,
-        };
+    let Some(used) = check_well_formed::taken(source, chunks, pieces, store) else {
+        return Answer::from(Refusal::NotWellFormed);
     };
-    let o = trim::trim_lines(source, chunks, pieces, store, used);
-    Answer {
-        number: o.number,
-        value: o.cuts,
-    }
+    Answer::from(trim::trim_lines(source, chunks, pieces, store, used))
 }
 
 pub fn magic_string_indent_with(
@@ -291,17 +213,10 @@ pub fn magic_string_indent_with(
         chunks.new pieces.new store.new result.number result.value }
 {
     let given = memory::flag(has_indentor);
-    let Seen::Desk(used) = check_well_formed::taken(source, chunks, pieces, store) else {
-        return Answer {
-            number: numbers::NOT_WELL_FORMED,
-            value: 0,
-        };
+    let Some(used) = check_well_formed::taken(source, chunks, pieces, store) else {
+        return Answer::from(Refusal::NotWellFormed);
     };
-    let o = indent::indent_with(
+    Answer::from(indent::indent_with(
         source, chunks, pieces, store, given, indentor, exclude, used,
-    );
-    Answer {
-        number: o.number,
-        value: o.cuts,
-    }
+    ))
 }

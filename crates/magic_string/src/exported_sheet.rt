@@ -2,7 +2,7 @@
 ghost use Rattle.sheet_run.specs.SheetRan.{SheetRan};
 
 use memory::Answer;
-use memory_layout::numbers;
+use memory_layout::refusal::Refusal;
 
 pub fn magic_string_run_sheet(
     sheet: &[u8],
@@ -14,11 +14,8 @@ pub fn magic_string_run_sheet(
     ensures { SheetRan sheet.now chunks.old pieces.old store.old answers.old
         chunks.new pieces.new store.new answers.new result }
 {
-    if check_well_formed::full_size(chunks, pieces, store) {
-        return sheet_run::run_sheet(sheet, chunks, pieces, store, answers);
+    if !check_well_formed::full_size(chunks, pieces, store) {
+        return Answer::from(Refusal::NotWellFormed);
     }
-    Answer {
-        number: numbers::NOT_WELL_FORMED,
-        value: 0,
-    }
+    Answer::from(sheet_run::run_sheet(sheet, chunks, pieces, store, answers))
 }

@@ -50,17 +50,14 @@ pub fn copy_run(
 {
     let first = at as usize;
     let count = n as usize;
-    let mut i = 0;
     let mut byte = to.byte;
-    let row = to.row;
-    while i < count {
+    for i in 0..count {
         let t = memory_texts::text_of(pieces, store, first + i);
-        byte = push_piece(new_pieces, new_store, t, byte, row + i);
-        i += 1;
+        byte = push_piece(new_pieces, new_store, t, byte, to.row + i);
     }
     Places {
         byte,
-        row: row + count,
+        row: to.row + count,
     }
 }
 
@@ -70,12 +67,11 @@ pub fn copy_rows(p: &mut [u32], at: u32, n: u32, to: usize)
     requires n_in_bounds { (to + n) * 2 ≤ length p.old }
     ensures { p.new ≡ over p.old (to * 2) (row_words p.old (at, n)) }
 {
+    // A run with no rows may lie anywhere, also past the table's end.
+    if n == 0 {
+        return;
+    }
     let from = at as usize * memory_layout::PIECE;
     let count = n as usize * memory_layout::PIECE;
-    let start = to * memory_layout::PIECE;
-    let mut k = 0;
-    while k < count {
-        p[start + k] = p[from + k];
-        k += 1;
-    }
+    p.copy_within(from..from + count, to * memory_layout::PIECE);
 }

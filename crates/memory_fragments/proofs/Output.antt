@@ -161,3 +161,14 @@ ready source t p s w =
 pub output_bound : (source t p s : List ℕ) → WellFormed source t p s → sum length (fragments_all source p s (sections t)) ≤ most_output
 output_bound source t p s w =
     rw (sum_sections length refl source t p s w.readable.linked) (output_short (magic_string_of source t p s) (desk_full w))
+
+pub chunks_bound : (source t p s : List ℕ) → WellFormed source t p s → sum length (fragments_all source p s (entries t)) ≤ most_output
+chunks_bound source t p s w =
+    let F = fragments_all source p s in
+    let h = fragments_of source p s (head_of t) in
+    let z = tail_part_of t ∷ [] in
+    let e : sum length (F (sections t)) ≡ sum length h + (sum length (F (entries t)) + sum length (F z)) =
+    ap (λ (x : List Entry). sum length (F x)) (sections_are t w.readable.linked)
+    ∙ sum_append length h (F (entries t ++ z))
+    ∙ ap (λ (k : ℕ). sum length h + k) (ap (sum length) (all_append source p s (entries t) z) ∙ sum_append length (F (entries t)) (F z)) in
+    omega (arith, output_bound source t p s w)

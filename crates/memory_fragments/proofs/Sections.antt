@@ -20,7 +20,7 @@ use Rattle.memory.proofs.Desks.{tabulate_all, length_tabulate}
 use Rattle.memory_table.proofs.Order.{order_length}
 use Rattle.memory_texts.specs.Texts.{content_at}
 use Rattle.memory_texts.proofs.Texts.{tabulate_ext, tabulate_cons, tabulate_drop, run_length, run_tabulate}
-use Rattle.memory_fragments.specs.Sections.{rows, row_no, head_of, tail_part_of, section_at, section, sections, fragments_of, fragments_all, size, rest, On, Went}
+use Rattle.memory_fragments.specs.Sections.{rows, row_no, head_of, tail_part_of, section_at, section, sections, fragments_of, fragments_all, size, rest, up_to, On, Went}
 
 -- ---- the fragments of a section, and of several
 
@@ -182,32 +182,68 @@ module _ (source t p s : List ℕ) where
   rest_end g item h = rw (sections_end t g h) (drop-nil item)
 
   -- the fragment at a place, and those behind it
+  module _ (stop : ℕ) where
+    pub up_to_end : (item : ℕ) → up_to source t p s stop stop item ≡ []
+    unfolding up_to
+    up_to_end item =
+        let e : drop stop (tabulate (section t) stop) ≡ [] = drop_of_length-le (tabulate (section t) stop) {i = stop} (rw (length_tabulate (section t) stop) (omega arith)) in
+        rw e (drop-nil item)
+
+    pub up_to_cons : (g item : ℕ) → g < stop → item < size (section t g)
+        → up_to source t p s stop g item ≡ get_or (fragments_of source p s (section t g)) item [] ∷ up_to source t p s stop g (suc item)
+    unfolding up_to
+    up_to_cons g item h k =
+        let fs = fragments_of source p s (section t g) in
+        let more = fragments_all source p s (drop (suc g) (tabulate (section t) stop)) in
+        let e = size_is source p s (section t g) in
+        let d : drop item (fs ++ more) ≡ get_or (fs ++ more) item [] ∷ drop (suc item) (fs ++ more) = drop-cons (fs ++ more) item [] (omega (arith, length-append fs more)) in
+        rw (tabulate_drop (section t) stop g h) (d ∙ ap (λ (x : Text). x ∷ drop (suc item) (fs ++ more)) (get_or-append fs more [] item (omega arith)))
+
+    up_to_over : (g : ℕ) → g < stop → up_to source t p s stop g (size (section t g)) ≡ up_to source t p s stop (suc g) 0
+    unfolding up_to
+    up_to_over g h =
+        let fs = fragments_of source p s (section t g) in
+        let more = fragments_all source p s (drop (suc g) (tabulate (section t) stop)) in
+        rw (tabulate_drop (section t) stop g h) (ap (λ (n : ℕ). drop n (fs ++ more)) (sym (size_is source p s (section t g))) ∙ drop-append_seam fs more)
+
+    pub up_to_went : {g item g' row' item' : ℕ} → g < stop → item < size (section t g) → Went t g item g' row' item'
+        → up_to source t p s stop g item ≡ get_or (fragments_of source p s (section t g)) item [] ∷ up_to source t p s stop g' item'
+    up_to_went {g} {item} h k w =
+        up_to_cons g item h k
+        ∙ ap (λ (l : List Text). get_or (fragments_of source p s (section t g)) item [] ∷ l)
+        (elim w.step [
+          | inl x ↦ rw (x.0, x.1)
+          | inr x ↦ rw (x.0, x.1, x.2) (up_to_over g h)
+        ])
+
   pub rest_cons : (g item : ℕ) → g < count_of t + 2 → item < size (section t g)
       → rest source t p s g item ≡ get_or (fragments_of source p s (section t g)) item [] ∷ rest source t p s g (suc item)
-  unfolding rest
-  rest_cons g item h k =
-      let fs = fragments_of source p s (section t g) in
-      let more = fragments_all source p s (drop (suc g) (sections t)) in
-      let e = size_is source p s (section t g) in
-      let d : drop item (fs ++ more) ≡ get_or (fs ++ more) item [] ∷ drop (suc item) (fs ++ more) = drop-cons (fs ++ more) item [] (omega (arith, length-append fs more)) in
-      rw (sections_drop t g h) (d ∙ ap (λ (x : Text). x ∷ drop (suc item) (fs ++ more)) (get_or-append fs more [] item (omega arith)))
+  unfolding rest up_to
+  rest_cons g item h k = up_to_cons (suc (suc (count_of t))) g item (omega arith) k
 
   pub rest_over : (g : ℕ) → g < count_of t + 2 → rest source t p s g (size (section t g)) ≡ rest source t p s (suc g) 0
-  unfolding rest
-  rest_over g h =
-      let fs = fragments_of source p s (section t g) in
-      let more = fragments_all source p s (drop (suc g) (sections t)) in
-      rw (sections_drop t g h) (ap (λ (n : ℕ). drop n (fs ++ more)) (sym (size_is source p s (section t g))) ∙ drop-append_seam fs more)
+  unfolding rest up_to
+  rest_over g h = up_to_over (suc (suc (count_of t))) g (omega arith)
 
   pub rest_went : {g item g' row' item' : ℕ} → g < count_of t + 2 → item < size (section t g) → Went t g item g' row' item'
       → rest source t p s g item ≡ get_or (fragments_of source p s (section t g)) item [] ∷ rest source t p s g' item'
-  rest_went {g} {item} h k w =
-      rest_cons g item h k
-      ∙ ap (λ (l : List Text). get_or (fragments_of source p s (section t g)) item [] ∷ l)
-      (elim w.step [
-        | inl x ↦ rw (x.0, x.1)
-        | inr x ↦ rw (x.0, x.1, x.2) (rest_over g h)
-      ])
+  unfolding rest up_to
+  rest_went h k w = up_to_went (suc (suc (count_of t))) (omega arith) k w
+
+  -- the whole rest, and the chunks alone
+  pub up_to_rest : (n g item : ℕ) → n ≡ count_of t → up_to source t p s (n + 2) g item ≡ rest source t p s g item
+  unfolding rest up_to
+  up_to_rest n g item e =
+      let q : n + 2 ≡ suc (suc (count_of t)) = omega arith in
+      ap (λ (k : ℕ). drop item (fragments_all source p s (drop g (tabulate (section t) k)))) q
+
+  pub up_to_chunks : (n : ℕ) → Linked t → n ≡ count_of t → up_to source t p s (n + 1) 1 0 ≡ fragments_all source p s (entries t)
+  unfolding up_to
+  up_to_chunks n l e =
+      let q : n + 1 ≡ suc (count_of t) = omega arith in
+      ap (λ (k : ℕ). fragments_all source p s (drop 1 (tabulate (section t) k))) q
+      ∙ ap (λ (es : List Entry). fragments_all source p s (drop 1 es)) (tabulate_cons (section t) (count_of t))
+      ∙ ap (fragments_all source p s) (sym (entries_tabulate t l))
 
 -- ---- the places where the walks begin
 

@@ -1,14 +1,18 @@
 -- A desk's sections in output order (the Rust's word in `last_line`): the head, the chunks in list order, the tail. Head and tail are taken as rows with an empty
 -- replacement, so that every section has a row and at least one fragment; the empty fragment shows nothing.
-use Rattle.std.specs.Prelude.{◌≡◌, cond, List, [], ◌∷◌, ◌++◌, map, ◌⊎◌, ℕ, suc, ◌+◌, ◌^◌, ◌≤◌, ◌<◌, eqb, get_or, drop}
+use Rattle.std.specs.Iterator.{YieldsFirstRef}
+use Rattle.std.specs.Borrow.{Bor}
+use Rattle.std.specs.Prelude.{◌≡◌, cond, List, [], ◌∷◌, ◌++◌, map, ◌⊎◌, Option, ℕ, suc, ◌+◌, ◌^◌, ◌≤◌, ◌<◌, eqb, get_or, drop}
 use Rattle.memory_table.specs.declared.Row.{Row}
-use Rattle.memory_table.specs.Order.{Entry, entry_at, entry_of, order, next_of, prev_of, count_of, Linked}
+use Rattle.memory_table.specs.Order.{Entry, entry_at, entry_of, entries, order, next_of, prev_of, count_of, Linked}
 use Rattle.model.specs.Text.{Text}
 use Rattle.model.specs.Chunk as chunk
 use Rattle.model.specs.MagicString.{chunk_fragments}
 use Rattle.memory.specs.Layout.{tabulate, chunk_of}
 use Rattle.memory.specs.WellFormed.{EntryIn}
+use Rattle.memory_view.specs.declared.DeskView.{DeskView}
 use Rattle.memory_texts.specs.Texts.{SpanIn}
+use Rattle.memory_fragments.specs.declared.Cursor.{Cursor}
 
 -- ---- the rows in output order
 
@@ -72,6 +76,14 @@ pub record Ready (source t p s : List ℕ) : Type 0 where
 unfoldable pub rest : List ℕ → List ℕ → List ℕ → List ℕ → ℕ → ℕ → List Text
 rest source t p s g item = drop item (fragments_all source p s (drop g (sections t)))
 
+-- up to the section `stop`
+unfoldable pub up_to : List ℕ → List ℕ → List ℕ → List ℕ → ℕ → ℕ → ℕ → List Text
+up_to source t p s stop g item = drop item (fragments_all source p s (drop g (tabulate (section t) stop)))
+
+-- what a call of `next` does to the list of what is left
+abbrev pub TakesFirst : List Text → Option (Bor Text) → List Text → Type 0
+TakesFirst = YieldsFirstRef (λ texts. texts)
+
 -- a place: the row is the section's, and the section has that fragment, or the place is the end
 pub record On (t : List ℕ) (g row item : ℕ) : Type 0 where
   pub row_is : g < count_of t + 2 → row ≡ row_no t g
@@ -82,3 +94,23 @@ pub record On (t : List ℕ) (g row item : ℕ) : Type 0 where
 pub record Went (t : List ℕ) (g item g' row' item' : ℕ) : Type 0 where
   pub on : On t g' row' item'
   pub step : ((g' ≡ g) × (item' ≡ suc item)) ⊎ ((g' ≡ suc g) × (item' ≡ 0) × (suc item ≡ size (section t g)))
+
+-- a place of a walk up to the section `stop`
+pub record Walk (source t p s : List ℕ) (stop g row item : ℕ) : Type 0 where
+  pub ready : Ready source t p s
+  pub on : On t g row item
+  pub below : g ≤ stop
+  pub stop_in : stop ≤ count_of t + 2
+  pub ends : g ≡ stop → item ≡ 0
+
+-- ---- of a desk that is read
+
+-- all its texts, those of the chunks, those from a place on
+abbrev pub all_texts : DeskView → List Text
+all_texts v = fragments_all v.source.now v.pieces.now v.store.now (sections v.chunks.now)
+
+abbrev pub chunk_texts : DeskView → List Text
+chunk_texts v = fragments_all v.source.now v.pieces.now v.store.now (entries v.chunks.now)
+
+abbrev pub texts_from : DeskView → Cursor → List Text
+texts_from v c = rest v.source.now v.chunks.now v.pieces.now v.store.now c.section c.item

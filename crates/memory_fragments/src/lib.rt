@@ -8,7 +8,11 @@ ghost use Rattle.memory.specs.WellFormed.{EntryIn};
 ghost use Rattle.memory_texts.specs.Texts.{SpanIn};
 ghost use Rattle.memory_fragments.specs.Sections.{section, SectionRow, size, fragments_of, Ready, On, Went, Narrow};
 
+mod iter;
+
+pub use iter::Fragments;
 use memory_table::Row;
+use memory_view::DeskView;
 
 // A place among the fragments: the section's number (0 for the head), its row (0 for head and tail), and the fragment's number in it.
 #[derive(Clone, Copy)]
@@ -23,22 +27,29 @@ pub fn section_row(chunks: &[u32], section: u32, row: u32) -> Row
     requires { row * ROW + ROW ≤ length chunks.now }
     ensures { SectionRow chunks.now section row result }
 {
-    let mut r = memory_table::get_row(chunks, row);
+    let r = memory_table::get_row(chunks, row);
     if row != 0 {
         return r;
     }
-    r.start = 0;
-    r.end = 0;
-    r.text_at = 0;
-    r.text_n = 0;
+    let edge = Row {
+        start: 0,
+        end: 0,
+        text_at: 0,
+        text_n: 0,
+        ..r
+    };
     if section == 0 {
-        r.outro_at = 0;
-        r.outro_n = 0;
-        return r;
+        return Row {
+            outro_at: 0,
+            outro_n: 0,
+            ..edge
+        };
     }
-    r.intro_at = 0;
-    r.intro_n = 0;
-    r
+    Row {
+        intro_at: 0,
+        intro_n: 0,
+        ..edge
+    }
 }
 
 // Fragment `item` of a row: one of its intro pieces, its content, or one of its outro pieces.
@@ -68,24 +79,18 @@ pub fn fragment_of<'a>(
 }
 
 // The fragment at a place.
-pub fn fragment<'a>(
-    source: &'a [u8],
-    chunks: &[u32],
-    pieces: &[u32],
-    store: &'a [u8],
-    c: Cursor,
-) -> &'a [u8]
-    requires ready { Ready source.now chunks.now pieces.now store.now }
-    requires on { On chunks.now c.section c.row c.item }
-    requires section_bound { c.section < count_of chunks.now + 2 }
-    ensures { result.now ≡ get_or (fragments_of source.now pieces.now store.now (section chunks.now c.section)) c.item [] }
+fn fragment<'a>(desk: DeskView<'a>, c: Cursor) -> &'a [u8]
+    requires ready { Ready desk.source.now desk.chunks.now desk.pieces.now desk.store.now }
+    requires on { On desk.chunks.now c.section c.row c.item }
+    requires section_bound { c.section < count_of desk.chunks.now + 2 }
+    ensures { result.now ≡ get_or (fragments_of desk.entry.source.now desk.entry.pieces.now desk.entry.store.now (section desk.entry.chunks.now c.section)) c.item [] }
 {
-    let r = section_row(chunks, c.section, c.row);
-    fragment_of(source, pieces, store, r, c.item)
+    let r = section_row(desk.chunks, c.section, c.row);
+    fragment_of(desk.source, desk.pieces, desk.store, r, c.item)
 }
 
 // The place behind it.
-pub fn next(chunks: &[u32], c: Cursor) -> Cursor
+fn next(chunks: &[u32], c: Cursor) -> Cursor
     requires linked { Linked chunks.now }
     requires narrow { Narrow chunks.now }
     requires on { On chunks.now c.section c.row c.item }
@@ -95,11 +100,7 @@ pub fn next(chunks: &[u32], c: Cursor) -> Cursor
     let r = section_row(chunks, c.section, c.row);
     let item = c.item + 1;
     if item <= r.intro_n + r.outro_n {
-        return Cursor {
-            section: c.section,
-            row: c.row,
-            item,
-        };
+        return Cursor { item, ..c };
     }
     Cursor {
         section: c.section + 1,

@@ -1,37 +1,30 @@
 -- Laws of what `Frozen` in specs/ defines: what a search along the list tells, and the same of the desk.
 use mathlib.Core.Path.{◌≡◌, refl, sym, ap, ◌∙◌}
 use mathlib.Core.Bool.{Bool, true, false, ◌&&◌, ◌||◌, and-false}
-use mathlib.Core.List.{List, [], ◌∷◌, ◌++◌, map}
-use Prim.Native.Nat.{ℕ, ◌+◌, ◌≤◌, ◌<◌}
-use native.Mathlib.Decide.{ℕ_discrete}
-use native.Mathlib.Omega.{arith}
+use mathlib.Core.List.{List, [], ◌∷◌, map}
+use Prim.Native.Nat.{ℕ, ◌≤◌, ◌<◌}
+use Rattle.std.specs.List.{list_any}
 use Rattle.memory_table.specs.Ring.{Each}
 use Rattle.memory_table.specs.Order.{Entry, count_of, entry_at, entries, order, Linked}
-use Rattle.memory_table.specs.Table.{row_at}
 use Rattle.model.specs.Text.{any}
 use Rattle.model.specs.Chunk.{Chunk}
 use Rattle.model.specs.Frozen.{starts_within, has_frozen, any_frozen}
-use Rattle.model.proofs.Lists.{or_right}
 use Rattle.memory.specs.Layout.{chunk_of, magic_string_of}
 use Rattle.memory.proofs.Desks.{chunks_of}
 use Rattle.memory_list.specs.Changes.{entry_starts_in}
-use Rattle.memory_list.specs.Find.{First}
 use Rattle.memory_frozen.specs.Frozen.{refuses, frozen_in_rows, Unmarked}
 
 -- ── a search along the list ──
-module _ (f : Entry → Bool) (g : ℕ → Entry) where
-  any_at : (us : List ℕ) (i : ℕ) (bs : List ℕ) → f (g i) ≡ true → any f (map g (us ++ i ∷ bs)) ≡ true
-  any_at [] i bs h = rw h
-  any_at (u ∷ us) i bs h = or_right (f (g u)) _ (any_at us i bs h)
+pub any_list : {A : Type 0} (f : A → Bool) (xs : List A) → any f xs ≡ list_any f xs
+any_list f [] = refl
+any_list f (x ∷ xs) = ap (λ (b : Bool). f x || b) (any_list f xs)
 
+module _ (f : Entry → Bool) (g : ℕ → Entry) where
   any_none : (us : List ℕ) → Each (λ x. f (g x) ≡ false) us → any f (map g us) ≡ false
   any_none [] h = refl
   any_none (u ∷ us) h = rw h.0 (any_none us h.1)
 
 module _ (f : Entry → Bool) (t : List ℕ) where
-  pub any_found : (i : ℕ) → First f t i → any f (entries t) ≡ true
-  any_found i h = rw h.place (any_at f (entry_at t) h.us i h.bs h.here)
-
   pub any_passed : Each (λ x. f (entry_at t x) ≡ false) (order t) → any f (entries t) ≡ false
   any_passed h = any_none f (entry_at t) (order t) h
 
@@ -46,10 +39,6 @@ module _ (f : Entry → Bool) (t : List ℕ) where
 
 pub not_frozen : (whole : Bool) (a b : ℕ) (e : Entry) → e.frozen ≡ 0 → refuses whole a b e ≡ false
 not_frozen whole a b e h = rw h (and-false (whole || entry_starts_in a b e))
-
--- ── rows by their numbers ──
-pub unmarked_more : (t : List ℕ) (k : ℕ) → ((i : ℕ) → 0 < i → i ≤ k → (row_at t i).frozen ≡ 0) → (row_at t (k + 1)).frozen ≡ 0 → (i : ℕ) → 0 < i → i ≤ k + 1 → (row_at t i).frozen ≡ 0
-unmarked_more t k h e i low high = elim (ℕ_discrete i (k + 1)) [ yes q ↦ ap (λ (j : ℕ). (row_at t j).frozen) q ∙ e | no q ↦ h i low (omega arith) ]
 
 -- ── the desk ──
 any_map : (f : Chunk → Bool) (g : Entry → Chunk) (es : List Entry) → any f (map g es) ≡ any (λ e. f (g e)) es

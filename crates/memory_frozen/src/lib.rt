@@ -9,16 +9,7 @@ ghost use Rattle.memory_frozen.specs.Frozen.{refuses, frozen_in_rows, Unmarked};
 fn refuses_row(c: memory_table::Row, whole: bool, a: u32, b: u32) -> bool
     ensures { result ≡ refuses whole a b (entry_of c) }
 {
-    if c.frozen == 0 {
-        return false;
-    }
-    if whole {
-        return true;
-    }
-    if c.start < a {
-        return false;
-    }
-    c.start < b
+    c.frozen != 0 && (whole || a <= c.start && c.start < b)
 }
 
 // Whether some row has a mark: rows by their numbers, so that no row has to be read before the next one is known. Where none has, no walk is needed.
@@ -27,10 +18,7 @@ fn has_mark(t: &[u32]) -> bool
     ensures { result ≡ false → Unmarked t.now }
 {
     let z = memory_table::get_row(t, 0);
-    let n = memory_layout::wide(z.start);
-    let mut k: usize = 0;
-    while k < n {
-        k += 1;
+    for k in 1..=z.start as usize {
         if t[k * memory_layout::ROW + memory_layout::FROZEN] != 0 {
             return true;
         }
@@ -43,19 +31,7 @@ fn find_frozen(t: &[u32], whole: bool, a: u32, b: u32) -> bool
     requires { Linked t.now }
     ensures { result ≡ frozen_in_rows whole a b t.now }
 {
-    let z = memory_table::get_row(t, 0);
-    let n = z.start;
-    let mut cur = z.next;
-    let mut k = 0;
-    while k < n {
-        let c = memory_table::get_row(t, cur);
-        if refuses_row(c, whole, a, b) {
-            return true;
-        }
-        cur = c.next;
-        k += 1;
-    }
-    false
+    memory_list::rows::rows(t).any(|(_, c)| refuses_row(c, whole, a, b))
 }
 
 // The same, without a walk where no row has a mark.
@@ -63,10 +39,7 @@ fn has_frozen(t: &[u32], whole: bool, a: u32, b: u32) -> bool
     requires { Linked t.now }
     ensures { result ≡ frozen_in_rows whole a b t.now }
 {
-    if has_mark(t) {
-        return find_frozen(t, whole, a, b);
-    }
-    false
+    has_mark(t) && find_frozen(t, whole, a, b)
 }
 
 // Whether a frozen chunk starts from a up to b.

@@ -4,7 +4,7 @@
 
 ghost use Rattle.std.specs.Prelude.{◌≡◌, ◌<◌};
 
-pub mod numbers;
+pub mod refusal;
 
 // ---- a row of chunks: how many words it has, and the place of each ----
 pub const ROW: usize = 12;

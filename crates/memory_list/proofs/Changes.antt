@@ -39,16 +39,16 @@ module _ (x : Change) (a b : ℕ) (t : List ℕ) (k : ℕ) (c : Row) (e : c ≡ 
         prev = put_keep prev_f t t' k r p (d.prev ∙ ap prev_f e);
       }
 
--- rows 1 to k are done
+-- the rows from 1 up to k are done
 pub record Swept (x : Change) (a b : ℕ) (t₀ t : List ℕ) (k : ℕ) : Type 0 where
   pub len : length t ≡ length t₀
   pub next : (i : ℕ) → next_of t i ≡ next_of t₀ i
   pub prev : (i : ℕ) → prev_of t i ≡ prev_of t₀ i
-  pub done : (i : ℕ) → 0 < i → i ≤ k → entry_at t i ≡ change_in x a b (entry_at t₀ i)
-  pub todo : (i : ℕ) → k < i → row_at t i ≡ row_at t₀ i
+  pub done : (i : ℕ) → 0 < i → i < k → entry_at t i ≡ change_in x a b (entry_at t₀ i)
+  pub todo : (i : ℕ) → k ≤ i → row_at t i ≡ row_at t₀ i
   pub desk : row_at t 0 ≡ row_at t₀ 0
 
-pub swept_none : (x : Change) (a b : ℕ) (t : List ℕ) → Swept x a b t t 0
+pub swept_none : (x : Change) (a b : ℕ) (t : List ℕ) → Swept x a b t t 1
 swept_none x a b t =
     record {
       len = refl;
@@ -59,19 +59,19 @@ swept_none x a b t =
       desk = refl;
     }
 
-pub swept_more : (x : Change) (a b : ℕ) (t₀ t t' : List ℕ) (k : ℕ) → Swept x a b t₀ t k → ChangedAt x a b t t' (k + 1) → length t' ≡ length t → Swept x a b t₀ t' (k + 1)
-swept_more x a b t₀ t t' k s c len =
+pub swept_more : (x : Change) (a b : ℕ) (t₀ t t' : List ℕ) (k : ℕ) → 0 < k → Swept x a b t₀ t k → ChangedAt x a b t t' k → length t' ≡ length t → Swept x a b t₀ t' (k + 1)
+swept_more x a b t₀ t t' k z s c len =
     record {
       len = len ∙ s.len;
       next = λ i. c.next i ∙ s.next i;
       prev = λ i. c.prev i ∙ s.prev i;
       done =
           λ i h g.
-          elim (ℕ_discrete i (k + 1)) [
+          elim (ℕ_discrete i k) [
             | yes q ↦
                 ap (entry_at t') q
                 ∙ c.here
-                ∙ ap (λ (y : Row). change_in x a b (entry_of y)) (s.todo (k + 1) (omega arith))
+                ∙ ap (λ (y : Row). change_in x a b (entry_of y)) (s.todo k (omega arith))
                 ∙ ap (λ (y : ℕ). change_in x a b (entry_at t₀ y)) (sym q)
             | no q ↦ ap entry_of (c.off i q) ∙ s.done i h (omega arith)
           ];
@@ -83,7 +83,7 @@ map_over : (f g : ℕ → Entry) (h : Entry → Entry) (xs : List ℕ) → Each 
 map_over f g h [] e = refl
 map_over f g h (x ∷ xs) e = ap₂ (λ (y : Entry) (l : List Entry). y ∷ l) e.0 (map_over f g h xs e.1)
 
-pub swept_all : (x : Change) (a b : ℕ) (t t' : List ℕ) (k : ℕ) → Linked t → Swept x a b t t' k → count_of t ≤ k → ChangeDone x a b t t'
+pub swept_all : (x : Change) (a b : ℕ) (t t' : List ℕ) (k : ℕ) → Linked t → Swept x a b t t' k → count_of t < k → ChangeDone x a b t t'
 unfolding order
 swept_all x a b t t' k l s h =
     let q = same_links t t' s.next s.prev (ap (λ (y : Row). y.start) s.desk) s.len l in

@@ -1,6 +1,7 @@
 pub mod Changes
-pub mod Searches
 pub mod Insert
 pub mod Move
 pub mod Split
 pub mod Swap
+pub mod Walks
+pub mod Gathers

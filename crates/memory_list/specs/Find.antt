@@ -1,9 +1,7 @@
 -- A search along the list: for the entry that starts, or ends, at a position (`chunk_by_start`, `chunk_by_end`), or that contains it (`Chunk::contains`).
-use Rattle.std.specs.Prelude.{◌≡◌, List, ◌∷◌, ◌++◌, Bool, true, false, ◌&&◌, ℕ, ltb, eqb}
+use Rattle.std.specs.Prelude.{◌≡◌, List, ◌∷◌, ◌++◌, Bool, true, false, ◌&&◌, ℕ, Option, Some, None, ltb, eqb}
 use Rattle.memory_list.specs.declared.Key.{Key}
 use Rattle.memory_list.specs.declared.Key.TheVariants.{Start, End, Inside}
-use Rattle.memory_list.specs.declared.Found.{Found}
-use Rattle.memory_list.specs.declared.Found.TheVariants.{At, Nothing}
 use Rattle.memory_table.specs.Ring.{Each}
 use Rattle.memory_table.specs.Order.{Entry, entry_at, order}
 
@@ -21,6 +19,6 @@ pub record First (f : Entry → Bool) (t : List ℕ) (i : ℕ) : Type 0 where
   pub none : Each (λ x. f (entry_at t x) ≡ false) us
   pub here : f (entry_at t i) ≡ true
 
-abbrev pub FoundIn : (Entry → Bool) → List ℕ → Found → Type 0
-FoundIn f t (At i) = First f t i
-FoundIn f t Nothing = Each (λ x. f (entry_at t x) ≡ false) (order t)
+abbrev pub FoundIn : (Entry → Bool) → List ℕ → Option ℕ → Type 0
+FoundIn f t (Some i) = First f t i
+FoundIn f t None = Each (λ x. f (entry_at t x) ≡ false) (order t)

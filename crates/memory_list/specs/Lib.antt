@@ -4,3 +4,4 @@ pub mod Split
 pub mod Changes
 pub mod Swap
 pub mod Move
+pub mod Rows

@@ -10,12 +10,7 @@ ghost use Rattle.memory_list.specs.Split.{SplitRow};
 ghost use Rattle.memory_list.specs.Changes.{ChangedRow, ChangedAt, ChangeDone};
 ghost use Rattle.memory_list.specs.Move.{Joined, Movable, Relinked, MoveAt, MoveDone};
 
-// What a search may not find.
-#[derive(Clone, Copy)]
-pub enum Found {
-    At(u32),
-    Nothing,
-}
+pub mod rows;
 
 // What a search looks for: the chunk that starts at a position, that ends there, or that contains it.
 #[derive(Clone, Copy)]
@@ -31,28 +26,21 @@ fn meets_key(c: memory_table::Row, key: Key, p: u32) -> bool
     match key {
         Key::Start => c.start == p,
         Key::End => c.end == p,
-        Key::Inside => { if c.start < p { p < c.end } else { false } }
+        Key::Inside => c.start < p && p < c.end,
     }
 }
 
 // The first row of the list that meets the key: `chunk_by_start`, `chunk_by_end`, and the search of `split_at`.
-pub fn find(t: &[u32], key: Key, p: u32) -> Found
+pub fn find(t: &[u32], key: Key, p: u32) -> Option<u32>
     requires { Linked t.now }
     ensures { FoundIn (meets key p) t.now result }
 {
-    let z = memory_table::get_row(t, 0);
-    let n = z.start;
-    let mut cur = z.next;
-    let mut k = 0;
-    while k < n {
-        let c = memory_table::get_row(t, cur);
+    for (i, c) in rows::rows(t) {
         if meets_key(c, key, p) {
-            return Found::At(cur);
+            return Some(i);
         }
-        cur = c.next;
-        k += 1;
     }
-    Found::Nothing
+    None
 }
 
 // The row r, linked in after row i as the chunk with the next number.
@@ -66,9 +54,11 @@ pub fn link_in(t: &mut [u32], i: u32, r: memory_table::Row)
     let n = z.start + 1;
     let mut c = memory_table::get_row(t, i);
     let q = c.next;
-    let mut s = r;
-    s.next = q;
-    s.prev = i;
+    let s = memory_table::Row {
+        next: q,
+        prev: i,
+        ..r
+    };
     memory_table::put_row(t, n, s);
     c.next = n;
     memory_table::put_row(t, i, c);
@@ -88,16 +78,20 @@ pub fn split_row(t: &mut [u32], i: u32, p: u32)
     ensures { SplitRow t.old t.new i p }
 {
     let c = memory_table::get_row(t, i);
-    let mut a = c;
-    a.end = p;
-    a.outro_at = 0;
-    a.outro_n = 0;
-    memory_table::put_row(t, i, a);
-    let mut b = c;
-    b.start = p;
-    b.intro_at = 0;
-    b.intro_n = 0;
-    link_in(t, i, b);
+    let first = memory_table::Row {
+        end: p,
+        outro_at: 0,
+        outro_n: 0,
+        ..c
+    };
+    memory_table::put_row(t, i, first);
+    let second = memory_table::Row {
+        start: p,
+        intro_at: 0,
+        intro_n: 0,
+        ..c
+    };
+    link_in(t, i, second);
 }
 
 // What the chunks of a range get: no pieces and a replacement that is empty, at this place of the store, or gone; or the mark of a frozen part.
@@ -110,21 +104,17 @@ pub enum Change {
 fn changed(c: memory_table::Row, change: Change) -> memory_table::Row
     ensures { ChangedRow change c result }
 {
-    let mut d = c;
     match change {
-        Change::Clear(text_at) => {
-            d.intro_at = 0;
-            d.intro_n = 0;
-            d.outro_at = 0;
-            d.outro_n = 0;
-            d.text_at = text_at;
-            d.text_n = 0;
-            d
-        }
-        Change::Freeze => {
-            d.frozen = 1;
-            d
-        }
+        Change::Clear(text_at) => memory_table::Row {
+            intro_at: 0,
+            intro_n: 0,
+            outro_at: 0,
+            outro_n: 0,
+            text_at,
+            text_n: 0,
+            ..c
+        },
+        Change::Freeze => memory_table::Row { frozen: 1, ..c },
     }
 }
 
@@ -134,13 +124,9 @@ fn change_row(t: &mut [u32], k: u32, a: u32, b: u32, change: Change)
     ensures { ChangedAt change a b t.old t.new k }
 {
     let c = memory_table::get_row(t, k);
-    if c.start < a {
-        return;
+    if a <= c.start && c.start < b {
+        memory_table::put_row(t, k, changed(c, change));
     }
-    if b <= c.start {
-        return;
-    }
-    memory_table::put_row(t, k, changed(c, change));
 }
 
 // Every chunk that starts from a up to b.
@@ -149,10 +135,7 @@ pub fn change_rows(t: &mut [u32], a: u32, b: u32, change: Change)
     ensures { ChangeDone change a b t.old t.new }
 {
     let z = memory_table::get_row(t, 0);
-    let n = z.start;
-    let mut k = 0;
-    while k < n {
-        k += 1;
+    for k in 1..=z.start {
         change_row(t, k, a, b, change);
     }
 }

@@ -1,5 +1,4 @@
 pub mod Order
-pub mod Pieces
 pub mod Ring
 pub mod Table
 pub mod Words

@@ -2,16 +2,16 @@
 use mathlib.Core.Path.{◌≡◌, refl, sym, ap, ◌∙◌}
 use mathlib.Core.List.{List, [], ◌∷◌, ◌++◌, append_assoc}
 use mathlib.Core.Logic.{⊎_elim, ◌⊎◌, inl, inr}
-use Prim.Native.Nat.{ℕ, suc, ◌+◌, ◌*◌, ◌≤◌, ◌<◌}
+use Prim.Native.Nat.{ℕ, suc, ◌+◌, ◌-◌, ◌*◌, ◌≤◌, ◌<◌}
 use native.Mathlib.Nat.{mul-le-mul_right, suc-mul}
-use native.Mathlib.Numerals.{add-one}
 use native.Mathlib.Omega.{arith}
 use native.Mathlib.Decide.{dec_lt}
 use lib.ListN.{length, get_or, take, drop, set, length-drop, take-append-drop}
-use lib.Seq.{sets, sets-eq, length-take-le, take_at, drop_at, take-append-le, drop-append-le, length-sets, drop-set-lt, take-set-le, drop-cons, get_or-take, get_or-drop}
+use lib.Seq.{sets, sets-eq, length-take-le, take_at, drop_at, take-append-le, drop-append-le, length-sets, drop-set-lt, take-set-le, get_or-take, get_or-drop}
 use lib.Dec.{ltb}
 use mathlib.Core.Bool.{true}
 use borrow.Author.Tests.{ltb-true}
+use borrow.Rule.Slice.PartMut.{put_mid, Post-is}
 
 -- row i of width w
 abbrev pub cells : ℕ → List ℕ → ℕ → List ℕ
@@ -21,12 +21,13 @@ cells w t i = take w (drop (i * w) t)
 pub cells_word : (w : ℕ) (t : List ℕ) (i k : ℕ) → ltb k w ≡ true → get_or (cells w t i) k 0 ≡ get_or t (i * w + k) 0
 cells_word w t i k h = get_or-take w (drop (i * w) t) k 0 (ltb-true k w h) ∙ get_or-drop (i * w) t k 0
 
--- a turn of a loop that stores
-pub sets_step : (t : List ℕ) (b k : ℕ) (w : List ℕ) → k < length w
-    → sets (set t (b + k) (get_or w k 0)) (b + (k + 1)) (drop (k + 1) w) ≡ sets t (b + k) (drop k w)
-sets_step t b k w h =
-    let e : b + (k + 1) ≡ suc (b + k) = omega arith in
-    rw (e, add-one k, drop-cons w k 0 h)
+-- what is left where words were copied into a part
+pub part_sets : (t : List ℕ) (b : ℕ) (ys vs : List ℕ) → ys ≡ vs → b + length vs ≤ length t → put_mid b (b + length vs - b) t ys ≡ sets t b vs
+part_sets t b ys vs e h =
+    rw e
+    (ap (λ (z : List ℕ). take b t ++ (vs ++ z)) (Post-is b (b + length vs) t (omega arith))
+    ∙ sym (append_assoc (take b t) vs (drop (b + length vs) t))
+    ∙ sym (sets-eq vs t b h))
 
 pub sides : {i j : ℕ} → (j ≡ i → ⊥) → (j < i) ⊎ (i < j)
 sides {i} {j} n = elim (dec_lt j i) [ yes h ↦ inl h | no h ↦ inr (omega arith) ]

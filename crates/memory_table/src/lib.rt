@@ -2,10 +2,9 @@
 #![tactic(auto)]
 
 ghost use Rattle.std.specs.Prelude.{◌≡◌, ◌+◌, ◌*◌, ◌≤◌, length};
-ghost use Rattle.std.proofs.lemmas.List.Edits.{sets};
 ghost use Rattle.memory_layout.specs.Layout.{ROW, PIECE};
 ghost use Rattle.memory_table.specs.Table.{row_at, Put};
-ghost use Rattle.memory_table.specs.Pieces.{piece_at, with_piece, PutPiece};
+ghost use Rattle.memory_table.specs.Pieces.{piece_at, with_piece};
 ghost use Rattle.memory_table.specs.Order.{entry_of};
 ghost use Rattle.memory_table.specs.Sides.{side as side_of, with_side};
 
@@ -46,27 +45,15 @@ pub fn get_row(t: &[u32], i: u32) -> Row
     }
 }
 
-// The words w, stored from b on.
-fn put_words(t: &mut [u32], b: usize, w: &[u32])
-    requires { b + length w.now ≤ length t.old }
-    ensures { t.new ≡ sets t.old b w.now }
-{
-    let mut k = 0;
-    while k < w.len() {
-        t[b + k] = w[k];
-        k += 1;
-    }
-}
-
 pub fn put_row(t: &mut [u32], i: u32, r: Row)
     requires { i * ROW + ROW ≤ length t.old }
     ensures { Put t.old t.new i r }
 {
-    let w = [
+    let b = i as usize * memory_layout::ROW;
+    t[b..b + memory_layout::ROW].copy_from_slice(&[
         r.start, r.end, r.next, r.prev, r.intro_at, r.intro_n, r.outro_at, r.outro_n, r.text_at,
         r.text_n, r.frozen, r.spare,
-    ];
-    put_words(t, i as usize * memory_layout::ROW, &w);
+    ]);
 }
 
 // A piece's place and length in the store.
@@ -87,13 +74,6 @@ pub fn piece_at(t: &[u32], row: usize) -> Piece
     }
 }
 
-pub fn get_piece(t: &[u32], i: u32) -> Piece
-    requires { i * PIECE + PIECE ≤ length t.now }
-    ensures { result ≡ piece_at t.now i }
-{
-    piece_at(t, i as usize)
-}
-
 // A piece's place and length, stored at a row.
 pub fn set_piece(t: &mut [u32], row: usize, at: u32, n: u32)
     requires { row * PIECE + PIECE ≤ length t.old }
@@ -104,26 +84,20 @@ pub fn set_piece(t: &mut [u32], row: usize, at: u32, n: u32)
     t[b + memory_layout::PIECE_N] = n;
 }
 
-pub fn put_piece(t: &mut [u32], i: u32, r: Piece)
-    requires { i * PIECE + PIECE ≤ length t.old }
-    ensures { PutPiece t.old t.new i r }
-{
-    set_piece(t, i as usize, r.at, r.n);
-}
-
 // A row's outro, or its intro.
 pub fn side(r: Row, outro: bool) -> Piece
     ensures { (result.at, result.n) ≡ side_of outro (entry_of r) }
 {
     if outro {
-        return Piece {
+        Piece {
             at: r.outro_at,
             n: r.outro_n,
-        };
-    }
-    Piece {
-        at: r.intro_at,
-        n: r.intro_n,
+        }
+    } else {
+        Piece {
+            at: r.intro_at,
+            n: r.intro_n,
+        }
     }
 }
 
@@ -131,13 +105,17 @@ pub fn side(r: Row, outro: bool) -> Piece
 pub fn with_side(r: Row, outro: bool, at: u32, n: u32) -> Row
     ensures { result ≡ with_side outro (at, n) r }
 {
-    let mut x = r;
     if outro {
-        x.outro_at = at;
-        x.outro_n = n;
-        return x;
+        Row {
+            outro_at: at,
+            outro_n: n,
+            ..r
+        }
+    } else {
+        Row {
+            intro_at: at,
+            intro_n: n,
+            ..r
+        }
     }
-    x.intro_at = at;
-    x.intro_n = n;
-    x
 }

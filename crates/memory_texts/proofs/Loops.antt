@@ -6,8 +6,7 @@ use native.Mathlib.Numerals.{add-one}
 use native.Mathlib.Nat.{add-zero}
 use native.Mathlib.Omega.{arith}
 use native.Mathlib.Decide.{le_ind}
-use lib.ListN.{length, get_or, take, drop, set, length-append}
-use lib.Seq.{take-suc, drop-cons, set_at, append_snoc, length-take-le, take-length}
+use lib.ListN.{length, length-append}
 use Rattle.utf8.specs.Chars.{concat}
 use Rattle.model.specs.Text.{Text}
 use Rattle.memory.specs.Layout.{bytes_at, piece_at, tabulate, run_of}
@@ -16,18 +15,6 @@ use Rattle.memory_texts.proofs.Over.{over_nil, over_over, length_over}
 use Rattle.memory_texts.proofs.Texts.{concat_nil, concat_snoc, concat_room, run_tabulate}
 use Rattle.memory_texts.specs.Carry.{Pushed, RoomFor, Carried, RoomOf}
 use Rattle.memory_texts.proofs.Carry.{carried_none, carried_one, carried_room, carried_more, room_one, room_front}
-
--- a turn of the loop that copies a text to the front
-pub front_suc : (t o d : List ℕ) (i : ℕ) → i < length t → i < length o → d ≡ take i t ++ drop i o → set d i (get_or t i 0) ≡ take (i + 1) t ++ drop (i + 1) o
-front_suc t o d i ht ho e =
-    let l : length (take i t) ≡ i = length-take-le i t (omega arith) in
-    rw (e, add-one, drop-cons o i 0, set_at (take i t) (get_or o i 0) (drop (suc i) o) (get_or t i 0) i, take-suc t i 0, append_snoc)
-
--- all of it
-pub front_all : (t o d : List ℕ) (i : ℕ) → i ≤ length t → length t ≤ i → d ≡ take i t ++ drop i o → d ≡ t ++ drop (length t) o
-front_all t o d i h k e =
-    let l : i ≡ length t = omega arith in
-    rw (e, l, take-length)
 
 -- the texts of a run, by number
 abbrev pub texts : List ℕ → List ℕ → ℕ → ℕ → Text

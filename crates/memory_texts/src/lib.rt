@@ -10,28 +10,12 @@ ghost use Rattle.utf8.specs.Rfc3629.{utf8, between};
 ghost use Rattle.memory_table.specs.Order.{entry_of};
 ghost use Rattle.model.specs.Text.{all};
 
-// Copies `text` to the front of `out`.
-pub fn put(out: &mut [u8], text: &[u8])
-    requires { length text.now ≤ length out.old }
-    ensures { out.new ≡ text.now ++ drop (length text.now) out.old }
+// Copies `items` to the front of `out`.
+pub fn put<T: Copy>(out: &mut [T], items: &[T])
+    requires { length items.now ≤ length out.old }
+    ensures { out.new ≡ items.now ++ drop (length items.now) out.old }
 {
-    let mut i = 0;
-    while i < text.len() {
-        out[i] = text[i];
-        i += 1;
-    }
-}
-
-// As `put`, for words.
-pub fn put_words(out: &mut [u32], words: &[u32])
-    requires { length words.now ≤ length out.old }
-    ensures { out.new ≡ words.now ++ drop (length words.now) out.old }
-{
-    let mut i = 0;
-    while i < words.len() {
-        out[i] = words[i];
-        i += 1;
-    }
+    out[..items.len()].copy_from_slice(items);
 }
 
 // The text that a row of the piece table names: a part of the store.
@@ -40,11 +24,12 @@ pub fn text_of<'a>(pieces: &[u32], store: &'a [u8], row: usize) -> &'a [u8]
     ensures { result.now ≡ bytes_at store.now (piece_at pieces.now row) }
 {
     let q = memory_table::piece_at(pieces, row);
-    let at = memory_layout::wide(q.at);
-    &store[at..at + memory_layout::wide(q.n)]
+    let at = q.at as usize;
+    &store[at..at + q.n as usize]
 }
 
 // A chunk's content: its part of the source, or its replacement in the store.
+#[tactic(auto, unfolding(memory::specs::Layout::replacement_of, memory::specs::WellFormed::ReplacementIn))]
 pub fn content<'a>(
     source: &'a [u8],
     store: &'a [u8],
@@ -67,12 +52,13 @@ pub fn content<'a>(
 pub fn own_row(z: memory_table::Row) -> memory_table::Row
     ensures { entry_of result ≡ own_of z }
 {
-    let mut r = z;
-    r.start = 0;
-    r.end = 0;
-    r.text_at = memory_layout::NONE;
-    r.text_n = 0;
-    r
+    memory_table::Row {
+        start: 0,
+        end: 0,
+        text_at: memory_layout::NONE,
+        text_n: 0,
+        ..z
+    }
 }
 
 // Whether two positions stand between characters: those of an edit of a range.
@@ -80,8 +66,5 @@ pub fn between_both(source: &[u8], a: u32, b: u32) -> bool
     requires { utf8 source.now ≡ true }
     ensures { result ≡ all (between source.now) (a ∷ b ∷ []) }
 {
-    if utf8::boundary(source, a as usize) {
-        return utf8::boundary(source, b as usize);
-    }
-    false
+    utf8::boundary(source, a as usize) && utf8::boundary(source, b as usize)
 }

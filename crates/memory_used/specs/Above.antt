@@ -1,6 +1,7 @@
 -- What a desk uses of its tables, as a bound: callers hand it on, so that an edit needs no pass over the rows to learn where there is room.
 use Rattle.std.specs.Prelude.{ℕ, ◌*◌, ◌/◌, ◌≤◌, List, [], length, take}
 use Rattle.memory_layout.specs.Layout.{PIECE_ROOM}
+use Rattle.memory_layout.specs.Refusals.{number_of}
 use Rattle.model.specs.Limits.{piece_count}
 use Rattle.model.specs.Call.{Edit}
 use Rattle.memory.specs.Layout.{magic_string_of}
@@ -24,5 +25,5 @@ pub record Desk (source t p s : List ℕ) (l : Used) : Type 0 where
 
 -- what it leaves: the desk that the model says, and what that uses
 pub record Leaves (e : Edit) (source t p s t' p' s' : List ℕ) (o : Outcome) : Type 0 where
-  pub ran : Ran e source t p s t' p' s' o.number o.cuts
+  pub ran : Ran e source t p s t' p' s' (number_of o.status) o.cuts
   pub above : Above t' p' s' o.used

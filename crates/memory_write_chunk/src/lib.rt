@@ -25,14 +25,11 @@ pub fn write_run(
     ensures { Wrote out.old place (concat (run_of pieces.now store.now (at, n))) out.new result }
 {
     let first = at as usize;
-    let count = n as usize;
-    let mut i = 0;
     let mut o = place;
-    while i < count {
+    for i in 0..n as usize {
         let t = memory_texts::text_of(pieces, store, first + i);
         memory_texts::put(&mut out[o..], t);
         o += t.len();
-        i += 1;
     }
     o
 }

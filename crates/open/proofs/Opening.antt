@@ -1,5 +1,6 @@
 -- The desk that an opening leaves, and the answers of its refusals.
 use mathlib.Core.Path.{◌≡◌, refl, ap, sym, subst, ◌∙◌}
+use Rattle.std.specs.Prelude.{Ok, Err}
 use mathlib.Core.Bool.{true, false}
 use mathlib.Core.List.{List, [], ◌∷◌, map}
 use Prim.Native.Nat.{ℕ, zero, suc, ◌+◌, ◌*◌, ◌/◌, ◌≤◌, ◌<◌}
@@ -20,12 +21,13 @@ use Rattle.model.specs.Chunk.{Chunk, new_chunk}
 use Rattle.model.specs.MagicString.{new}
 use Rattle.model.specs.Limits.{full, piece_count}
 use Rattle.model.specs.Call.{opened}
+use Rattle.memory_layout.specs.Refusals.{code}
+use Rattle.memory_layout.specs.declared.refusal.Refusal.{Refusal}
+use Rattle.memory_layout.specs.declared.refusal.Refusal.TheVariants.{NotUtf8, NotWellFormed, InsideCharacter, EndBeforeStart, ZeroWidth, CutInReplacement, AcrossMovedEdge, IntoItself, NotTogether, PastSource, SliceStart, SliceEnd, Limit, ShortBuffer, BadOption, BadSheet, NoSuchCall, NotApart, RefusedAlone, Frozen, MarksTooHigh}
 use Rattle.memory.specs.Layout.{run_of, replacement_of, texts_of, chunk_of, magic_string_of}
-use Rattle.memory.specs.WellFormed.{limits_of, Sized, Full, ReplacementIn, RunsIn, EntryIn, Readable, piece_uses, run_uses, byte_uses, WellFormed}
-use Rattle.memory.specs.Calls.{Opened}
-use Rattle.memory.proofs.Desks.{sized_as, among_none, no_run, no_run_in, no_uses, desk_same, all_same}
+use Rattle.memory.specs.WellFormed.{limits_of, Sized, ReplacementIn, RunsIn, EntryIn, Readable, piece_uses, run_uses, byte_uses, WellFormed}
+use Rattle.memory.proofs.Desks.{sized_as, among_none, no_run, no_run_in, no_uses, desk_same}
 use Rattle.memory_used.specs.declared.Used.{Used}
-use Rattle.memory_used.specs.declared.Outcome.{Outcome}
 use Rattle.memory_used.specs.Above.{Above}
 use Rattle.memory_counting.proofs.Sums.{indicator_in}
 use Rattle.check_spans.specs.Spans.{Spans, Edged, Edges, chunk_starts_of, ends_of}
@@ -229,34 +231,38 @@ new_desk source t p s t' u z o f few row byte =
       desk = record { well_formed = fresh_formed t t' source p s f z' (o.fits refl) (o.text refl); above = fresh_above t t' source p s f z'.some u few row byte };
     }
 
+-- a refusal has a number from 1 on
+refusal_some : (r : Refusal) → code r ≡ 0 → ⊥
+refusal_some NotUtf8 e = omega arith
+refusal_some NotWellFormed e = omega arith
+refusal_some InsideCharacter e = omega arith
+refusal_some EndBeforeStart e = omega arith
+refusal_some ZeroWidth e = omega arith
+refusal_some CutInReplacement e = omega arith
+refusal_some AcrossMovedEdge e = omega arith
+refusal_some IntoItself e = omega arith
+refusal_some NotTogether e = omega arith
+refusal_some PastSource e = omega arith
+refusal_some SliceStart e = omega arith
+refusal_some SliceEnd e = omega arith
+refusal_some Limit e = omega arith
+refusal_some ShortBuffer e = omega arith
+refusal_some BadOption e = omega arith
+refusal_some BadSheet e = omega arith
+refusal_some NoSuchCall e = omega arith
+refusal_some NotApart e = omega arith
+refusal_some RefusedAlone e = omega arith
+refusal_some Frozen e = omega arith
+refusal_some MarksTooHigh e = omega arith
+
 module _ (source t p s : List ℕ) where
-  pub number_with : {n : ℕ} → Opens source n → n ≡ (opened (limits_of t p s) source (new [])).number
+  number_with : {n : ℕ} → Opens source n → n ≡ (opened (limits_of t p s) source (new [])).number
   unfolding opened
   number_with h = h.number_is
 
-  pub opened_refused : (o : Outcome) → Opens source o.number → o.cuts ≡ 0 → (o.number ≡ 0 → ⊥) → OpenedWith source t p s t o
-  opened_refused o n c h = record { number_is = number_with n; no_cuts = c; desk = λ z. absurd (h z); refused = λ _. refl }
+  -- nothing is written
+  pub opened_refused : (r : Refusal) → Opens source (code r) → (u : Used) → OpenedWith source t p s t (record { status = Err r; cuts = 0; used = u })
+  opened_refused r n u = record { number_is = number_with n; no_cuts = refl; desk = λ z. absurd (refusal_some r z); refused = λ _. refl }
 
-  pub opened_0 : (t' : List ℕ) (o : Outcome) → Opens source o.number → o.cuts ≡ 0 → o.number ≡ 0 → NewDesk source t' p s o.used → OpenedWith source t p s t' o
-  opened_0 t' o n c e d = record { number_is = number_with n; no_cuts = c; desk = λ _. d; refused = λ h. absurd (h e) }
-
--- ── in tables of the full sizes, or of others ──
-pub others_2 : (source t p s : List ℕ) → (Full t p s → ⊥) → Opened source t p s t p s 2
-others_2 source t p s h =
-    record {
-      not_sized = λ x. refl;
-      number_is = λ z. absurd (h z);
-      desk_is = λ e. absurd (omega arith);
-      well_formed = λ e. absurd (omega arith);
-      refused = λ e. all_same t p s;
-    }
-
-pub opened_full : {source t p s t' : List ℕ} {o : Outcome} → Full t p s → OpenedWith source t p s t' o → Opened source t p s t' p s o.number
-opened_full z w =
-    record {
-      not_sized = λ x. absurd (x z);
-      number_is = λ _. w.number_is;
-      desk_is = λ e. (w.desk e).desk_is;
-      well_formed = λ e. (w.desk e).desk.well_formed;
-      refused = λ e. record { chunks = w.refused e; pieces = refl; store = refl };
-    }
+  pub opened_0 : (t' : List ℕ) → Opens source 0 → (u : Used) → NewDesk source t' p s u → OpenedWith source t p s t' (record { status = Ok tt; cuts = 0; used = u })
+  opened_0 t' n u d = record { number_is = number_with n; no_cuts = refl; desk = λ _. d; refused = λ h. absurd (h refl) }

@@ -4,6 +4,7 @@ use Rattle.utf8.specs.Rfc3629.{utf8}
 use Rattle.model.specs.MagicString.{new}
 use Rattle.model.specs.Limits.{full}
 use Rattle.model.specs.Call.{opened}
+use Rattle.memory_layout.specs.Refusals.{number_of}
 use Rattle.memory.specs.Layout.{magic_string_of}
 use Rattle.memory.specs.WellFormed.{limits_of}
 use Rattle.memory_used.specs.declared.Used.{Used}
@@ -23,7 +24,7 @@ pub record NewDesk (source t p s : List ℕ) (u : Used) : Type 0 where
 
 -- Over any earlier content: the number of `opened`, and for 0 the new desk with what it uses. Pieces and store are not written, and a refusal writes nothing
 pub record OpenedWith (source t p s t' : List ℕ) (o : Outcome) : Type 0 where
-  pub number_is : o.number ≡ (opened (limits_of t p s) source (new [])).number
+  pub number_is : number_of o.status ≡ (opened (limits_of t p s) source (new [])).number
   pub no_cuts : o.cuts ≡ 0
-  pub desk : o.number ≡ 0 → NewDesk source t' p s o.used
-  pub refused : (o.number ≡ 0 → ⊥) → t' ≡ t
+  pub desk : number_of o.status ≡ 0 → NewDesk source t' p s o.used
+  pub refused : (number_of o.status ≡ 0 → ⊥) → t' ≡ t

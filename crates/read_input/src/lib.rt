@@ -19,11 +19,10 @@ pub fn read_full<R: Read>(from: &mut R, buf: &mut [u8]) -> io::Result<usize>
 {
     let mut n: usize = 0;
     while n < buf.len() {
-        let k = from.read(&mut buf[n..])?;
-        if k == 0 {
-            break;
+        match from.read(&mut buf[n..])? {
+            0 => break,
+            k => n += k,
         }
-        n += k;
     }
     Ok(n)
 }

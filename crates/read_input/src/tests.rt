@@ -12,7 +12,7 @@ impl Read for Failing {
         if self.0 == 0 {
             return Err(io::Error::from(ErrorKind::BrokenPipe));
         }
-        if buf.len() == 0 {
+        if buf.is_empty() {
             return Ok(0);
         }
         buf[0] = self.0;

@@ -12,7 +12,12 @@ pub struct Outcome {
     pub value: u32,
 }
 
-// Kinds are numbered as in crates/replay_read/src/names.rt.
+// No call has this number.
+const NO_CALL: Answer = Answer {
+    number: 99,
+    value: 0,
+};
+
 fn make(
     k: Call,
     source: &[u8],
@@ -23,10 +28,13 @@ fn make(
     exclude: &[u32],
     out: &mut [u8],
 ) -> Answer {
-    if k.kind < 11 {
-        return replay_edits::edit(k, source, chunks, pieces, store, text);
+    if let Some(answer) = replay_edits::edit(k, source, chunks, pieces, store, text) {
+        return answer;
     }
-    replay_rest::rest(k, source, chunks, pieces, store, text, exclude, out)
+    match replay_rest::rest(k, source, chunks, pieces, store, text, exclude, out) {
+        Some(answer) => answer,
+        None => NO_CALL,
+    }
 }
 
 // The tables copied, the buffer filled, the call made and judged.
@@ -45,7 +53,7 @@ fn play_by(
     bytes: &[u8],
     out: &mut [u8],
 ) -> Outcome
-    ensures { result.agrees ≡ true → Agreed result.number result.value e.number e.value e.mode e.digest source.now
+    ensures { result.agrees ≡ true → Agreed result.number result.value e.number e.value e.tables source.now
         chunks.old pieces.old store.old chunks.new pieces.new store.new
         bytes.now out.new }
 {
@@ -78,7 +86,7 @@ pub fn play(
     bytes: &[u8],
     out: &mut [u8],
 ) -> Outcome
-    ensures { result.agrees ≡ true → Agreed result.number result.value e.number e.value e.mode e.digest source.now
+    ensures { result.agrees ≡ true → Agreed result.number result.value e.number e.value e.tables source.now
         chunks.old pieces.old store.old chunks.new pieces.new store.new
         bytes.now out.new }
 {

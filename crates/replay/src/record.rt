@@ -1,5 +1,5 @@
 // One line of the file: read, and its call made and judged.
-ghost use Rattle.std.specs.Prelude.{◌≡◌, ◌≤◌, length};
+ghost use Rattle.std.specs.Prelude.{◌≡◌, ◌≤◌, length, IfSome};
 ghost use Rattle.replay_record.specs.Inside.{Inside};
 
 use replay_record::Record;
@@ -49,7 +49,7 @@ fn cut(
     }
 }
 
-// A line, with buffers lent.
+// A line, with buffers lent; nothing where it is no record.
 fn record_by(
     line: &[u8],
     source: &mut [u8],
@@ -61,14 +61,14 @@ fn record_by(
     text: &mut [u8],
     bytes: &mut [u8],
     out: &mut [u8],
-) -> Told
+) -> Option<Told>
     requires { n ≤ length source.old }
-    ensures { result.source ≤ length source.new }
+    ensures { IfSome result (λ t. t.source ≤ length source.new) }
 {
-    let r = replay_record::read(line, numbers, text, bytes);
+    let r = replay_record::read(line, numbers, text, bytes)?;
     let k = r.text;
     let m = replay_record::use_source(r.kind, &text[..k], source, n);
-    cut(
+    Some(cut(
         r,
         &source[..m],
         chunks,
@@ -78,7 +78,7 @@ fn record_by(
         text,
         bytes,
         out,
-    )
+    ))
 }
 
 // Room for a text: as long as the longest output, and longer than the store.
@@ -92,9 +92,9 @@ pub fn record(
     chunks: &mut [u32],
     pieces: &mut [u32],
     store: &mut [u8],
-) -> Told
+) -> Option<Told>
     requires { n ≤ length source.old }
-    ensures { result.source ≤ length source.new }
+    ensures { IfSome result (λ t. t.source ≤ length source.new) }
 {
     let count = 64usize;
     let size = BUFFER;

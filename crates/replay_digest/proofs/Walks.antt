@@ -16,10 +16,10 @@ use Rattle.memory_table.specs.Order.{Entry, entry_at, entry_of, entries, next_of
 use Rattle.model.specs.Text.{Text}
 use Rattle.memory.specs.Layout.{Place, bytes_at, run_of, replacement_of, chunk_of, magic_string_of}
 use Rattle.memory_texts.proofs.Texts.{run_length}
-use Rattle.memory_fragments.specs.Sections.{tail_part_of, row_no, section, section_at, sections, fragments_of, fragments_all, SectionRow, On, Went, rest}
-use Rattle.memory_fragments.proofs.Sections.{row_first, row_in, row_edge, sections_are, sections_drop, sections_end, rest_first, rest_end, rest_went}
+use Rattle.memory_fragments.specs.Sections.{tail_part_of, row_no, section, section_at, sections, fragments_all, SectionRow}
+use Rattle.memory_fragments.proofs.Sections.{row_first, row_in, row_edge, sections_are, sections_drop, sections_end}
 use Rattle.memory_fragments.proofs.Output.{output_sections}
-use Rattle.replay_digest.specs.Digest.{mixed, mixed_all, mixed_text, mixed_texts, mixed_section, replaced, mixed_chunk, mixed_chunks, digest_of, mixed_entry}
+use Rattle.replay_digest.specs.Digest.{mixed, mixed_all, mixed_texts, mixed_section, replaced, mixed_chunk, mixed_chunks, digest_of, mixed_entry}
 use Rattle.replay_digest.specs.Digest.{mixed_entries}
 
 -- ---- one text
@@ -69,38 +69,6 @@ module _ {t : List ℕ} {h stop d g row : ℕ} (c : Rows t h stop d g row) where
               (subst (λ (x : Entry). mixed_entries (mixed_entry d x) (drop (suc g) (sections t)) ≡ mixed_entries h (sections t)) (sym q)
               (ap (mixed_entries d) (sym (sections_drop t g (omega (arith, c.stop_is)))) ∙ c.digest_is));
         }
-
--- ---- all fragments: d is the digest up to a place
-
-pub record Fragments (source t p s : List ℕ) (h stop d g row item : ℕ) : Type 0 where
-  pub stop_is : stop ≡ count_of t + 2
-  pub on : On t g row item
-  pub digest_is : mixed_texts d (rest source t p s g item) ≡ mixed_texts h (fragments_all source p s (sections t))
-
-pub fragments_none : (source t p s : List ℕ) (h stop : ℕ) → stop ≡ count_of t + 2 → Fragments source t p s h stop h 0 0 0
-fragments_none source t p s h stop e = record {
-  stop_is = e;
-  on = record { row_is = λ k. sym (row_first t); inside = omega arith; item_in = omega arith };
-  digest_is = ap (mixed_texts h) (rest_first source t p s);
-}
-
-module _ {source t p s : List ℕ} {h stop d g row item : ℕ} (c : Fragments source t p s h stop d g row item) where
-  pub fragments_done : stop ≤ g → d ≡ mixed_texts h (fragments_all source p s (sections t))
-  fragments_done l = ap (mixed_texts d) (sym (rest_end source t p s g item (omega (arith, c.stop_is)))) ∙ c.digest_is
-
-  module _ (l : g < stop) {g' row' item' : ℕ} (w : Went t g item g' row' item') where
-    went : rest source t p s g item ≡ get_or (fragments_of source p s (section t g)) item [] ∷ rest source t p s g' item'
-    went = rest_went source t p s (omega (arith, c.stop_is)) c.on.item_in w
-
-    pub fragments_more : {d' : ℕ} → d' ≡ mixed_text d (get_or (fragments_of source p s (section t g)) item []) → Fragments source t p s h stop d' g' row' item'
-    fragments_more {d'} e = record {
-      stop_is = c.stop_is;
-      on = w.on;
-      digest_is = rw e (ap (mixed_texts d) (sym went) ∙ c.digest_is);
-    }
-
-    pub fragments_less : length (rest source t p s g' item') < length (rest source t p s g item)
-    fragments_less = omega (arith, ap length went)
 
 -- ---- what the walks give is the desk's digest
 

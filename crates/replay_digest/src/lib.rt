@@ -3,13 +3,13 @@
 
 ghost use Rattle.std.specs.Prelude.{◌≡◌};
 ghost use Rattle.memory_table.specs.Order.{entry_of};
-ghost use Rattle.memory.specs.Layout.{magic_string_of};
-ghost use Rattle.memory.specs.WellFormed.{WellFormed};
-ghost use Rattle.memory_fragments.specs.Sections.{sections, fragments_all};
+ghost use Rattle.memory_view.specs.View.{desk_of, IsWellFormed};
+ghost use Rattle.memory_fragments.specs.Sections.{sections, all_texts};
 ghost use Rattle.replay_digest.specs.Digest.{mixed, mixed_text, mixed_texts, mixed_entry, mixed_entries, digest_of};
 
-use memory_fragments::Cursor;
+use memory_fragments::Fragments;
 use memory_table::Row;
+use memory_view::DeskView;
 
 fn mix(h: u32, x: u32) -> u32
     ensures { result ≡ mixed h x }
@@ -23,10 +23,8 @@ fn mix_text(h: u32, s: &[u8]) -> u32
     ensures { result ≡ mixed_text h s.now }
 {
     let mut d = h;
-    let mut i: usize = 0;
-    while i < s.len() {
-        d = mix(d, s[i] as u32);
-        i += 1;
+    for &b in s {
+        d = mix(d, u32::from(b));
     }
     mix(d, 256)
 }
@@ -45,48 +43,37 @@ fn mix_row(h: u32, r: Row) -> u32
     mix(d, 1)
 }
 
-fn mix_rows(h: u32, source: &[u8], chunks: &[u32], pieces: &[u32], store: &[u8]) -> u32
-    requires { WellFormed source.now chunks.now pieces.now store.now }
-    ensures { result ≡ mixed_entries h (sections chunks.now) }
+fn mix_rows(h: u32, desk: DeskView) -> u32
+    requires { IsWellFormed desk }
+    ensures { result ≡ mixed_entries h (sections desk.entry.chunks.now) }
 {
-    let z = memory_table::get_row(chunks, 0);
+    let z = memory_table::get_row(desk.chunks, 0);
     let stop = z.start + 2;
     let mut d = h;
-    let mut section: u32 = 0;
     let mut row: u32 = 0;
-    while section < stop {
-        let r = memory_fragments::section_row(chunks, section, row);
+    for section in 0..stop {
+        let r = memory_fragments::section_row(desk.chunks, section, row);
         d = mix_row(d, r);
         row = r.next;
-        section += 1;
     }
     d
 }
 
-fn mix_texts<'a>(h: u32, source: &'a [u8], chunks: &[u32], pieces: &[u32], store: &'a [u8]) -> u32
-    requires { WellFormed source.now chunks.now pieces.now store.now }
-    ensures { result ≡ mixed_texts h (fragments_all source.now pieces.now store.now (sections chunks.now)) }
+fn mix_texts(h: u32, desk: DeskView) -> u32
+    requires { IsWellFormed desk }
+    ensures { result ≡ mixed_texts h (all_texts desk.entry) }
 {
-    let z = memory_table::get_row(chunks, 0);
-    let stop = z.start + 2;
     let mut d = h;
-    let mut c = Cursor {
-        section: 0,
-        row: 0,
-        item: 0,
-    };
-    while c.section < stop {
-        let t = memory_fragments::fragment(source, chunks, pieces, store, c);
+    for t in Fragments::new(desk) {
         d = mix_text(d, t);
-        c = memory_fragments::next(chunks, c);
     }
     d
 }
 
-pub fn digest<'a>(source: &'a [u8], chunks: &[u32], pieces: &[u32], store: &'a [u8]) -> u32
-    requires { WellFormed source.now chunks.now pieces.now store.now }
-    ensures { result ≡ digest_of (magic_string_of source.now chunks.now pieces.now store.now) }
+pub fn digest(desk: DeskView) -> u32
+    requires { IsWellFormed desk }
+    ensures { result ≡ digest_of (desk_of desk.entry) }
 {
-    let h = mix_rows(1, source, chunks, pieces, store);
-    mix_texts(h, source, chunks, pieces, store)
+    let h = mix_rows(1, desk);
+    mix_texts(h, desk)
 }

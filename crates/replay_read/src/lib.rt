@@ -3,283 +3,140 @@
 
 pub mod names;
 
-ghost use Rattle.std.specs.Prelude.{◌≡◌, ◌+◌, ◌≤◌, length};
-
-// A number, if the column holds one.
-#[derive(Clone, Copy)]
-pub struct Read {
-    pub good: bool,
-    pub value: u32,
-}
-
-// How far a buffer is filled, if the column could be read.
-#[derive(Clone, Copy)]
-pub struct Filled {
-    pub good: bool,
-    pub n: usize,
-}
+ghost use Rattle.std.specs.Prelude.{◌≤◌, length, IfSome};
 
 // The first place of the byte b in s from `from` on, or s's length.
 pub fn find(s: &[u8], from: usize, b: u8) -> usize
     requires { from ≤ length s.now }
     ensures { (from ≤ result) × (result ≤ length s.now) }
 {
-    let mut i = from;
-    while i < s.len() {
-        if s[i] == b {
-            return i;
-        }
-        i += 1;
+    match s[from..].iter().position(|x| *x == b) {
+        Some(i) => from + i,
+        None => s.len(),
     }
-    i
-}
-
-// Where column k begins: behind the k-th space, or at the line's end.
-fn column_start(line: &[u8], k: usize) -> usize
-    ensures { result ≤ length line.now }
-{
-    let mut at: usize = 0;
-    let mut i: usize = 0;
-    while i < k {
-        let end = find(line, at, b' ');
-        if end == line.len() {
-            return end;
-        }
-        at = end + 1;
-        i += 1;
-    }
-    at
 }
 
 // Column k, up to the next space; empty where the line has fewer.
-pub fn column<'a>(line: &'a [u8], k: usize) -> &'a [u8] {
-    let at = column_start(line, k);
-    let end = find(line, at, b' ');
-    &line[at..end]
+pub fn column(line: &[u8], k: usize) -> &[u8] {
+    line.split(|b| *b == b' ').nth(k).unwrap_or(&[])
 }
 
-// Whether s is the byte b alone.
-pub fn is_only(s: &[u8], b: u8) -> bool {
-    if s.len() == 1 {
-        return s[0] == b;
-    }
-    false
-}
-
-// The value of a hexadecimal digit, or 16.
-fn digit(b: u8) -> u32
-    ensures { result ≤ 16 }
-{
+// The value of a hexadecimal digit.
+fn digit(b: u8) -> Option<u8> {
     match b {
-        b'0'..=b'9' => wide(b - b'0'),
-        b'a'..=b'f' => wide(b - b'a') + 10,
-        _ => 16,
-    }
-}
-
-fn wide(b: u8) -> u32
-    ensures { result ≡ b }
-{
-    b as u32
-}
-
-fn unread() -> Read {
-    Read {
-        good: false,
-        value: 0,
+        b'0'..=b'9' => Some(b - b'0'),
+        b'a'..=b'f' => Some(b - b'a' + 10),
+        _ => None,
     }
 }
 
 // A decimal number below 2^32.
-pub fn decimal(s: &[u8]) -> Read {
-    let mut v: u64 = 0;
-    let mut i: usize = 0;
-    while i < s.len() {
-        let d = digit(s[i]);
-        if 9 < d {
-            return unread();
-        }
-        if 429496729 < v {
-            return unread();
-        }
-        v = v * 10 + d as u64;
-        i += 1;
+pub fn decimal(s: &[u8]) -> Option<u32> {
+    if s.is_empty() {
+        return None;
     }
-    if i == 0 {
-        return unread();
+    let mut value: u32 = 0;
+    for b in s {
+        let digit = char::from(*b).to_digit(10)?;
+        value = value.checked_mul(10)?.checked_add(digit)?;
     }
-    if 0xFFFF_FFFF < v {
-        return unread();
-    }
-    Read {
-        good: true,
-        value: v as u32,
-    }
+    Some(value)
 }
 
 // A number, or "-" for 0.
-pub fn number(s: &[u8]) -> Read {
-    if is_only(s, b'-') {
-        return Read {
-            good: true,
-            value: 0,
-        };
+pub fn number(s: &[u8]) -> Option<u32> {
+    if s == b"-".as_slice() {
+        Some(0)
+    } else {
+        decimal(s)
     }
-    decimal(s)
 }
 
-fn unfilled(n: usize) -> Filled
-    ensures { result.n ≡ n }
+// Numbers with commas between them, or "-" for none, to the front of `out`. Answers how many.
+pub fn numbers(s: &[u8], out: &mut [u32]) -> Option<usize>
+    ensures { IfSome result (λ n. n ≤ length out.new) }
 {
-    Filled { good: false, n }
-}
-
-// Numbers with commas between them, or "-" for none, to the front of `out`.
-pub fn numbers(s: &[u8], out: &mut [u32]) -> Filled
-    ensures { result.n ≤ length out.new }
-{
-    if is_only(s, b'-') {
-        return Filled { good: true, n: 0 };
+    if s == b"-".as_slice() {
+        return Some(0);
     }
-    let mut at: usize = 0;
-    let mut n: usize = 0;
-    while n < out.len() {
-        let end = find(s, at, b',');
-        let r = decimal(&s[at..end]);
-        if !r.good {
-            return unfilled(0);
+    let mut n = 0;
+    for part in s.split(|b| *b == b',') {
+        if n == out.len() {
+            return None;
         }
-        out[n] = r.value;
+        out[n] = decimal(part)?;
         n += 1;
-        if end == s.len() {
-            return Filled { good: true, n };
-        }
-        at = end + 1;
     }
-    unfilled(0)
+    Some(n)
 }
 
-// Byte number i of a text in hexadecimal, or 256 where it has no such byte.
-fn byte(s: &[u8], i: usize) -> u32 {
-    if s.len() / 2 <= i {
-        return 256;
-    }
-    let high = digit(s[i * 2]);
-    let low = digit(s[i * 2 + 1]);
-    if high == 16 {
-        return 256;
-    }
-    if low == 16 {
-        return 256;
-    }
-    high * 16 + low
-}
-
-// A text in hexadecimal, into `out` from `at` on.
-fn hex(s: &[u8], out: &mut [u8], at: usize) -> Filled
+// A text in hexadecimal, into `out` from `at` on. Answers where it ends.
+fn hex(s: &[u8], out: &mut [u8], at: usize) -> Option<usize>
     requires { at ≤ length out.old }
-    ensures { (at ≤ result.n) × (result.n ≤ length out.new) }
+    ensures { IfSome result (λ end. (at ≤ end) × (end ≤ length out.new)) }
 {
-    if s.len() % 2 != 0 {
-        return unfilled(at);
-    }
-    let n = s.len() / 2;
-    let mut o = at;
-    let mut i: usize = 0;
-    while i < n {
-        let b = byte(s, i);
-        if 255 < b {
-            return unfilled(at);
+    let mut end = at;
+    for pair in s.chunks(2) {
+        let [high, low] = pair else {
+            return None;
+        };
+        if end == out.len() {
+            return None;
         }
-        if o == out.len() {
-            return unfilled(at);
-        }
-        out[o] = b as u8;
-        o += 1;
-        i += 1;
+        out[end] = digit(*high)? << 4 | digit(*low)?;
+        end += 1;
     }
-    Filled { good: true, n: o }
+    Some(end)
 }
 
-// The n bytes that stand in `out` from `at` on, once more from `to` on.
-fn once_more(out: &mut [u8], at: usize, n: usize, to: usize) -> Filled
-    requires n_bound { at + n ≤ to }
-    requires to_in_bounds { to ≤ length out.old }
-    ensures { (to ≤ result.n) × (result.n ≤ length out.new) }
-{
-    if out.len() - to < n {
-        return unfilled(to);
-    }
-    let mut i: usize = 0;
-    while i < n {
-        out[to + i] = out[at + i];
-        i += 1;
-    }
-    Filled {
-        good: true,
-        n: to + n,
-    }
-}
-
-// What stands in `out` from `at` up to `end`, `count` times in all.
-fn repeat(out: &mut [u8], at: usize, end: usize, count: u32) -> Filled
+// What stands in `out` from `at` up to `end`, `count` times in all. Answers where that ends.
+fn repeat(out: &mut [u8], at: usize, end: usize, count: u32) -> Option<usize>
     requires at_le_end { at ≤ end }
     requires end_in_bounds { end ≤ length out.old }
-    ensures { result.n ≤ length out.new }
+    ensures { IfSome result (λ to. to ≤ length out.new) }
 {
-    let mut o = end;
-    let mut k: u32 = 1;
-    while k < count {
-        let r = once_more(out, at, end - at, o);
-        if !r.good {
-            return unfilled(end);
+    let mut to = end;
+    for _ in 1..count {
+        if out.len() - to < end - at {
+            return None;
         }
-        o = r.n;
-        k += 1;
+        out.copy_within(at..end, to);
+        to += end - at;
     }
-    Filled { good: true, n: o }
+    Some(to)
 }
 
 // A part of a text: hexadecimal, and behind "*" how many times it stands there.
-fn part(s: &[u8], out: &mut [u8], at: usize) -> Filled
+fn part(s: &[u8], out: &mut [u8], at: usize) -> Option<usize>
     requires { at ≤ length out.old }
-    ensures { result.n ≤ length out.new }
+    ensures { IfSome result (λ end. end ≤ length out.new) }
 {
-    let star = find(s, 0, b'*');
-    let r = hex(&s[..star], out, at);
-    if !r.good {
-        return unfilled(at);
-    }
-    if star == s.len() {
-        return r;
-    }
-    let count = decimal(&s[star + 1..]);
-    if !count.good {
-        return unfilled(at);
-    }
-    repeat(out, at, r.n, count.value)
+    let Some(star) = s.iter().position(|b| *b == b'*') else {
+        return hex(s, out, at);
+    };
+    let end = hex(&s[..star], out, at)?;
+    let count = decimal(&s[star + 1..])?;
+    repeat(out, at, end, count)
 }
 
-// A text, parts with "+" between them or "-" for the empty one, to the front of `out`.
-pub fn text(s: &[u8], out: &mut [u8]) -> Filled
-    ensures { result.n ≤ length out.new }
+// A text, parts with "+" between them or "-" for the empty one, to the front of `out`. Answers how long it is.
+pub fn text(s: &[u8], out: &mut [u8]) -> Option<usize>
+    ensures { IfSome result (λ n. n ≤ length out.new) }
 {
-    if is_only(s, b'-') {
-        return Filled { good: true, n: 0 };
+    if s == b"-".as_slice() {
+        return Some(0);
     }
-    let mut at: usize = 0;
-    let mut n: usize = 0;
-    while at < s.len() {
-        let end = find(s, at, b'+');
-        let r = part(&s[at..end], out, n);
-        if !r.good {
-            return unfilled(0);
-        }
-        n = r.n;
-        if end == s.len() {
-            return Filled { good: true, n };
-        }
-        at = end + 1;
+    if s.is_empty() || s.ends_with(b"+") {
+        return None;
     }
-    unfilled(0)
+    let mut n = 0;
+    for piece in s.split(|b| *b == b'+') {
+        n = part(piece, out, n)?;
+    }
+    Some(n)
+}
+
+// Word i, or 0 where there is none.
+pub fn word(words: &[u32], i: usize) -> u32 {
+    words.get(i).copied().unwrap_or(0)
 }

@@ -1,43 +1,130 @@
-// The kinds of record: their numbers, names and how many numbers each has. 0 to 27 are the exported calls; 28 damages a table.
-use std::io;
-use std::io::Write;
+// The kinds of record: the exported calls, and one that damages a table.
+// Their names, and how many numbers each has.
 
-// No kind.
-pub const UNKNOWN: u32 = 29;
-
-// The names, in the order of their numbers.
-const NAMES: [u8; 303] =
-    *b"open remove reset relocate append_left append_right prepend_left prepend_right append prepend update_with trim trim_start trim_end trim_lines indent_with slice to_string last_line get_indent_string len len_utf16 line_count is_empty has_changed is_range_within_edited_chunk last_char well_formed set_word";
-
-fn is_named(kind: u32, s: &[u8]) -> bool {
-    replay_compare::same(crate::column(&NAMES, kind as usize), s)
+#[derive(Clone, Copy, PartialEq, Eq)]
+pub enum Kind {
+    Open,
+    Remove,
+    Reset,
+    Relocate,
+    AppendLeft,
+    AppendRight,
+    PrependLeft,
+    PrependRight,
+    Append,
+    Prepend,
+    UpdateWith,
+    Trim,
+    TrimStart,
+    TrimEnd,
+    TrimLines,
+    IndentWith,
+    Slice,
+    ToString,
+    LastLine,
+    GetIndentString,
+    Len,
+    LenUtf16,
+    LineCount,
+    IsEmpty,
+    HasChanged,
+    IsRangeWithinEditedChunk,
+    LastChar,
+    WellFormed,
+    SetWord,
 }
 
-// The kind with this name, or `UNKNOWN`.
-pub fn kind_of(s: &[u8]) -> u32 {
-    let mut kind: u32 = 0;
-    while kind < UNKNOWN {
-        if is_named(kind, s) {
-            return kind;
+// In the order in which they are told.
+pub const KINDS: [Kind; 29] = [
+    Kind::Open,
+    Kind::Remove,
+    Kind::Reset,
+    Kind::Relocate,
+    Kind::AppendLeft,
+    Kind::AppendRight,
+    Kind::PrependLeft,
+    Kind::PrependRight,
+    Kind::Append,
+    Kind::Prepend,
+    Kind::UpdateWith,
+    Kind::Trim,
+    Kind::TrimStart,
+    Kind::TrimEnd,
+    Kind::TrimLines,
+    Kind::IndentWith,
+    Kind::Slice,
+    Kind::ToString,
+    Kind::LastLine,
+    Kind::GetIndentString,
+    Kind::Len,
+    Kind::LenUtf16,
+    Kind::LineCount,
+    Kind::IsEmpty,
+    Kind::HasChanged,
+    Kind::IsRangeWithinEditedChunk,
+    Kind::LastChar,
+    Kind::WellFormed,
+    Kind::SetWord,
+];
+
+impl Kind {
+    pub fn name(self) -> &'static str {
+        match self {
+            Kind::Open => "open",
+            Kind::Remove => "remove",
+            Kind::Reset => "reset",
+            Kind::Relocate => "relocate",
+            Kind::AppendLeft => "append_left",
+            Kind::AppendRight => "append_right",
+            Kind::PrependLeft => "prepend_left",
+            Kind::PrependRight => "prepend_right",
+            Kind::Append => "append",
+            Kind::Prepend => "prepend",
+            Kind::UpdateWith => "update_with",
+            Kind::Trim => "trim",
+            Kind::TrimStart => "trim_start",
+            Kind::TrimEnd => "trim_end",
+            Kind::TrimLines => "trim_lines",
+            Kind::IndentWith => "indent_with",
+            Kind::Slice => "slice",
+            Kind::ToString => "to_string",
+            Kind::LastLine => "last_line",
+            Kind::GetIndentString => "get_indent_string",
+            Kind::Len => "len",
+            Kind::LenUtf16 => "len_utf16",
+            Kind::LineCount => "line_count",
+            Kind::IsEmpty => "is_empty",
+            Kind::HasChanged => "has_changed",
+            Kind::IsRangeWithinEditedChunk => "is_range_within_edited_chunk",
+            Kind::LastChar => "last_char",
+            Kind::WellFormed => "well_formed",
+            Kind::SetWord => "set_word",
         }
-        kind += 1;
     }
-    kind
-}
 
-// Writes the name of this kind, or nothing where there is no such kind.
-pub fn print_name<W: Write>(out: &mut W, kind: u32) -> io::Result<()> {
-    out.write_all(crate::column(&NAMES, kind as usize))
-}
+    // The kind with this name.
+    pub fn named(name: &[u8]) -> Option<Kind> {
+        KINDS
+            .iter()
+            .copied()
+            .find(|kind| kind.name().as_bytes() == name)
+    }
 
-// Whether a record of this kind has so many numbers.
-pub fn takes(kind: u32, n: usize) -> bool {
-    match kind {
-        8 | 9 | 14 => n == 0,
-        0 | 4..=7 | 11..=13 => n == 1,
-        1 | 2 | 25 => n == 2,
-        3 | 10 | 16 | 28 => n == 3,
-        15 => 0 < n,
-        _ => n == 0,
+    // Whether a record of this kind has so many numbers.
+    pub fn takes(self, n: usize) -> bool {
+        match self {
+            Kind::Open
+            | Kind::AppendLeft
+            | Kind::AppendRight
+            | Kind::PrependLeft
+            | Kind::PrependRight
+            | Kind::Trim
+            | Kind::TrimStart
+            | Kind::TrimEnd => n == 1,
+            Kind::Remove | Kind::Reset | Kind::IsRangeWithinEditedChunk => n == 2,
+            Kind::Relocate | Kind::UpdateWith | Kind::Slice | Kind::SetWord => n == 3,
+            Kind::IndentWith => 0 < n,
+            _ => n == 0,
+        }
     }
 }

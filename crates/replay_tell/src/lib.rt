@@ -3,14 +3,16 @@
 
 ghost use Rattle.std.specs.Prelude.{◌≡◌, ◌≤◌, length, IfErr};
 
+use replay_read::names::{KINDS, Kind};
+use replay_read::word;
 use std::io;
 use std::io::Write;
 
-// What came of a line: the record's kind and the number that the file has for it, what the call
-// gave, whether all agrees, and how long the source in use now is.
+// What came of a record: its kind and the number that the file has for it, what the call gave,
+// whether all agrees, and how long the source in use now is.
 #[derive(Clone, Copy)]
 pub struct Told {
-    pub kind: u32,
+    pub kind: Kind,
     pub expected: u32,
     pub number: u32,
     pub value: u32,
@@ -23,65 +25,41 @@ const DIFFER: usize = 512;
 
 const MALFORMED: usize = 1000;
 
-fn print<W: Write>(out: &mut W, text: &[u8]) -> io::Result<()> {
-    out.write_all(text)
-}
-
-fn print_number<W: Write>(out: &mut W, n: u32) -> io::Result<()> {
-    write!(out, "{n}")
-}
-
-fn word(t: &[u32], i: usize) -> u32 {
-    if i < t.len() {
-        return t[i];
-    }
-    0
-}
-
-fn count(t: &mut [u32], i: usize) {
-    if i < t.len() {
-        if t[i] < 0xFFFF_FFFF {
-            t[i] += 1;
-        }
+fn count(tally: &mut [u32], i: usize) {
+    if let Some(n) = tally.get_mut(i) {
+        *n = n.saturating_add(1);
     }
 }
 
-fn cell(kind: u32, number: u32) -> usize
+fn cell(kind: Kind, number: u32) -> usize
     ensures { result ≤ 73014444032 }
 {
     kind as usize * 16 + number as usize
 }
 
 fn print_difference<W: Write>(out: &mut W, line: u32, t: Told) -> io::Result<()> {
-    print(out, b"line ")?;
-    print_number(out, line)?;
-    print(out, b": ")?;
-    replay_read::names::print_name(out, t.kind)?;
-    print_gave(out, t)
+    let name = t.kind.name();
+    let number = t.number;
+    let value = t.value;
+    write!(
+        out,
+        "line {line}: {name} gave number {number} and value {value}, or its buffer or tables differ\n"
+    )
 }
 
-fn print_gave<W: Write>(out: &mut W, t: Told) -> io::Result<()> {
-    print(out, b" gave number ")?;
-    print_number(out, t.number)?;
-    print(out, b" and value ")?;
-    print_number(out, t.value)?;
-    print(out, b", or its buffer or tables differ\n")
-}
-
-fn print_malformed<W: Write>(out: &mut W, line: u32) -> io::Result<()> {
-    print(out, b"line ")?;
-    print_number(out, line)?;
-    print(out, b": no record\n")
-}
-
-// Counts what came of a line, and prints it if it is not as the file has it. The one error is the writer's; the line is counted then, too.
-pub fn tell<W: Write>(out: &mut W, line: u32, t: Told, tally: &mut [u32]) -> io::Result<()>
+// Counts what came of a line, nothing where it is no record, and prints it if it is not as the file has it. The one error is the writer's; the line is counted then, too.
+pub fn tell<W: Write>(
+    out: &mut W,
+    line: u32,
+    told: Option<Told>,
+    tally: &mut [u32],
+) -> io::Result<()>
     ensures { IfErr result (λ _. length tally.new ≡ length tally.old) }
 {
-    if t.kind == replay_read::names::UNKNOWN {
+    let Some(t) = told else {
         count(tally, MALFORMED);
-        return print_malformed(out, line);
-    }
+        return write!(out, "line {line}: no record\n");
+    };
     count(tally, cell(t.kind, t.expected));
     if !t.agrees {
         count(tally, DIFFER + cell(t.kind, t.expected));
@@ -91,42 +69,37 @@ pub fn tell<W: Write>(out: &mut W, line: u32, t: Told, tally: &mut [u32]) -> io:
 }
 
 // One kind and number: how many, and how many of them differ.
-fn print_cell<W: Write>(out: &mut W, tally: &[u32], kind: u32, number: u32) -> io::Result<()> {
+fn print_cell<W: Write>(out: &mut W, tally: &[u32], kind: Kind, number: u32) -> io::Result<()> {
     let n = word(tally, cell(kind, number));
     if n == 0 {
         return Ok(());
     }
-    print(out, b" ")?;
-    print_number(out, number)?;
-    print(out, b":")?;
-    print_number(out, n)?;
-    print_differ(out, word(tally, DIFFER + cell(kind, number)))
-}
-
-fn print_differ<W: Write>(out: &mut W, n: u32) -> io::Result<()> {
-    if n != 0 {
-        print(out, b" (")?;
-        print_number(out, n)?;
-        print(out, b" differ)")?;
+    write!(out, " {number}:{n}")?;
+    let differ = word(tally, DIFFER + cell(kind, number));
+    if differ != 0 {
+        write!(out, " ({differ} differ)")?;
     }
     Ok(())
 }
 
-fn print_kind<W: Write>(out: &mut W, tally: &[u32], kind: u32) -> io::Result<()> {
-    replay_read::names::print_name(out, kind)?;
+fn print_kind<W: Write>(out: &mut W, tally: &[u32], kind: Kind) -> io::Result<()> {
+    let name = kind.name();
+    write!(out, "{name}")?;
     for number in 0..16 {
         print_cell(out, tally, kind, number)?;
     }
-    print(out, b"\n")
+    write!(out, "\n")
 }
 
-// The calls of every kind with this number, from a place in the counts on.
+// The calls of every kind with this number, from a place in the counts on. A word that is set is no call.
 fn sum_number(tally: &[u32], from: usize, number: u32) -> u64
     requires { from ≤ 1000 }
 {
     let mut n: u64 = 0;
-    for kind in 0..28 {
-        n = n.wrapping_add(word(tally, from + cell(kind, number)) as u64);
+    for kind in KINDS {
+        if kind != Kind::SetWord {
+            n = n.wrapping_add(word(tally, from + cell(kind, number)) as u64);
+        }
     }
     n
 }
@@ -141,33 +114,28 @@ fn sum(tally: &[u32], from: usize) -> u64
     n
 }
 
-fn print_sums<W: Write>(out: &mut W, replayed: u64, differ: u64) -> io::Result<()> {
-    write!(out, "{replayed} replayed, {differ} differ")
-}
-
 fn print_of_number<W: Write>(out: &mut W, tally: &[u32], number: u32) -> io::Result<()> {
-    print(out, b"number ")?;
-    print_number(out, number)?;
-    print(out, b": ")?;
-    print_sums(
+    let replayed = sum_number(tally, 0, number);
+    let differ = sum_number(tally, DIFFER, number);
+    write!(
         out,
-        sum_number(tally, 0, number),
-        sum_number(tally, DIFFER, number),
-    )?;
-    print(out, b"\n")
+        "number {number}: {replayed} replayed, {differ} differ\n"
+    )
 }
 
 fn print_total<W: Write>(out: &mut W, tally: &[u32]) -> io::Result<()> {
-    print(out, b"calls: ")?;
-    print_sums(out, sum(tally, 0), sum(tally, DIFFER))?;
-    print(out, b"; lines that are no record: ")?;
-    print_number(out, word(tally, MALFORMED))?;
-    print(out, b"\n")
+    let replayed = sum(tally, 0);
+    let differ = sum(tally, DIFFER);
+    let malformed = word(tally, MALFORMED);
+    write!(
+        out,
+        "calls: {replayed} replayed, {differ} differ; lines that are no record: {malformed}\n"
+    )
 }
 
 // How many calls of each kind and number were replayed, and how many of them differ; then the same of each number, and of all.
 pub fn print_tally<W: Write>(out: &mut W, tally: &[u32]) -> io::Result<()> {
-    for kind in 0..replay_read::names::UNKNOWN {
+    for kind in KINDS {
         print_kind(out, tally, kind)?;
     }
     for number in 0..16 {

@@ -1,7 +1,8 @@
 -- What `is_range_within_edited_chunk` looks at.
 use Rattle.std.specs.Prelude.{ℕ, Bool, ◌&&◌, not, leb, eqb}
+use Rattle.memory_table.specs.Order.{Entry}
 use Rattle.memory_layout.specs.Layout.{NONE}
 
--- a chunk's row is edited and holds the range
-abbrev pub within : ℕ → ℕ → ℕ → ℕ → ℕ → Bool
-within a b text start end = (leb a start && leb end b) && not (eqb text NONE)
+-- a chunk is edited and holds the range
+abbrev pub within : Entry → ℕ → ℕ → Bool
+within e start end = (leb e.start start && leb end e.end) && not (eqb e.text.0 NONE)

@@ -1,57 +1,28 @@
 // The report `is_range_within_edited_chunk`. It requires a well-formed desk.
 #![tactic(auto)]
 
-ghost use Rattle.std.specs.Prelude.{◌≡◌, [], ◌<◌};
-ghost use Rattle.model.specs.Call.{is_range_within_edited_chunk as IsRange};
-ghost use Rattle.memory.specs.Layout.{magic_string_of};
-ghost use Rattle.memory.specs.WellFormed.{WellFormed};
+ghost use Rattle.std.specs.Prelude.{◌≡◌, []};
+ghost use Rattle.memory_table.specs.Order.{entry_of};
+ghost use Rattle.model.specs.Call.{bit, is_range_within_edited_chunk as IsRange};
+ghost use Rattle.memory_view.specs.View.{desk_of, IsWellFormed};
 ghost use Rattle.memory.specs.Calls.{Told};
 ghost use Rattle.report_edited_range.specs.Within.{within};
 
-use memory::Answer;
+use memory_list::rows::rows;
+use memory_table::Row;
+use memory_view::DeskView;
 
-// Whether a chunk from a up to b, with the replacement word text_at, is edited and holds the range.
-fn holds_range(a: u32, b: u32, text_at: u32, start: u32, end: u32) -> bool
-    ensures { result ≡ within a b text_at start end }
+// Whether a chunk is edited and holds the range.
+fn holds_range(row: Row, start: u32, end: u32) -> bool
+    ensures { result ≡ within (entry_of row) start end }
 {
-    if start < a {
-        return false;
-    }
-    if b < end {
-        return false;
-    }
-    text_at != memory_layout::NONE
+    row.start <= start && end <= row.end && row.text_at != memory_layout::NONE
 }
 
 // `is_range_within_edited_chunk`.
-pub fn is_range_within_edited_chunk<'a>(
-    source: &'a [u8],
-    chunks: &[u32],
-    pieces: &[u32],
-    store: &'a [u8],
-    start: u32,
-    end: u32,
-) -> Answer
-    requires { WellFormed source.now chunks.now pieces.now store.now }
-    ensures { Told (IsRange start end) (magic_string_of source.now chunks.now pieces.now store.now) [] [] result.number result.value }
+pub fn is_range_within_edited_chunk(desk: DeskView, start: u32, end: u32) -> bool
+    requires { IsWellFormed desk }
+    ensures { Told (IsRange start end) (desk_of desk.entry) [] [] 0 (bit result) }
 {
-    let z = memory_table::get_row(chunks, 0);
-    let n = z.start;
-    let mut k: u32 = 0;
-    let mut row = z.next;
-    while k < n {
-        let r = memory_table::get_row(chunks, row);
-        if holds_range(r.start, r.end, r.text_at, start, end) {
-            return Answer {
-                number: 0,
-                value: 1,
-            };
-        }
-        row = r.next;
-        k += 1;
-    }
-    Answer {
-        number: 0,
-        value: 0,
-    }
+    rows(desk.chunks).any(|(_, row)| holds_range(row, start, end))
 }

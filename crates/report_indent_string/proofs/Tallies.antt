@@ -1,25 +1,26 @@
 -- The lines of a text, and the tally over them.
 use mathlib.Core.Path.{◌≡◌, refl, ap, sym, ◌∙◌, subst}
-use mathlib.Core.Bool.{Bool, true, false, ◌&&◌, cond, true≢false, false≢true}
-use mathlib.Core.List.{List, [], ◌∷◌, ◌++◌, append_assoc}
+use mathlib.Core.Bool.{Bool, true, false, ◌&&◌, cond, false≢true}
+use mathlib.Core.List.{List, [], ◌∷◌, ◌++◌}
 use Prim.Native.Nat.{ℕ, zero, suc, ◌+◌, ◌-◌, ◌≤◌, ◌<◌, min}
 use native.Mathlib.Omega.{arith}
 use native.Mathlib.Numerals.{add-one}
 use native.Mathlib.Decide.{dec_lt}
 use lib.Dec.{eqb, leb}
-use lib.ListN.{length, get_or, take, drop, set, replicate, length-replicate, length-drop, replicate-append-replicate, drop_of_length-le}
-use lib.Seq.{drop-cons, drop-drop, set_at}
+use Rattle.std.proofs.lemmas.List.{get_or-take, get_or-drop}
+use lib.ListN.{length, get_or, take, drop, replicate, length-replicate, length-take, length-drop, drop_of_length-le}
+use lib.Seq.{drop-cons, drop-drop}
 use borrow.Author.Tests.{eq-eqb, ne_eqb, le-leb, lt-leb, eqb-true}
 use Rattle.utf8.proofs.Sequences.{both}
-use Rattle.model.specs.Text.{Text, TAB, LF, CR, SPACE, lines, onto_first}
+use Rattle.model.specs.Text.{Text, TAB, LF, CR, SPACE, lines, line_feeds, onto_first}
 use Rattle.model.specs.Indent.{tabbed, spaced, leading_spaces, count, least_spaces, get_indent_string}
 use Rattle.model.specs.Call.{show, get_indent_string as GetIndentString}
 use Rattle.model.proofs.Lists.{one_most}
 use Rattle.memory.specs.Layout.{magic_string_of}
 use Rattle.memory.specs.Calls.{Told}
-use Rattle.report_measures.specs.Measures.{feed_of}
 use Rattle.memory_fragments.proofs.Telling.{told_short, told_text}
 use Rattle.report_indent_string.specs.declared.Indentor.{Indentor}
+use Rattle.report_indent_string.specs.declared.Indentor.TheVariants.{Tab, Spaces}
 use Rattle.report_indent_string.specs.declared.Tally.{Tally}
 use Rattle.report_indent_string.specs.Lines.{behind_line, NoFeeds, Seeking, NextLine, Counts, Held, Places}
 use Rattle.report_indent_string.specs.Guess.{indentor_text, Guessed}
@@ -198,8 +199,8 @@ module _ (s : Text) (at i : ℕ) (c : Spacing s at i) where
       let e : leading_spaces (drop i s) ≡ suc (leading_spaces (drop (i + 1) s)) = rw add-one (ap leading_spaces (drop-cons s i 0 h) ∙ rw (eq-eqb (get_or s i 0) SPACE n)) in
       (omega (arith, c.0), omega arith, omega (arith, c.2))
 
-  pub spacing_done : length s ≤ i → i ≡ at + leading_spaces (drop at s)
-  spacing_done h = omega (arith, c.2, ap leading_spaces (drop_of_length-le s {i = i} h))
+  pub spacing_done : length s ≤ i → length s ≡ at + leading_spaces (drop at s)
+  spacing_done h = omega (arith, c.1, c.2, ap leading_spaces (drop_of_length-le s {i = i} h))
 
 module _ (s : Text) (at i : ℕ) (c : Seeking s at i) where
   pub seeking_met : i < length s → get_or s i 0 ≡ LF → NextLine s at (i + 1)
@@ -213,25 +214,21 @@ module _ (s : Text) (at i : ℕ) (c : Seeking s at i) where
   pub seeking_more : i < length s → (get_or s i 0 ≡ LF → ⊥) → Seeking s at (i + 1)
   seeking_more h n = (omega (arith, c.0), omega arith, rw add-one (sym (ap behind_line (drop-cons s i 0 h) ∙ rw (ne_eqb (get_or s i 0) LF n)) ∙ c.2))
 
-  pub seeking_done : length s ≤ i → NextLine s at i
+  pub seeking_done : length s ≤ i → NextLine s at (length s)
   seeking_done h =
       let e : drop i s ≡ [] = drop_of_length-le s {i = i} h in
-      record { left = e ∙ sym (ap behind_line e) ∙ c.2; inside = c.1; from = c.0; ahead = λ k. omega arith }
+      let q : drop (length s) s ≡ [] = drop_of_length-le s {i = length s} (omega arith) in
+      record { left = q ∙ sym (ap behind_line e) ∙ c.2; inside = omega arith; from = omega (arith, c.0, c.1); ahead = λ k. k }
 
 -- a block without a line feed
-pub feed_most : (b f : ℕ) → f ≡ feed_of b → f ≤ 1
-feed_most b f e = let h = by_test (λ x. cond x 1 0 ≤ 1) (eqb b LF) (λ _. omega arith) (λ _. omega arith) in omega (arith, e)
+no_feeds : (t : Text) → line_feeds t ≡ 0 → (j : ℕ) → j < length t → get_or t j 0 ≡ LF → ⊥
+no_feeds [] z j l e = omega arith
+no_feeds (a ∷ t) z zero l e = let k : eqb a LF ≡ true = eq-eqb a LF e in let y : line_feeds (a ∷ t) ≡ 1 + line_feeds t = rw k refl in omega arith
+no_feeds (a ∷ t) z (suc j) l e = no_feeds t (omega arith) j (omega arith) e
 
-pub no_feeds_more : (s : Text) (i j found f : ℕ) → (found ≡ 0 → NoFeeds s i j) → f ≡ feed_of (get_or s (i + j) 0) → found + f ≡ 0 → NoFeeds s i (j + 1)
-no_feeds_more s i j found f h e z k l q =
-    elim (dec_lt k j) [
-      | yes m ↦ h (omega arith) k m q
-      | no m ↦
-          let a : k ≡ j = omega arith in
-          let b : get_or s (i + j) 0 ≡ LF = ap (λ (x : ℕ). get_or s (i + x) 0) (sym a) ∙ q in
-          let d : f ≡ 1 = e ∙ rw (eq-eqb (get_or s (i + j) 0) LF b) in
-          omega arith
-    ]
+pub no_feeds_in : (s : Text) (i n : ℕ) → i + n ≤ length s → line_feeds (take n (drop i s)) ≡ 0 → NoFeeds s i n
+no_feeds_in s i n h z j l e =
+    no_feeds (take n (drop i s)) z j (simp (length-take, length-drop) (omega arith)) (get_or-take n (drop i s) j 0 l ∙ get_or-drop i s j 0 ∙ e)
 
 pub seeking_from : (s : Text) (at i k : ℕ) → Seeking s at i → Seeking s i k → Seeking s at k
 seeking_from s at i k c d = (omega (arith, c.0, d.0), d.1, d.2 ∙ c.2)
@@ -340,56 +337,47 @@ module _ {s : Text} {t : Tally} {i : ℕ} (c : Tallied s t i) where
     all_fewest : t.least ≡ least_spaces (length s) (lines s)
     all_fewest = sym (ap (λ (l : Text). least_spaces t.least (lines l)) none_left) ∙ c.fewest
 
-    pub guessed_tab : t.spaced ≤ t.tabbed → Guessed s (record { tab = true; spaces = 0; at = 0 })
+    pub guessed_tab : t.spaced ≤ t.tabbed → Guessed s Tab
     unfolding indentor_text get_indent_string
-    guessed_tab k = record { text = rw (le-leb (count spaced (lines s)) (count tabbed (lines s)) (omega (arith, all_tabs, all_spaced))); inside = omega arith; place = λ z. absurd (true≢false z) }
+    guessed_tab k = record {
+      text = rw (le-leb (count spaced (lines s)) (count tabbed (lines s)) (omega (arith, all_tabs, all_spaced)));
+      place = λ n at e. let z : ◌≡◌ {A = ℕ} 0 1 = cc e in absurd (omega arith);
+    }
 
-    pub guessed_spaces : t.tabbed < t.spaced → Guessed s (record { tab = false; spaces = t.least; at = t.at })
+    pub guessed_spaces : t.tabbed < t.spaced → Guessed s (Spaces t.least t.at)
     unfolding indentor_text get_indent_string
     guessed_spaces k =
         let text : replicate t.least SPACE ≡ get_indent_string s =
         rw (lt-leb (count spaced (lines s)) (count tabbed (lines s)) (omega (arith, all_tabs, all_spaced))) (ap (λ (n : ℕ). replicate n SPACE) all_fewest) in
         let some = c.held.some (omega arith) in
+        let n_is : (n at : ℕ) → Spaces t.least t.at ≡ Spaces n at → t.least ≡ n = λ n at e. cc e in
+        let at_is : (n at : ℕ) → Spaces t.least t.at ≡ Spaces n at → t.at ≡ at = λ n at e. cc e in
         record {
           text = text;
-          inside = omega (arith, c.held.inside, some, spaces_le (drop t.at s), length-drop t.at s);
-          place = λ _. spaces_taken t.least (drop t.at s) some ∙ text;
+          place = λ n at e.
+              rw (sym (n_is n at e), sym (at_is n at e))
+              (omega (arith, c.held.inside, some, spaces_le (drop t.at s), length-drop t.at s), spaces_taken t.least (drop t.at s) some ∙ text);
         }
 
 -- ---- the bytes of an indent
 
-module _ (g : Indentor) where
-  pub tab_text : g.tab ≡ true → indentor_text g ≡ TAB ∷ []
-  unfolding indentor_text
-  tab_text e = rw e
+pub tab_text : (g : Indentor) → g ≡ Tab → indentor_text g ≡ replicate 1 TAB
+unfolding indentor_text
+tab_text g e = rw e refl
 
-  pub spaces_text : g.tab ≡ false → indentor_text g ≡ replicate g.spaces SPACE
-  unfolding indentor_text
-  spaces_text e = rw e
+pub spaces_text : (g : Indentor) (n at : ℕ) → g ≡ Spaces n at → indentor_text g ≡ replicate n SPACE
+unfolding indentor_text
+spaces_text g n at e = rw e refl
 
-  pub spaces_length : g.tab ≡ false → length (indentor_text g) ≡ g.spaces
-  spaces_length e = ap length (spaces_text e) ∙ length-replicate g.spaces SPACE
+module _ (g : Indentor) (n b : ℕ) (e : indentor_text g ≡ replicate n b) where
+  pub text_length : length (indentor_text g) ≡ n
+  text_length = ap length e ∙ length-replicate n b
 
-  -- what writing it leaves
-  pub put_tab : g.tab ≡ true → (d o : Text) → o ≡ replicate 1 TAB ++ drop 1 d → o ≡ indentor_text g ++ drop (length (indentor_text g)) d
-  put_tab e d o h = h ∙ sym (ap (λ (x : Text). x ++ drop (length x) d) (tab_text e))
-
-  pub put_spaces : g.tab ≡ false → (d o : Text) → o ≡ replicate g.spaces SPACE ++ drop g.spaces d → o ≡ indentor_text g ++ drop (length (indentor_text g)) d
-  put_spaces e d o h =
-      h ∙ sym (ap (λ (x : Text). x ++ drop g.spaces d) (spaces_text e)) ∙ ap (λ (n : ℕ). indentor_text g ++ drop n d) (sym (spaces_length e))
-
--- a byte more
-pub fill_more : (d : Text) (b i : ℕ) (o : Text) → i < length d → o ≡ replicate i b ++ drop i d → set o i b ≡ replicate (i + 1) b ++ drop (i + 1) d
-fill_more d b i o h e =
-    let l : length (replicate i b) ≡ i = length-replicate i b in
-    ap (λ (x : Text). set x i b) (e ∙ ap (λ (x : Text). replicate i b ++ x) (drop-cons d i 0 h))
-    ∙ set_at (replicate i b) (get_or d i 0) (drop (suc i) d) b i l
-    ∙ sym (append_assoc (replicate i b) (b ∷ []) (drop (suc i) d))
-    ∙ ap (λ (x : Text). x ++ drop (suc i) d) (replicate-append-replicate i 1 b)
-    ∙ ap (λ (k : ℕ). replicate (i + 1) b ++ drop k d) (sym (add-one i))
-
-pub fill_all : (d : Text) (b n i : ℕ) (o : Text) → i ≤ n → n ≤ i → o ≡ replicate i b ++ drop i d → o ≡ replicate n b ++ drop n d
-fill_all d b n i o h k e = let q : i ≡ n = omega arith in e ∙ ap (λ (x : ℕ). replicate x b ++ drop x d) q
+  -- what writing it leaves: n bytes b, and what stands behind them
+  pub put_is : (out front : Text) → n ≤ length out → front ≡ replicate (length (take n out)) b → front ++ drop n out ≡ indentor_text g ++ drop (length (indentor_text g)) out
+  put_is out front h q =
+      let l : length (take n out) ≡ n = simp length-take (omega arith) in
+      ap (λ (x : Text). x ++ drop n out) (q ∙ ap (λ (k : ℕ). replicate k b) l ∙ sym e) ∙ ap (λ (k : ℕ). indentor_text g ++ drop k out) (sym text_length)
 
 -- ---- what the report tells
 

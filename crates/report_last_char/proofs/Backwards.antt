@@ -1,28 +1,27 @@
 -- Laws of the reports that go backwards over the output.
 use mathlib.Core.Path.{◌≡◌, refl, ap, sym, ◌∙◌, subst}
-use mathlib.Core.Bool.{true, ◌&&◌, not}
+use mathlib.Core.Bool.{true}
 use mathlib.Core.List.{List, [], ◌∷◌, ◌++◌, map, reverse, reverse-append, map-append}
 use mathlib.Core.Option.{Option, none, some}
 use Prim.Native.Nat.{ℕ, zero, suc, ◌+◌, ◌*◌, ◌-◌, ◌≤◌, ◌<◌}
 use native.Mathlib.Omega.{arith}
 use lib.ListN.{length, take, drop}
-use borrow.Author.Tests.{ltb-true}
-use lib.Dec.{ltb, leb}
+use borrow.Author.Tests.{ne_eqb}
+use lib.Dec.{eqb}
 use Rattle.memory_layout.specs.Layout.{ROW}
 use Rattle.utf8.specs.Rfc3629.{utf8, decode_at, code_of, LastStart}
 use Rattle.utf8.specs.Chars.{All, chars, code}
-use Rattle.utf8.proofs.Sequences.{both}
 use Rattle.utf8.proofs.Texts.{decode_drop, stops, end_past}
 use Rattle.utf8.proofs.CharLaws.{chars_last, all_front, all_back}
-use Rattle.utf8.proofs.Encoded.{decoded_bytes}
 use Rattle.utf8.proofs.Between.{utf8_drop}
+use Rattle.utf8.specs.declared.Decoded.{Decoded}
 use Rattle.utf8.specs.declared.Decoded.TheVariants.{Char, Invalid, End}
 use Rattle.memory_table.specs.declared.Row.{Row}
 use Rattle.memory_table.specs.Order.{Entry, entry_of, entries, count_of, prev_of, Linked}
 use Rattle.model.specs.Text.{Text, back, unwrap_or}
 use Rattle.model.specs.Chunk.{content}
 use Rattle.model.specs.MagicString.{last_code, last_of_pieces, or_else, last_of_chunks, last_char}
-use Rattle.model.specs.Call.{show, value_of, last_char as LastChar}
+use Rattle.model.specs.Call.{NO_CHAR, show, value_of, last_char as LastChar}
 use Rattle.model.specs.WellFormed.{Valid}
 use Rattle.model.proofs.Lists.{first_of, rest_of}
 use Rattle.memory.specs.Layout.{magic_string_of, run_of, tabulate, chunk_of, replacement_of, bytes_at, piece_at}
@@ -35,28 +34,15 @@ use Rattle.memory_fragments.proofs.Sections.{row_edge, row_last, row_in, section
 use Rattle.memory_fragments.proofs.Output.{ready}
 use Rattle.memory_fragments.proofs.Telling.{told_value}
 use Rattle.memory_fragments.proofs.Valid.{section_valid}
-use Rattle.report_last_char.specs.Last.{Gives, last_of}
+use Rattle.report_last_char.specs.Last.{last_of}
 
--- ---- a code point as a word
+-- ---- the first of two answers
 
-gives_none : (o : Option ℕ) (r : ℕ) → Gives o r → r ≡ 0xFFFF_FFFF → o ≡ none
-gives_none none r g e = refl
-gives_none (some v) r g e = absurd (omega (arith, g.0, g.1))
+pub first_some : {v : ℕ} {o : Option ℕ} (q : Option ℕ) → some v ≡ o → some v ≡ or_else o q
+first_some q e = ap (λ (x : Option ℕ). or_else x q) e
 
-gives_some : (o : Option ℕ) (r : ℕ) → Gives o r → (r ≡ 0xFFFF_FFFF → ⊥) → (o ≡ some r) × (r < 0xFFFF_FFFF)
-gives_some none r g e = absurd (e g)
-gives_some (some v) r g e = (ap some (sym g.0), omega (arith, g.0, g.1))
-
-pub gives_value : (o : Option ℕ) (r : ℕ) → Gives o r → unwrap_or o 0xFFFF_FFFF ≡ r
-gives_value none r g = sym g
-gives_value (some v) r g = sym g.0
-
--- the first of two that has one
-pub gives_first : (o q : Option ℕ) (r : ℕ) → Gives o r → (r ≡ 0xFFFF_FFFF → ⊥) → Gives (or_else o q) r
-gives_first o q r g e = let h = gives_some o r g e in rw h.0 (refl, h.1)
-
-pub gives_second : (o q : Option ℕ) (r r' : ℕ) → Gives o r → r ≡ 0xFFFF_FFFF → Gives q r' → Gives (or_else o q) r'
-gives_second o q r r' g e h = rw (gives_none o r g e) h
+pub first_none : {o : Option ℕ} (q : Option ℕ) → none ≡ o → q ≡ or_else o q
+first_none q e = ap (λ (x : Option ℕ). or_else x q) e
 
 -- ---- the last character of a text
 
@@ -64,10 +50,10 @@ back_snoc : {A : Type 0} (l : List A) (x : A) → back (l ++ (x ∷ [])) ≡ som
 back_snoc [] x = refl
 back_snoc (y ∷ l) x = rw (back_snoc l x)
 
-pub code_empty : (s : Text) → length s ≡ 0 → Gives (last_code s) 0xFFFF_FFFF
+pub code_empty : (s : Text) → true ≡ eqb (length s) 0 → none ≡ last_code s
 unfolding chars
 code_empty [] e = refl
-code_empty (a ∷ s) e = absurd (omega arith)
+code_empty (a ∷ s) e = let z : ◌≡◌ {A = ℕ} 0 1 = cc (e, ne_eqb (length (a ∷ s)) 0 (omega arith)) in absurd (omega arith)
 
 abbrev code_in : Option Text → Option ℕ
 code_in o = elim o [ none ↦ none | some c ↦ some (code c) ]
@@ -79,22 +65,20 @@ module _ (s : Text) (at : ℕ) (u : utf8 s ≡ true) (l : LastStart s at) where
   last_is : last_code s ≡ some (code (drop at s))
   last_is = ap code_in (ap back (chars_last s at u l) ∙ back_snoc (chars (take at s)) (drop at s))
 
-  pub code_last : (v w : ℕ) → decode_at s at ≡ Char v w → Gives (last_code s) v
+  pub code_last : (v w : ℕ) → decode_at s at ≡ Char v w → some v ≡ last_code s
   unfolding code
   code_last v w e =
       let q : code (drop at s) ≡ v = ap code_of (decode_drop s at l.inside ∙ e) in
-      let b = both (not (leb 0xD800 v && ltb v 0xE000)) (ltb v 0x110000) (decoded_bytes s at v w e).0 in
-      let n : v < 0x110000 = ltb-true v 0x110000 b.1 in
-      subst (λ (o : Option ℕ). Gives o v) (sym (last_is ∙ ap some q)) (refl, omega arith)
+      sym (last_is ∙ ap some q)
 
   valid_from : utf8 (drop at s) ≡ true
   valid_from = utf8_drop s at u l.starts
 
-  pub not_invalid : decode_at s at ≡ Invalid → ⊥
-  not_invalid e = let z : ◌≡◌ {A = ℕ} 0 1 = cc (stops s at l.inside e, valid_from) in omega arith
-
-  pub not_end : decode_at s at ≡ End → ⊥
-  not_end e = omega (arith, end_past s at e, l.inside)
+  -- a character stands there
+  pub code_other : (x : Decoded) → decode_at s at ≡ x → ((v w : ℕ) → x ≡ Char v w → ⊥) → none ≡ last_code s
+  code_other (Char v w) e n = absurd (n v w refl)
+  code_other Invalid e n = let z : ◌≡◌ {A = ℕ} 0 1 = cc (stops s at l.inside e, valid_from) in absurd (omega arith)
+  code_other End e n = absurd (omega (arith, end_past s at e, l.inside))
 
 -- ---- the last piece of a piece list
 
@@ -102,7 +86,7 @@ run_snoc : (p s : List ℕ) (at n k : ℕ) → n ≡ suc k → run_of p s (at, n
 run_snoc p s at n k e = rw e (run_tabulate p s at (suc k))
 
 module _ (p s : List ℕ) (at n : ℕ) where
-  pub run_none : n ≡ 0 → Gives (last_of_pieces (run_of p s (at, n))) 0xFFFF_FFFF
+  pub run_none : n ≡ 0 → none ≡ last_of_pieces (run_of p s (at, n))
   run_none e = rw (e, run_tabulate p s at 0) refl
 
   module _ (h : n ≡ 0 → ⊥) where
@@ -115,8 +99,8 @@ module _ (p s : List ℕ) (at n : ℕ) where
     pub run_valid : All Valid (run_of p s (at, n)) → utf8 (bytes_at s (piece_at p (at + (n - 1)))) ≡ true
     run_valid a = first_of (all_back Valid front _ (subst (All Valid) parts a))
 
-    pub run_last : (r : ℕ) → Gives (last_code (bytes_at s (piece_at p (at + (n - 1))))) r → Gives (last_of_pieces (run_of p s (at, n))) r
-    run_last r g = subst (λ (o : Option ℕ). Gives o r) (sym (ap char_code_of (ap back parts ∙ back_snoc front (bytes_at s (piece_at p (at + (n - 1))))))) g
+    pub run_last : last_code (bytes_at s (piece_at p (at + (n - 1)))) ≡ last_of_pieces (run_of p s (at, n))
+    run_last = sym (ap char_code_of (ap back parts ∙ back_snoc front (bytes_at s (piece_at p (at + (n - 1))))))
 
 -- ---- a row
 
@@ -132,29 +116,6 @@ module _ (source p s : List ℕ) (e : Entry) (a : All Valid (fragments_of source
 
   pub outro_valid : All Valid (run_of p s e.outro)
   outro_valid = rest_of behind
-
-module _ (source p s : List ℕ) (e : Entry) where
-  abbrev outro : Option ℕ
-  outro = last_of_pieces (run_of p s e.outro)
-
-  abbrev middle : Option ℕ
-  middle = last_code (content_at source s e.start e.end e.text)
-
-  abbrev intro : Option ℕ
-  intro = last_of_pieces (run_of p s e.intro)
-
-  pub row_outro : (a : ℕ) → Gives outro a → (a ≡ 0xFFFF_FFFF → ⊥) → Gives (last_of source p s e) a
-  row_outro a g h = gives_first outro (or_else middle intro) a g h
-
-  module _ (a : ℕ) (g : Gives outro a) (h : a ≡ 0xFFFF_FFFF) (x : Text) (q : x ≡ content_at source s e.start e.end e.text) (b : ℕ) (k : Gives (last_code x) b) where
-    content_gives : Gives middle b
-    content_gives = subst (λ (y : Text). Gives (last_code y) b) q k
-
-    pub row_content : (b ≡ 0xFFFF_FFFF → ⊥) → Gives (last_of source p s e) b
-    row_content n = gives_second outro (or_else middle intro) a b g h (gives_first middle intro b content_gives n)
-
-    pub row_intro : b ≡ 0xFFFF_FFFF → (d : ℕ) → Gives intro d → Gives (last_of source p s e) d
-    row_intro n d j = gives_second outro (or_else middle intro) a d g h (gives_second middle intro b d content_gives n j)
 
 -- ---- the sections, last to first
 
@@ -227,11 +188,11 @@ module _ (source t p s : List ℕ) (w : WellFormed source t p s) where
         rest_is = ap (last_to (section_last source t p s)) q ∙ last_all source t p s w.readable.linked;
       }
 
-  pub seeking_none : (left row : ℕ) → Seeking source t p s left row → left ≤ 0 → Told LastChar (magic_string_of source t p s) [] [] 0 0xFFFF_FFFF
+  pub seeking_none : (left row : ℕ) → Seeking source t p s left row → left ≤ 0 → Told LastChar (magic_string_of source t p s) [] [] 0 NO_CHAR
   unfolding show
   seeking_none left row k h =
       let z : left ≡ 0 = omega arith in
-      told_value LastChar (magic_string_of source t p s) 0xFFFF_FFFF (ap (λ (x : Option ℕ). value_of (unwrap_or x 0xFFFF_FFFF)) (sym k.rest_is ∙ ap (last_to (section_last source t p s)) z))
+      told_value LastChar (magic_string_of source t p s) NO_CHAR (ap (λ (x : Option ℕ). value_of (unwrap_or x NO_CHAR)) (sym k.rest_is ∙ ap (last_to (section_last source t p s)) z))
 
   module _ (left row : ℕ) (k : Seeking source t p s left row) (h : 0 < left) where
     suc_is : left ≡ suc (left - 1)
@@ -257,18 +218,16 @@ module _ (source t p s : List ℕ) (w : WellFormed source t p s) where
           ap (λ (e : Entry). or_else (last_of source p s e) (last_to (section_last source t p s) (left - 1))) entry
           ∙ sym (ap (last_to (section_last source t p s)) suc_is) ∙ k.rest_is
 
-      pub seeking_found : (v : ℕ) → Gives (last_of source p s (entry_of r)) v → (v ≡ 0xFFFF_FFFF → ⊥) → Told LastChar (magic_string_of source t p s) [] [] 0 v
+      pub seeking_found : (v : ℕ) → some v ≡ last_of source p s (entry_of r) → Told LastChar (magic_string_of source t p s) [] [] 0 v
       unfolding show
-      seeking_found v g n =
+      seeking_found v e =
           told_value LastChar (magic_string_of source t p s) v
-          (ap value_of (ap (λ (y : Option ℕ). unwrap_or y 0xFFFF_FFFF) (sym here)
-          ∙ gives_value (or_else (last_of source p s (entry_of r)) (last_to (section_last source t p s) (left - 1))) v
-          (gives_first (last_of source p s (entry_of r)) (last_to (section_last source t p s) (left - 1)) v g n)))
+          (ap (λ (y : Option ℕ). value_of (unwrap_or y NO_CHAR)) (sym (first_some (last_to (section_last source t p s) (left - 1)) e ∙ here)))
 
-      pub seeking_more : (v : ℕ) → Gives (last_of source p s (entry_of r)) v → v ≡ 0xFFFF_FFFF → Seeking source t p s (left - 1) r.prev
-      seeking_more v g n = record {
+      pub seeking_more : none ≡ last_of source p s (entry_of r) → Seeking source t p s (left - 1) r.prev
+      seeking_more e = record {
         below = omega (arith, k.below);
-        row_is = λ g e.
-            sr.prev ∙ ap (prev_of t) (k.row_is (left - 1) suc_is ∙ ap (row_no t) e) ∙ (row_edge t g w.readable.linked (omega (arith, k.below))).bwd;
-        rest_is = sym (ap (λ (x : Option ℕ). or_else x (last_to (section_last source t p s) (left - 1))) (gives_none (last_of source p s (entry_of r)) v g n)) ∙ here;
+        row_is = λ g q.
+            sr.prev ∙ ap (prev_of t) (k.row_is (left - 1) suc_is ∙ ap (row_no t) q) ∙ (row_edge t g w.readable.linked (omega (arith, k.below))).bwd;
+        rest_is = first_none (last_to (section_last source t p s) (left - 1)) e ∙ here;
       }

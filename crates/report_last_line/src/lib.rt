@@ -4,15 +4,15 @@
 ghost use Rattle.std.specs.Prelude.{◌≡◌, ◌++◌, ◌+◌, ◌≤◌, length, drop};
 ghost use Rattle.model.specs.MagicString.{last_line};
 ghost use Rattle.model.specs.Call.{last_line as LastLine};
-ghost use Rattle.memory.specs.Layout.{magic_string_of};
-ghost use Rattle.memory.specs.WellFormed.{WellFormed};
+ghost use Rattle.memory_view.specs.View.{desk_of, IsWellFormed};
 ghost use Rattle.memory.specs.Calls.{Told};
+ghost use Rattle.memory_layout.specs.Refusals.{number_of, value_of};
 ghost use Rattle.memory_texts.specs.Over.{Wrote};
-ghost use Rattle.report_last_line_start.specs.Line.{LineFrom};
+ghost use Rattle.report_last_line_start.specs.Line.{IsLineStart};
 
-use memory::Answer;
-use memory_fragments::Cursor;
-use memory_layout::numbers;
+use memory_fragments::Fragments;
+use memory_layout::refusal::Refusal;
+use memory_view::DeskView;
 use report_last_line_start::LineStart;
 
 // Writes a text from its byte `at` on into `out`, into what is left of it from o on. Returns the place behind.
@@ -27,60 +27,32 @@ fn put_from(out: &mut [u8], o: usize, text: &[u8], at: usize) -> usize
 }
 
 // Writes the last line to the front of `out`, from where it begins.
-fn write_line<'a>(
-    source: &'a [u8],
-    chunks: &[u32],
-    pieces: &[u32],
-    store: &'a [u8],
-    line: LineStart,
-    out: &mut [u8],
-)
-    requires well_formed { WellFormed source.now chunks.now pieces.now store.now }
-    requires line_from { LineFrom source.now chunks.now pieces.now store.now line.section line.row line.item line.at line.n }
+fn write_line(desk: DeskView, line: LineStart, out: &mut [u8])
+    requires well_formed { IsWellFormed desk }
+    requires line_from { IsLineStart desk line }
     requires n_in_bounds { line.n ≤ length out.old }
-    ensures { out.new ≡ last_line (magic_string_of source.now chunks.now pieces.now store.now)
-        ++ drop (length (last_line (magic_string_of source.now chunks.now pieces.now store.now))) out.old }
+    ensures { out.new ≡ last_line (desk_of desk.entry)
+        ++ drop (length (last_line (desk_of desk.entry))) out.old }
 {
-    let z = memory_table::get_row(chunks, 0);
-    let stop = z.start + 2;
-    let mut c = Cursor {
-        section: line.section,
-        row: line.row,
-        item: line.item,
-    };
     let mut at = line.at;
     let mut o: usize = 0;
-    while c.section < stop {
-        let t = memory_fragments::fragment(source, chunks, pieces, store, c);
+    for t in Fragments::from_place(desk, line.place) {
         o = put_from(out, o, t, at);
         at = 0;
-        c = memory_fragments::next(chunks, c);
     }
 }
 
 // `last_line`: 14 before a byte is written where the buffer is too short.
-pub fn last_line<'a>(
-    source: &'a [u8],
-    chunks: &[u32],
-    pieces: &[u32],
-    store: &'a [u8],
-    out: &mut [u8],
-) -> Answer
-    requires { WellFormed source.now chunks.now pieces.now store.now }
-    ensures { Told (LastLine (length out.old)) (magic_string_of source.now chunks.now pieces.now store.now)
-        out.old out.new result.number result.value }
+pub fn last_line(desk: DeskView, out: &mut [u8]) -> Result<u32, Refusal>
+    requires { IsWellFormed desk }
+    ensures { Told (LastLine (length out.old)) (desk_of desk.entry)
+        out.old out.new (number_of result) (value_of result) }
 {
-    let line = report_last_line_start::line_start(source, chunks, pieces, store);
+    let line = report_last_line_start::line_start(desk);
     let n = line.n;
     if out.len() < n as usize {
-        return Answer {
-            number: numbers::SHORT_BUFFER,
-            value: 0,
-        };
+        return Err(Refusal::ShortBuffer);
     }
-    write_line(source, chunks, pieces, store, line, out);
-    Answer {
-        number: 0,
-        value: n,
-    }
+    write_line(desk, line, out);
+    Ok(n)
 }

@@ -1,6 +1,6 @@
 -- Laws of the measures: of a text taken character by character, and that each is at most the length.
 use mathlib.Core.Path.{◌≡◌, refl, ap, sym, ◌∙◌}
-use mathlib.Core.Bool.{Bool, true, false, ◌&&◌, cond}
+use mathlib.Core.Bool.{Bool, true, false, not, ◌&&◌, cond}
 use mathlib.Core.List.{List, [], ◌∷◌, ◌++◌, reverse, flatten}
 use Prim.Native.Nat.{ℕ, ◌+◌, ◌≤◌}
 use native.Mathlib.Omega.{arith}
@@ -150,9 +150,9 @@ trimmed_nil s h =
     ap (λ (l : List Text). is_nil (concat (reverse (skip_while f (reverse l))))) (chars_concat ys a)
     ∙ concat_nil_is (reverse zs) (all_reverse b) ∙ reverse_nil zs ∙ skip_nil f (reverse ys) ∙ tests_reverse f ys ∙ skip_all f xs
 
-pub filled_is : (s : Text) → utf8 s ≡ true → filled_of s ≡ cond (white s) 0 1
+pub filled_is : (s : Text) → utf8 s ≡ true → filled_of s ≡ not (white s)
 unfolding filled_of
-filled_is s h = ap (λ (b : Bool). cond b 0 1) (trimmed_nil s h)
+filled_is s h = ap not (trimmed_nil s h)
 
 -- ---- at most the length
 

@@ -1,5 +1,5 @@
 -- What the reports count in one text.
-use Rattle.std.specs.Prelude.{ℕ, cond, leb, eqb, length}
+use Rattle.std.specs.Prelude.{ℕ, Bool, not, cond, leb, eqb, length}
 use Rattle.model.specs.Text.{Text, LF, is_nil, trim_white_space}
 use Rattle.model.specs.MagicString.{utf16_len}
 use Rattle.report_measures.specs.declared.Measure.{Measure}
@@ -12,9 +12,9 @@ feed_of b = cond (eqb b LF) 1 0
 abbrev pub units_of : ℕ → ℕ
 units_of v = cond (leb 0x10000 v) 2 1
 
--- 1 unless `trim` leaves nothing of the text
-unfoldable pub filled_of : Text → ℕ
-filled_of t = cond (is_nil (trim_white_space t)) 0 1
+-- `trim` leaves something of the text
+unfoldable pub filled_of : Text → Bool
+filled_of t = not (is_nil (trim_white_space t))
 
 abbrev pub measure_of : Measure → Text → ℕ
 measure_of Bytes t = length t

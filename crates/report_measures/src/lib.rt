@@ -29,10 +29,8 @@ pub fn line_feeds(t: &[u8]) -> u32
     ensures { result ≡ line_feeds t.now }
 {
     let mut n: u32 = 0;
-    let mut i: usize = 0;
-    while i < t.len() {
-        n += feed(t[i]);
-        i += 1;
+    for &b in t {
+        n += feed(b);
     }
     n
 }
@@ -52,44 +50,26 @@ pub fn utf16_len(t: &[u8]) -> u32
 {
     let mut n: u32 = 0;
     let mut i: usize = 0;
-    loop {
-        match utf8::decode(t, i) {
-            Decoded::Char { code, width } => {
-                n += units(code);
-                i += width;
-            }
-            Decoded::Invalid => {
-                return n;
-            }
-            Decoded::End => {
-                return n;
-            }
-        }
+    while let Decoded::Char { code, width } = utf8::decode(t, i) {
+        n += units(code);
+        i += width;
     }
+    n
 }
 
 // Whether a text has a character that is not white space: `!t.trim().is_empty()`.
-pub fn filled(t: &[u8]) -> u32
+pub fn filled(t: &[u8]) -> bool
     requires { isText t.now ≡ true }
     ensures { result ≡ filled_of t.now }
 {
     let mut i: usize = 0;
-    loop {
-        match utf8::decode(t, i) {
-            Decoded::Char { code, width } => {
-                if !utf8::is_white_space(code) {
-                    return 1;
-                }
-                i += width;
-            }
-            Decoded::Invalid => {
-                return 0;
-            }
-            Decoded::End => {
-                return 0;
-            }
+    while let Decoded::Char { code, width } = utf8::decode(t, i) {
+        if !utf8::is_white_space(code) {
+            return true;
         }
+        i += width;
     }
+    false
 }
 
 pub fn count(m: Measure, t: &[u8]) -> u32

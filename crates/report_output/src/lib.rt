@@ -4,80 +4,58 @@
 ghost use Rattle.std.specs.Prelude.{◌≡◌, [], ◌++◌, ◌+◌, ◌≤◌, ◌<◌, length, drop};
 ghost use Rattle.model.specs.MagicString.{to_string};
 ghost use Rattle.model.specs.Call.{to_string as ToString, len as Len, len_utf16 as LenUtf16};
-ghost use Rattle.memory.specs.Layout.{magic_string_of};
-ghost use Rattle.memory.specs.WellFormed.{WellFormed};
+ghost use Rattle.memory_view.specs.View.{desk_of, IsWellFormed};
 ghost use Rattle.memory.specs.Calls.{Told};
+ghost use Rattle.memory_layout.specs.Refusals.{number_of, value_of};
 
-use memory::Answer;
-use memory_layout::numbers;
+use memory_layout::refusal::Refusal;
+use memory_view::DeskView;
 use report_measures::Measure;
 
 // Writes the output to the front of `out`, section by section.
-pub fn write_output<'a>(
-    source: &'a [u8],
-    chunks: &[u32],
-    pieces: &[u32],
-    store: &'a [u8],
-    out: &mut [u8],
-)
-    requires well_formed { WellFormed source.now chunks.now pieces.now store.now }
-    requires store_in_bounds { length (to_string (magic_string_of source.now chunks.now pieces.now store.now)) ≤ length out.old }
-    ensures { out.new ≡ to_string (magic_string_of source.now chunks.now pieces.now store.now)
-        ++ drop (length (to_string (magic_string_of source.now chunks.now pieces.now store.now))) out.old }
+pub fn write_output(desk: DeskView, out: &mut [u8])
+    requires well_formed { IsWellFormed desk }
+    requires store_in_bounds { length (to_string (desk_of desk)) ≤ length out.old }
+    ensures { out.new ≡ to_string (desk_of desk.entry)
+        ++ drop (length (to_string (desk_of desk.entry))) out.old }
 {
-    let z = memory_table::get_row(chunks, 0);
+    let z = memory_table::get_row(desk.chunks, 0);
     let stop = z.start + 2;
-    let mut section: u32 = 0;
     let mut row: u32 = 0;
     let mut o: usize = 0;
-    while section < stop {
-        let r = memory_fragments::section_row(chunks, section, row);
-        o = memory_write_chunk::write_chunk(source, pieces, store, out, r, o);
+    for section in 0..stop {
+        let r = memory_fragments::section_row(desk.chunks, section, row);
+        o = memory_write_chunk::write_chunk(desk.source, desk.pieces, desk.store, out, r, o);
         row = r.next;
-        section += 1;
     }
 }
 
 // `to_string`: 14 before a byte is written where the buffer is too short.
-pub fn to_string<'a>(
-    source: &'a [u8],
-    chunks: &[u32],
-    pieces: &[u32],
-    store: &'a [u8],
-    out: &mut [u8],
-) -> Answer
-    requires { WellFormed source.now chunks.now pieces.now store.now }
-    ensures { Told (ToString (length out.old)) (magic_string_of source.now chunks.now pieces.now store.now)
-        out.old out.new result.number result.value }
+pub fn to_string(desk: DeskView, out: &mut [u8]) -> Result<u32, Refusal>
+    requires { IsWellFormed desk }
+    ensures { Told (ToString (length out.old)) (desk_of desk.entry)
+        out.old out.new (number_of result) (value_of result) }
 {
-    let n = report_totals::output_len(source, chunks, pieces, store);
+    let n = report_totals::output_len(desk);
     if out.len() < n as usize {
-        return Answer {
-            number: numbers::SHORT_BUFFER,
-            value: 0,
-        };
+        return Err(Refusal::ShortBuffer);
     }
-    write_output(source, chunks, pieces, store, out);
-    Answer {
-        number: 0,
-        value: n,
-    }
+    write_output(desk, out);
+    Ok(n)
 }
 
 // `len`: the bytes of the chunks, not of head and tail.
-pub fn len<'a>(source: &'a [u8], chunks: &[u32], pieces: &[u32], store: &'a [u8]) -> Answer
-    requires { WellFormed source.now chunks.now pieces.now store.now }
-    ensures { Told Len (magic_string_of source.now chunks.now pieces.now store.now) [] [] result.number result.value }
+pub fn len(desk: DeskView) -> u32
+    requires { IsWellFormed desk }
+    ensures { Told Len (desk_of desk.entry) [] [] 0 result }
 {
-    let value = report_totals::chunks_total(Measure::Bytes, source, chunks, pieces, store);
-    Answer { number: 0, value }
+    report_totals::chunks_total(Measure::Bytes, desk)
 }
 
 // `len_utf16`: the same in UTF-16 units.
-pub fn len_utf16<'a>(source: &'a [u8], chunks: &[u32], pieces: &[u32], store: &'a [u8]) -> Answer
-    requires { WellFormed source.now chunks.now pieces.now store.now }
-    ensures { Told LenUtf16 (magic_string_of source.now chunks.now pieces.now store.now) [] [] result.number result.value }
+pub fn len_utf16(desk: DeskView) -> u32
+    requires { IsWellFormed desk }
+    ensures { Told LenUtf16 (desk_of desk.entry) [] [] 0 result }
 {
-    let value = report_totals::chunks_total(Measure::Utf16, source, chunks, pieces, store);
-    Answer { number: 0, value }
+    report_totals::chunks_total(Measure::Utf16, desk)
 }

@@ -23,9 +23,9 @@ use Rattle.memory.specs.Calls.{Told, end_of}
 use Rattle.memory.proofs.Desks.{edited_is}
 use Rattle.memory_fragments.specs.Sections.{section, row_no}
 use Rattle.memory_fragments.proofs.Sections.{section_chunk, row_in, entries_drop}
-use Rattle.report_slice.specs.declared.SliceStart.TheVariants.{At, Nothing}
+use Rattle.std.specs.Prelude.{Some, None, Option as Answer}
 use Rattle.report_slice_walk.specs.Walk.{chunks_of, slice_walk, Gives}
-use Rattle.report_slice.specs.Seek.{span_starts_inside, Starts, FoundStart}
+use Rattle.report_slice.specs.Seek.{span_starts_inside, Starts, FoundStart, given}
 
 -- ---- where the slice begins
 
@@ -33,17 +33,17 @@ slice_is : (source t p s : List ℕ) (start end : ℕ) → slice start end (magi
 unfolding slice magic_string_of
 slice_is source t p s start end = refl
 
-pub given_nothing : (source t p s : List ℕ) (start end : ℕ) (d : List ℕ) → FoundStart t start end Nothing → Gives (sliced_into (length d) (slice start end (magic_string_of source t p s))) d d 0 0
+pub given_nothing : (source t p s : List ℕ) (start end : ℕ) (d : List ℕ) → FoundStart t start end None → Gives (sliced_into (length d) (slice start end (magic_string_of source t p s))) d d 0 0
 unfolding FoundStart
 given_nothing source t p s start end d f =
     let e : slice start end (magic_string_of source t p s) ≡ text [] = slice_is source t p s start end ∙ ap (slice_from source start end) (f p s) in
     subst (λ (x : Sliced). Gives (sliced_into (length d) x) d d 0 0) (sym e) (rw (le-leb 0 (length d) (omega arith)) (record { number_is = refl; value_is = refl; written = refl }))
 
-starts_of : {t : List ℕ} {start end k row : ℕ} → FoundStart t start end (At k row) → Starts t start end k row
+starts_of : {t : List ℕ} {start end k row : ℕ} → FoundStart t start end (Some (record { chunk = k; row = row })) → Starts t start end k row
 unfolding FoundStart
 starts_of f = f
 
-module _ (source t p s : List ℕ) (start end k row : ℕ) (found : FoundStart t start end (At k row)) (l : Linked t) where
+module _ (source t p s : List ℕ) (start end k row : ℕ) (found : FoundStart t start end (Some (record { chunk = k; row = row }))) (l : Linked t) where
   f : Starts t start end k row
   f = starts_of found
 
@@ -118,21 +118,26 @@ module _ (source t p s : List ℕ) (start end : ℕ) (d : List ℕ) where
   unfolding show magic_string_of
   shown_none e = ap (λ (x : Bool). cond (not (x && true)) (refusal 3) (sliced_into (length d) (slice start (length source) m))) e
 
-  shown_3 : (b : Bool) → between source start ≡ false → show (Slice start (end_of b end) (length d)) m ≡ refusal 3
+  shown_3 : (o : Answer ℕ) → between source start ≡ false → show (Slice start (given o) (length d)) m ≡ refusal 3
   unfolding show magic_string_of
-  shown_3 true e = ap (λ (x : Bool). cond (not (x && (between source end && true))) (refusal 3) (sliced_into (length d) (slice start end m))) e
-  shown_3 false e = ap (λ (x : Bool). cond (not (x && true)) (refusal 3) (sliced_into (length d) (slice start (length source) m))) e
+  shown_3 (Some v) e = ap (λ (x : Bool). cond (not (x && (between source v && true))) (refusal 3) (sliced_into (length d) (slice start v m))) e
+  shown_3 None e = ap (λ (x : Bool). cond (not (x && true)) (refusal 3) (sliced_into (length d) (slice start (length source) m))) e
 
-  pub told_3_start : (b : Bool) → between source start ≡ false → Told (Slice start (end_of b end) (length d)) m d d 3 0
-  told_3_start b e = told start (end_of b end) m d d 3 0 (refusal 3) (shown_3 b e) (gives_3 d)
+  pub told_3_start : (o : Answer ℕ) → between source start ≡ false → Told (Slice start (given o) (length d)) m d d 3 0
+  told_3_start o e = told start (given o) m d d 3 0 (refusal 3) (shown_3 o e) (gives_3 d)
 
-  pub told_3_end : (b : Bool) → b ≡ true → between source start ≡ true → between source end ≡ false → Told (Slice start (end_of b end) (length d)) m d d 3 0
-  told_3_end b q e f = rw q (told start (some end) m d d 3 0 (refusal 3) (shown_some false e f) (gives_3 d))
+  pub told_3_end : (o : Answer ℕ) → o ≡ Some end → between source start ≡ true → between source end ≡ false → Told (Slice start (given o) (length d)) m d d 3 0
+  told_3_end o q e f = rw q (told start (some end) m d d 3 0 (refusal 3) (shown_some false e f) (gives_3 d))
 
-  pub told_end : (b : Bool) (d' : List ℕ) (number value : ℕ) → b ≡ true → between source start ≡ true → between source end ≡ true
-      → Gives (sliced_into (length d) (slice start end m)) d d' number value → Told (Slice start (end_of b end) (length d)) m d d' number value
-  told_end b d' number value q e f g = rw q (told start (some end) m d d' number value _ (shown_some true e f) g)
+  pub told_end : (o : Answer ℕ) (d' : List ℕ) (number value : ℕ) → o ≡ Some end → between source start ≡ true → between source end ≡ true
+      → Gives (sliced_into (length d) (slice start end m)) d d' number value → Told (Slice start (given o) (length d)) m d d' number value
+  told_end o d' number value q e f g = rw q (told start (some end) m d d' number value _ (shown_some true e f) g)
 
-  pub told_all : (b : Bool) (d' : List ℕ) (number value : ℕ) → b ≡ false → between source start ≡ true
-      → Gives (sliced_into (length d) (slice start (length source) m)) d d' number value → Told (Slice start (end_of b end) (length d)) m d d' number value
-  told_all b d' number value q e g = rw q (told start none m d d' number value _ (shown_none e) g)
+  pub told_all : (o : Answer ℕ) (d' : List ℕ) (number value : ℕ) → o ≡ None → between source start ≡ true
+      → Gives (sliced_into (length d) (slice start (length source) m)) d d' number value → Told (Slice start (given o) (length d)) m d d' number value
+  told_all o d' number value q e g = rw q (told start none m d d' number value _ (shown_none e) g)
+
+-- a flag and an end, as one option
+pub given_is : (b : Bool) (e : ℕ) → given (cond b (Some e) None) ≡ end_of b e
+given_is true e = refl
+given_is false e = refl

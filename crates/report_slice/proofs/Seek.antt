@@ -15,7 +15,7 @@ use Rattle.model.specs.Slice.{contains_end, find_start, from, nothing, Start}
 use Rattle.memory.specs.Layout.{chunk_of}
 use Rattle.memory_fragments.specs.Sections.{section, row_no}
 use Rattle.memory_fragments.proofs.Sections.{row_edge, row_first, row_in, section_chunk, entries_drop, entries_end}
-use Rattle.report_slice.specs.declared.SliceStart.TheVariants.{At, Nothing}
+use Rattle.std.specs.Prelude.{Some, None}
 use Rattle.report_slice_chunk.specs.Given.{holds_end}
 use Rattle.report_slice_walk.specs.Walk.{chunks_of}
 use Rattle.report_slice_walk.proofs.Walk.{contains_is}
@@ -53,7 +53,7 @@ seek_none t start end n row l e r = record {
 }
 
 module _ {t : List ℕ} {start end n k row : ℕ} (c : Seeking t start end n k row) (l : Linked t) where
-  pub seek_done : n ≤ k → FoundStart t start end Nothing
+  pub seek_done : n ≤ k → FoundStart t start end None
   unfolding FoundStart
   seek_done h p s = c.find p s ∙ ap (λ (x : List Entry). find_start start end (chunks_of p s x)) (entries_end t k l (omega (arith, c.count_is)))
 
@@ -77,7 +77,7 @@ module _ {t : List ℕ} {start end n k row : ℕ} (c : Seeking t start end n k r
       end_entry : (p s : List ℕ) → holds_end r.start r.end end ≡ contains_end (chunk_of p s (section t (suc k))) end
       end_entry p s = ap (λ (x : Entry). holds_end x.start x.end end) seek_entry ∙ sym (contains_is p s (section t (suc k)) end)
 
-      pub seek_found : misses start r.start r.end ≡ false → FoundStart t start end (At k row)
+      pub seek_found : misses start r.start r.end ≡ false → FoundStart t start end (Some (record { chunk = k; row = row }))
       unfolding FoundStart
       seek_found m = record {
         inside = inside;
@@ -86,7 +86,7 @@ module _ {t : List ℕ} {start end n k row : ℕ} (c : Seeking t start end n k r
         find = λ p s. split p s ∙ find_here start end (chunk_of p s (section t (suc k))) _ (sym at_entry ∙ m);
       }
 
-      pub seek_stop : misses start r.start r.end ≡ true → holds_end r.start r.end end ≡ true → FoundStart t start end Nothing
+      pub seek_stop : misses start r.start r.end ≡ true → holds_end r.start r.end end ≡ true → FoundStart t start end None
       unfolding FoundStart
       seek_stop m f p s = split p s ∙ find_stop start end (chunk_of p s (section t (suc k))) _ (sym at_entry ∙ m) (sym (end_entry p s) ∙ f)
 

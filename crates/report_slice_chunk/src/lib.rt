@@ -18,12 +18,10 @@ fn emit(out: &mut [u8], o: usize, t: &[u8], write: bool) -> usize
     requires { Room write out.old o (length t.now) }
     ensures { Emitted write out.old o t.now out.new result }
 {
-    let end = o + t.len();
     if write {
         memory_texts::put(&mut out[o..], t);
-        return end;
     }
-    end
+    o + t.len()
 }
 
 // The same for a piece list.
@@ -42,12 +40,10 @@ fn emit_run(
 {
     let first = at as usize;
     let count = n as usize;
-    let mut i = 0;
     let mut o = place;
-    while i < count {
+    for i in 0..count {
         let t = memory_texts::text_of(pieces, store, first + i);
         o = emit(out, o, t, write);
-        i += 1;
     }
     o
 }
@@ -59,29 +55,19 @@ fn shown(n: u32, yes: bool) -> u32
     if yes { n } else { 0 }
 }
 
-// a - b, or 0 where that is negative.
-fn less(a: usize, b: usize) -> usize
-    ensures { result ≡ a - b }
-{
-    if b <= a { a - b } else { 0 }
-}
-
 // The bytes of t from a up to b; none where the range is reversed.
 fn part<'a>(t: &'a [u8], a: usize, b: usize) -> &'a [u8]
     requires { b ≤ length t.now }
     ensures { result.now ≡ part_of a b t.now }
 {
-    if a < b {
-        return &t[a..b];
-    }
-    &t[0..0]
+    t.get(a..b).unwrap_or(&[])
 }
 
 // Whether a chunk holds the end.
 pub fn contains_end(start: u32, stop: u32, end: u32) -> bool
     ensures { result ≡ holds_end start stop end }
 {
-    if start < end { end <= stop } else { false }
+    start < end && end <= stop
 }
 
 // What a chunk gives of its content, from `from` on.
@@ -92,17 +78,18 @@ fn slice_content<'a>(source: &'a [u8], store: &'a [u8], row: Row, from: u32, end
 {
     let t = memory_texts::content(source, store, row.start, row.end, row.text_at, row.text_n);
     if contains_end(row.start, row.end, end) {
-        let to = less(t.len(), less(row.end as usize, end as usize));
+        // a replacement may be shorter than what stands behind the end
+        let to = t.len().saturating_sub((row.end - end) as usize);
         return part(t, from as usize, to);
     }
     part(t, from as usize, t.len())
 }
 
 // The first parts of a chunk's slice: its intro, and what it gives of its content.
-fn chunk_front<'a>(
-    source: &'a [u8],
+fn chunk_front(
+    source: &[u8],
     pieces: &[u32],
-    store: &'a [u8],
+    store: &[u8],
     out: &mut [u8],
     row: Row,
     with_intro: bool,
@@ -126,17 +113,14 @@ fn chunk_front<'a>(
 fn shown_outro(n: u32, start: u32, stop: u32, end: u32) -> u32
     ensures { result ≡ cond (Rattle.report_slice_chunk.specs.Given.shows_outro start stop end) n 0 }
 {
-    if contains_end(start, stop, end) {
-        return shown(n, stop == end);
-    }
-    n
+    shown(n, !contains_end(start, stop, end) || stop == end)
 }
 
 // What a chunk gives.
-pub fn chunk_slice<'a>(
-    source: &'a [u8],
+pub fn chunk_slice(
+    source: &[u8],
     pieces: &[u32],
-    store: &'a [u8],
+    store: &[u8],
     out: &mut [u8],
     row: Row,
     with_intro: bool,

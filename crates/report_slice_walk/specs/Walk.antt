@@ -1,6 +1,6 @@
 -- The second loop of slice.rs over a desk in lent memory.
-use Rattle.std.specs.Prelude.{◌≡◌, Bool, true, false, ◌&&◌, not, List, [], ◌∷◌, ◌++◌, map, ℕ, ◌≤◌, eqb, length, drop}
-use Rattle.memory_table.specs.Order.{Entry}
+use Rattle.std.specs.Prelude.{◌≡◌, Bool, true, false, ◌&&◌, not, List, [], ◌∷◌, ◌++◌, map, ℕ, suc, ◌≤◌, ◌<◌, eqb, length, drop}
+use Rattle.memory_table.specs.Order.{Entry, entries, count_of}
 use Rattle.model.specs.Text.{Text}
 use Rattle.model.specs.Chunk.{Chunk}
 use Rattle.model.specs.Slice.{contains_end, chunk_slice, Sliced, text, refused, ends_inside, before, slice_rest}
@@ -8,7 +8,10 @@ use Rattle.model.specs.Call.{Shown}
 use Rattle.report_slice_chunk.specs.Emit.{over_if}
 use Rattle.memory.specs.Layout.{chunk_of}
 use Rattle.memory_layout.specs.Layout.{NONE}
+use Rattle.memory_view.specs.declared.DeskView.{DeskView}
+use Rattle.memory_fragments.specs.Sections.{row_no}
 use Rattle.report_slice_chunk.specs.Given.{holds_end}
+use Rattle.report_slice_walk.specs.declared.SliceRange.{SliceRange}
 
 abbrev pub chunks_of : List ℕ → List ℕ → List Entry → List Chunk
 chunks_of p s es = map (chunk_of p s) es
@@ -25,6 +28,14 @@ slice_walk source with_intro begin end (c ∷ cs) =
       | true ↦ refused 12
       | false ↦ before (chunk_slice source with_intro begin end c) (elim (contains_end c end) [ true ↦ text [] | false ↦ slice_rest source end cs ])
     ]
+
+-- the first chunk is one of the list, with its row
+abbrev pub IsRange : DeskView → SliceRange → Type 0
+IsRange v r = (r.chunk < count_of v.chunks.now) × (r.row ≡ row_no v.chunks.now (suc r.chunk))
+
+-- what the chunks of a desk give on a range
+abbrev pub walked : DeskView → SliceRange → Sliced
+walked v r = slice_walk v.source.now r.with_intro r.begin r.end (chunks_of v.pieces.now v.store.now (drop r.chunk (entries v.chunks.now)))
 
 -- it is a text that fits the buffer
 abbrev pub Fits : Sliced → List ℕ → Type 0

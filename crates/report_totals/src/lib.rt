@@ -2,82 +2,44 @@
 #![tactic(auto)]
 
 ghost use Rattle.std.specs.Prelude.{◌≡◌, ◌+◌, ◌≤◌, ◌<◌, length};
-ghost use Rattle.memory_table.specs.Order.{count_of};
+ghost use Rattle.utf8.specs.Chars.{All};
 ghost use Rattle.model.specs.Text.{sum};
+ghost use Rattle.model.specs.WellFormed.{Valid};
 ghost use Rattle.model.specs.MagicString.{to_string};
-ghost use Rattle.memory.specs.Layout.{magic_string_of};
-ghost use Rattle.memory.specs.WellFormed.{WellFormed};
+ghost use Rattle.memory_view.specs.View.{desk_of, IsWellFormed};
 ghost use Rattle.report_measures.specs.Measures.{measure_of};
-ghost use Rattle.memory_fragments.specs.Sections.{On, rest};
+ghost use Rattle.memory_fragments.specs.Output.{most_output};
 ghost use Rattle.report_totals.specs.Totals.{OfChunks};
 
-use memory_fragments::Cursor;
+use memory_fragments::Fragments;
+use memory_view::DeskView;
 use report_measures::Measure;
 
-// The sum of a measure over the fragments from a place up to the section `stop`.
-fn total<'a>(
-    m: Measure,
-    source: &'a [u8],
-    chunks: &[u32],
-    pieces: &[u32],
-    store: &'a [u8],
-    first: Cursor,
-    stop: u32,
-) -> u32
-    requires well_formed { WellFormed source.now chunks.now pieces.now store.now }
-    requires on { On chunks.now first.section first.row first.item }
-    requires item_value { (first.item ≡ 0) × (first.section ≤ stop) × (stop ≤ count_of chunks.now + 2) }
-    ensures { result + sum (measure_of m) (rest source.now chunks.now pieces.now store.now stop 0)
-        ≡ sum (measure_of m) (rest source.now chunks.now pieces.now store.now first.section first.item) }
+// The sum of a measure over some fragments.
+fn total(m: Measure, texts: Fragments<'_>) -> u32
+    requires valid { All Valid texts }
+    requires short { sum length texts ≤ most_output }
+    ensures { result ≡ sum (measure_of m) texts.entry }
 {
     let mut n: u32 = 0;
-    let mut c = first;
-    while c.section < stop {
-        let t = memory_fragments::fragment(source, chunks, pieces, store, c);
+    for t in texts {
         n += report_measures::count(m, t);
-        c = memory_fragments::next(chunks, c);
     }
     n
 }
 
 // `output_len`: the bytes of the whole output.
-pub fn output_len<'a>(source: &'a [u8], chunks: &[u32], pieces: &[u32], store: &'a [u8]) -> u32
-    requires { WellFormed source.now chunks.now pieces.now store.now }
-    ensures { result ≡ length (to_string (magic_string_of source.now chunks.now pieces.now store.now)) }
+pub fn output_len(desk: DeskView) -> u32
+    requires { IsWellFormed desk }
+    ensures { result ≡ length (to_string (desk_of desk.entry)) }
 {
-    let z = memory_table::get_row(chunks, 0);
-    let first = Cursor {
-        section: 0,
-        row: 0,
-        item: 0,
-    };
-    total(
-        Measure::Bytes,
-        source,
-        chunks,
-        pieces,
-        store,
-        first,
-        z.start + 2,
-    )
+    total(Measure::Bytes, Fragments::new(desk))
 }
 
 // A measure over the chunks alone, without head and tail.
-pub fn chunks_total<'a>(
-    m: Measure,
-    source: &'a [u8],
-    chunks: &[u32],
-    pieces: &[u32],
-    store: &'a [u8],
-) -> u32
-    requires { WellFormed source.now chunks.now pieces.now store.now }
-    ensures { OfChunks m (magic_string_of source.now chunks.now pieces.now store.now) result }
+pub fn chunks_total(m: Measure, desk: DeskView) -> u32
+    requires { IsWellFormed desk }
+    ensures { OfChunks m (desk_of desk.entry) result }
 {
-    let z = memory_table::get_row(chunks, 0);
-    let first = Cursor {
-        section: 1,
-        row: z.next,
-        item: 0,
-    };
-    total(m, source, chunks, pieces, store, first, z.start + 1)
+    total(m, Fragments::of_chunks(desk))
 }

@@ -16,8 +16,8 @@ use Rattle.model_sheet.specs.Sheet.{MOST_LINE, line, lines}
 use Rattle.model_sheet.proofs.Lists.{all_get}
 use Rattle.model_sheet.proofs.Whole.{kind_most, whole_of}
 use Rattle.model_sheet.proofs.Records.{Reads, done, next, reads}
-use Rattle.sheet_records.specs.Found.{recorded, Taken, Counted}
-use Rattle.sheet_records.proofs.Walk.{records_past, records_bad, records_taken}
+use Rattle.sheet_records.specs.Found.{Taken, Counted}
+use Rattle.sheet_records.proofs.Walk.{records_taken, not_none as none_there}
 use Rattle.sheet_lines.specs.Lines.{PutText, PutLines}
 use Rattle.sheet_lines.proofs.Lines.{line_most, put_then}
 
@@ -60,15 +60,12 @@ printing_none s n answers d h =
 
 module _ {s : List ℕ} {n : ℕ} {answers d d' : List ℕ} {at i end : ℕ} (p : Printing s n answers d d' at i end) where
   -- a record stands there as long as lines are left
-  pub not_bad : {X : Type 0} → at < length s → next_record (drop at s) ≡ none → X
-  not_bad h e = let bad = records_bad s at h e in let are = p.are in let z : ◌≡◌ {A = ℕ} 0 1 = cc in absurd (omega arith)
-
-  pub not_end : {X : Type 0} → i < n → length s ≤ at → X
-  not_end l h =
-      let past = records_past s at h in
-      let are = p.are in
-      let nothing : p.left ≡ [] = cc in
-      absurd (omega (arith, p.count, ap length nothing))
+  pub not_none : {X : Type 0} → i < n → next_record (drop at s) ≡ none → X
+  not_none l e = go p.left refl
+    where
+      go : {X : Type 0} (l : List Recorded) → p.left ≡ l → X
+      go [] q = absurd (omega (arith, p.count, ap length q))
+      go (r ∷ l) q = none_there s at (record { one = r; rest = l; are = p.are ∙ ap {B = Option (List Recorded)} some q }) e
 
   pub printing_done : n ≤ i → PutLines s n answers d d' end
   unfolding lines
@@ -88,11 +85,11 @@ module _ {s : List ℕ} {n : ℕ} {answers d d' : List ℕ} {at i end : ℕ} (p 
       empty [] e = refl
       empty (r ∷ l) e = absurd (omega arith)
 
-  module _ {kind a b c text_at next : ℕ} (g : Taken s at kind a b c text_at next) where
+  module _ {r : Recorded} {next : ℕ} (g : Taken s at r next) where
     -- the record there, and those behind it
     record Split : Type 0 where
       behind : List Recorded
-      first : p.left ≡ recorded s kind a b c text_at next ∷ behind
+      first : p.left ≡ r ∷ behind
       onward : records (drop next s) ≡ some behind
 
     split : Split
@@ -102,11 +99,11 @@ module _ {s : List ℕ} {n : ℕ} {answers d d' : List ℕ} {at i end : ℕ} (p 
         go none e = let taken = records_taken g in let are = p.are in let z : ◌≡◌ {A = ℕ} 0 1 = cc in absurd (omega arith)
         go (some m) e = let taken = records_taken g in let are = p.are in record { behind = m; first = cc; onward = e }
 
-    pub kind_below : kind < 10
+    pub kind_below : r.kind < 10
     kind_below = first_of (subst (All (λ r. r.kind < 10)) split.first (kinds_below (reads p.are)))
 
     pub printing_more : {d'' : List ℕ} {end' : ℕ} → n ≤ length answers → MOST_LINE * n ≤ length d → i < n
-        → PutText d' end (line kind (get_or answers i 0)) d'' end' → length d'' ≡ length d' → Printing s n answers d d'' next (i + 1) end'
+        → PutText d' end (line r.kind (get_or answers i 0)) d'' end' → length d'' ≡ length d' → Printing s n answers d d'' next (i + 1) end'
     unfolding lines
     printing_more most room h w same =
         let ns = take n answers in
@@ -115,16 +112,16 @@ module _ {s : List ℕ} {n : ℕ} {answers d d' : List ℕ} {at i end : ℕ} (p 
         let long : length ns ≡ n = length-take-le n answers most in
         let here : drop i ns ≡ x ∷ drop (i + 1) ns =
         drop-cons ns i 0 (omega arith) ∙ ap₂ (λ y k. y ∷ drop k ns) (get_or-take n answers i 0 h) (sym (add-one i)) in
-        let step : p.text ++ lines p.left (drop i ns) ≡ (p.text ++ line kind x) ++ rest =
-        ap₂ (λ l y. p.text ++ lines l y) split.first here ∙ sym (append_assoc p.text (line kind x) rest) in
-        let short : length (line kind x) ≤ MOST_LINE = line_most kind x kind_below in
+        let step : p.text ++ lines p.left (drop i ns) ≡ (p.text ++ line r.kind x) ++ rest =
+        ap₂ (λ l y. p.text ++ lines l y) split.first here ∙ sym (append_assoc p.text (line r.kind x) rest) in
+        let short : length (line r.kind x) ≤ MOST_LINE = line_most r.kind x kind_below in
         record {
-          text = p.text ++ line kind x;
+          text = p.text ++ line r.kind x;
           left = split.behind;
           are = split.onward;
           count = omega (arith, p.count, ap length split.first);
           all = λ list e. p.all list e ∙ step;
-          put = put_then p.put w (omega (arith, length-append p.text (line kind x), p.put.next_is, p.few));
+          put = put_then p.put w (omega (arith, length-append p.text (line r.kind x), p.put.next_is, p.few));
           few = omega (arith, w.next_is, p.few);
           same = same ∙ p.same;
         }

@@ -7,8 +7,6 @@ ghost use Rattle.model_sheet.specs.Sheet.{digit, decimal, line, MOST_LINE};
 ghost use Rattle.sheet_records.specs.Found.{Counted};
 ghost use Rattle.sheet_lines.specs.Lines.{PutText, PutLines};
 
-use sheet_records::Read;
-
 // The character of a digit.
 fn digit_of(n: u32) -> u8
     requires { n < 10 }
@@ -51,30 +49,14 @@ pub fn put_lines(records: &[u8], n: usize, answers: &[u8], out: &mut [u8]) -> us
     ensures { PutLines records.now n answers.now out.old out.new result }
 {
     let mut at: usize = 0;
-    let mut i: usize = 0;
     let mut end: usize = 0;
-    while i < n {
-        match sheet_records::read_at(records, at) {
-            Read::Record {
-                kind,
-                a: _,
-                b: _,
-                c: _,
-                text_at: _,
-                next,
-            } => {
-                end = put_line(out, end, kind as u32, answers[i] as u32);
-                at = next;
-                i += 1;
-            }
-            // A record stands there, so that these are not met.
-            Read::Bad => {
-                return end;
-            }
-            Read::End => {
-                return end;
-            }
-        }
+    for i in 0..n {
+        // A record stands there, so that this is not met.
+        let Some(entry) = sheet_records::read_at(records, at) else {
+            return end;
+        };
+        end = put_line(out, end, entry.kind.code() as u32, answers[i] as u32);
+        at = entry.next;
     }
     end
 }

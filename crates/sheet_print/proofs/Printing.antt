@@ -10,7 +10,11 @@ use native.Mathlib.Omega.{arith}
 use Rattle.utf8.specs.Chars.{All}
 use Rattle.model.specs.MagicString.{MagicString, new, to_string}
 use Rattle.model.specs.Limits.{full}
-use Rattle.model.specs.Call.{show, Outcome}
+use Rattle.std.specs.Prelude.{Result, Ok, Err}
+use Rattle.std.specs.Result.{result_unwrap_or}
+use Rattle.memory_layout.specs.declared.refusal.Refusal.{Refusal}
+use Rattle.memory_layout.specs.Refusals.{value_of}
+use Rattle.model.specs.Call.{Report, show, Outcome}
 use Rattle.model.specs.Call.{to_string as ToString}
 use Rattle.model.specs.WellFormed as model
 use Rattle.model_sheet.specs.BigEndian.{number}
@@ -30,6 +34,14 @@ use Rattle.sheet_records.proofs.Parts.{source_part, records_part, size_is, sourc
 use Rattle.sheet_lines.specs.Lines.{PutText, LinesAre}
 use Rattle.sheet_run.specs.SheetRan.{outcome, SheetDone}
 use Rattle.sheet_print.specs.PutPrinted.{Left, PutPrinted}
+
+-- what is taken of an answer that is not refused
+pub value_or : (r : Result ℕ Refusal) → value_of r ≡ result_unwrap_or r 0
+value_or (Ok n) = refl
+value_or (Err e) = refl
+
+pub told_as : {q : Report} {m : MagicString} {o o' : List ℕ} {n v v' : ℕ} → v ≡ v' → Told q m o o' n v → Told q m o o' n v'
+told_as {q} {m} {o} {o'} {n} e t = subst (Told q m o o' n) e t
 
 -- ── a buffer with lines at its front, and a text behind them ──
 -- the part behind the first n bytes, as it is lent on

@@ -6,6 +6,7 @@ ghost use Rattle.memory.specs.WellFormed.{Full};
 ghost use Rattle.model_sheet.specs.Sheet.{MOST_RECORDS, MOST_PRINTED};
 ghost use Rattle.sheet_print.specs.PutPrinted.{Left, PutPrinted};
 
+use memory_view::DeskView;
 use sheet_records::sheet::FRONT;
 
 // Writes what is printed of a run that was accepted and made n calls: a line for each record, then the text.
@@ -24,14 +25,15 @@ fn print_run<'a>(
 {
     let behind = FRONT + sheet_records::u16_at(sheet, 1) as usize;
     let lines = sheet_lines::put_lines(&sheet[behind..], n, answers, out);
-    let text = report_output::to_string(
-        &sheet[FRONT..behind],
+    let desk = DeskView {
+        source: &sheet[FRONT..behind],
         chunks,
         pieces,
         store,
-        &mut out[lines..],
-    );
-    lines + text.value as usize
+    };
+    let text = report_output::to_string(desk, &mut out[lines..]);
+    // There is room, so that it is not refused.
+    lines + text.unwrap_or(0) as usize
 }
 
 // Runs a sheet in tables of the full sizes, whatever they held, and writes what is printed of it to the front of `out`. Returns how many bytes that is.
@@ -48,9 +50,8 @@ pub fn print_sheet(
     requires in_bounds { MOST_PRINTED ≤ length out.old }
     ensures { PutPrinted sheet.now out.old out.new result }
 {
-    let r = sheet_run::run_sheet(sheet, chunks, pieces, store, answers);
-    if r.number != 0 {
-        return sheet_lines::put_line(out, 0, 0, r.number);
+    match sheet_run::run_sheet(sheet, chunks, pieces, store, answers) {
+        Ok(n) => print_run(sheet, n as usize, chunks, pieces, store, answers, out),
+        Err(refusal) => sheet_lines::put_line(out, 0, 0, refusal.code()),
     }
-    print_run(sheet, r.value as usize, chunks, pieces, store, answers, out)
 }

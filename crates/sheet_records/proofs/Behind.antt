@@ -6,7 +6,7 @@ use mathlib.Core.Option.{Option, none, some}
 use lib.ListN.{length, drop}
 use native.Mathlib.Omega.{arith}
 use Rattle.model_sheet.specs.Record.{Recorded, next_record, records}
-use Rattle.sheet_records.specs.Found.{recorded, Taken}
+use Rattle.sheet_records.specs.Found.{Taken}
 use Rattle.sheet_records.proofs.Walk.{records_past, records_bad, records_taken}
 
 -- the records l are this one and those from `next` on
@@ -16,10 +16,10 @@ pub record Behind (s : List ℕ) (next : ℕ) (one : Recorded) (l : List Recorde
   pub onward : records (drop next s) ≡ some rest
 
 module _ (s : List ℕ) (at : ℕ) {l : List Recorded} (are : records (drop at s) ≡ some l) where
-  pub behind : {kind a b c text_at next : ℕ} → Taken s at kind a b c text_at next → Behind s next (recorded s kind a b c text_at next) l
-  behind {kind} {a} {b} {c} {text_at} {next} g = go (records (drop next s)) refl
+  pub behind : {r : Recorded} {next : ℕ} → Taken s at r next → Behind s next r l
+  behind {r} {next} g = go (records (drop next s)) refl
     where
-      go : (o : Option (List Recorded)) → records (drop next s) ≡ o → Behind s next (recorded s kind a b c text_at next) l
+      go : (o : Option (List Recorded)) → records (drop next s) ≡ o → Behind s next r l
       go none e = let taken = records_taken g in let z : ◌≡◌ {A = ℕ} 0 1 = cc in absurd (omega arith)
       go (some m) e = let taken = records_taken g in record { rest = m; first = cc; onward = e }
 

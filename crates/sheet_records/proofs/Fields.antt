@@ -6,8 +6,9 @@ use mathlib.Core.List.{List, [], ◌∷◌}
 use lib.ListN.{length, get_or, take, drop, length-drop, get_or-eq_default}
 use lib.Seq.{get_or-drop, drop-drop}
 use lib.Dec.{leb, eqb}
-use borrow.Author.Tests.{lt-ltb, le-ltb}
+use borrow.Author.Tests.{lt-ltb}
 use native.Mathlib.Omega.{arith}
+use native.Mathlib.Decide.{dec_le}
 use Rattle.model_sheet.specs.BigEndian.{number}
 use Rattle.model_sheet.specs.Record.{positions, carries, front, fits, numbers}
 use Rattle.model_sheet.proofs.Quads.{length_numbers}
@@ -42,19 +43,20 @@ four_at s at h =
     omega (arith, four (drop at s) (omega (arith, length-drop at s)), at_start s at, at_place s at 1, at_place s at 2, at_place s at 3)
 
 -- kinds above the table
-pub no_positions : (k : ℕ) → 9 ≤ k → positions k ≡ 0
+no_positions : (k : ℕ) → 9 ≤ k → positions k ≡ 0
 unfolding positions
 no_positions k h = get_or-eq_default (0 ∷ 2 ∷ 2 ∷ 2 ∷ 1 ∷ 1 ∷ 1 ∷ 1 ∷ 3 ∷ []) 0 {n = k} h
 
-pub no_text : (k : ℕ) → 9 ≤ k → carries k ≡ false
-unfolding carries
-no_text k h = get_or-eq_default (false ∷ false ∷ true ∷ false ∷ true ∷ true ∷ true ∷ true ∷ false ∷ []) false {n = k} h
+-- a byte that is no kind's
+pub no_kind : (k : ℕ) → (k ≡ 1 → ⊥) → (k ≡ 2 → ⊥) → (k ≡ 3 → ⊥) → (k ≡ 4 → ⊥) → (k ≡ 5 → ⊥) → (k ≡ 6 → ⊥) → (k ≡ 7 → ⊥) → (k ≡ 8 → ⊥) → positions k ≡ 0
+unfolding positions
+no_kind k h₁ h₂ h₃ h₄ h₅ h₆ h₇ h₈ =
+    elim (dec_le 9 k) [
+      | yes h ↦ no_positions k h
+      | no h ↦ (let z : k ≡ 0 = omega arith in rw z)
+    ]
 
 -- the test of a kind and a size, by cases
-pub fits_unknown : (k n : ℕ) → positions k ≡ 0 → fits k n ≡ false
-unfolding fits
-fits_unknown k n e = rw (le-ltb 0 (positions k) (omega arith))
-
 pub fits_text : (k n : ℕ) → 0 < positions k → carries k ≡ true → fits k n ≡ leb (front k) n
 unfolding fits
 fits_text k n h e = rw (lt-ltb 0 (positions k) h, e)

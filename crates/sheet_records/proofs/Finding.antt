@@ -5,7 +5,7 @@ use mathlib.Core.Bool.{true, false, true≢false}
 use mathlib.Core.List.{List}
 use mathlib.Core.Option.{none, some, map}
 use lib.ListN.{length, get_or, take, drop, length-drop}
-use lib.Seq.{get_or-drop, drop-drop}
+use lib.Seq.{get_or-drop, drop-drop, length-take-le}
 use native.Mathlib.Omega.{arith}
 use Rattle.model_sheet.specs.BigEndian.{number}
 use Rattle.model_sheet.specs.Record.{Recorded, positions, front, fits, numbers, extent, parsed, record_at, next_record}
@@ -44,7 +44,7 @@ whole_stands {s} {at} {k} {n} h =
 
 pub taken_fields : {s : List ℕ} {at k n : ℕ} → Stands s at k n → (p a b c : ℕ) → p ≡ positions k
     → a ≡ get_or (numbers p (drop (at + 3) s)) 0 0 → b ≡ get_or (numbers p (drop (at + 3) s)) 1 0 → c ≡ get_or (numbers p (drop (at + 3) s)) 2 0
-    → Taken s at k a b c (at + 3 + 4 * p) (at + n)
+    → Taken s at (record { kind = k; a = a; b = b; c = c; text = take (at + n - (at + 3 + 4 * p)) (drop (at + 3 + 4 * p) s) }) (at + n)
 taken_fields {s} {at} {k} {n} h p a b c ep ea eb ec =
     let d = drop at s in
     let room = (stands_room h).room in
@@ -67,8 +67,7 @@ taken_fields {s} {at} {k} {n} h p a b c ep ea eb ec =
     }) in
     record {
       one = next_some d (parsed d) (of_whole (whole_stands h)) ∙ (λ i. some (here i, behind i));
-      starts = omega arith;
-      ends = omega arith;
+      text_inside = omega (arith, h.there, length-take-le (at + n - (at + 3 + 4 * p)) (drop (at + 3 + 4 * p) s) (omega (arith, h.there, length-drop (at + 3 + 4 * p) s)));
       there = h.there;
     }
 
@@ -87,6 +86,10 @@ module _ (s : List ℕ) (at : ℕ) where
 
   pub cut_off : length s - at < extent (drop at s) → next_record (drop at s) ≡ none
   cut_off h = next_none (drop at s) (broken (drop at s) (λ w. let t = w.there in omega (arith, length-drop at s)))
+
+  -- a byte of no kind
+  pub no_kind : positions (get_or (drop at s) 2 0) ≡ 0 → next_record (drop at s) ≡ none
+  no_kind e = next_none (drop at s) (broken (drop at s) (λ w. omega (arith, w.known)))
 
   pub unfit : (k n : ℕ) → k ≡ get_or (drop at s) 2 0 → n ≡ extent (drop at s) → fits k n ≡ false → next_record (drop at s) ≡ none
   unfit k n ek en e = next_none (drop at s) (broken (drop at s) (λ w.

@@ -1,17 +1,17 @@
 -- The walk over a list of records, place by place.
-use Prim.Native.Nat.{ℕ, ◌+◌, ◌-◌, ◌≤◌, ◌<◌}
-use mathlib.Core.Path.{◌≡◌, refl, sym, ap, ap₂, ◌∙◌}
+use Prim.Native.Nat.{ℕ, ◌+◌, ◌≤◌, ◌<◌}
+use mathlib.Core.Path.{◌≡◌, refl, sym, ap, ◌∙◌}
 use mathlib.Core.List.{List, [], ◌∷◌, ◌++◌, append_assoc, append-nil}
 use mathlib.Core.Option.{Option, none, some, map}
 use lib.ListN.{length, take, drop, length-append, length-drop, drop_of_length-le}
-use lib.Seq.{length-take-le}
 use native.Mathlib.Omega.{arith}
+use native.Mathlib.Decide.{dec_lt}
 use Rattle.model.proofs.Lists.{sum_snoc}
 use Rattle.model_sheet.specs.Record.{Recorded, extent, record_at, next_record, records, text_size}
 use Rattle.model_sheet.proofs.Whole.{whole_of}
 use Rattle.model_sheet.proofs.Records.{records_none, records_some, records_end}
 use Rattle.model_sheet.proofs.Upto.{records_upto}
-use Rattle.sheet_records.specs.Found.{recorded, Taken, Next, Measured}
+use Rattle.sheet_records.specs.Found.{Taken, Next, Measured}
 
 -- what reading the next record says of the record
 next_inverse : (s : List ℕ) (r : Recorded) (rest : List ℕ) → next_record s ≡ some (r, rest) → (record_at s ≡ some r) × (drop (extent s) s ≡ rest)
@@ -43,37 +43,31 @@ pub records_bad : (s : List ℕ) (at : ℕ) → at < length s → next_record (d
 records_bad s at h e = records_none (drop at s) (omega (arith, length-drop at s)) (next_missing (drop at s) e)
 
 -- the record that stands there, and those from the place behind it on
-pub records_taken : {s : List ℕ} {at kind a b c text_at next : ℕ} → Taken s at kind a b c text_at next
-    → records (drop at s) ≡ map (λ l. recorded s kind a b c text_at next ∷ l) (records (drop next s))
-records_taken {s} {at} {kind} {a} {b} {c} {text_at} {next} g =
-    let r = recorded s kind a b c text_at next in
+pub records_taken : {s : List ℕ} {at : ℕ} {r : Recorded} {next : ℕ} → Taken s at r next
+    → records (drop at s) ≡ map (λ l. r ∷ l) (records (drop next s))
+records_taken {s} {at} {r} {next} g =
     let h = next_inverse (drop at s) r (drop next s) g.one in
     records_some (drop at s) r h.0 ∙ ap (λ x. map (λ l. r ∷ l) (records x)) h.1
 
 -- ── where a record stands, the reader finds one ──
-pub not_bad : {X : Type 0} (r : List ℕ) (at : ℕ) → Next r at → at < length r → next_record (drop at r) ≡ none → X
-not_bad r at x h e = let here = x.are in let nothing = records_bad r at h e in let z : ◌≡◌ {A = ℕ} 0 1 = cc in absurd (omega arith)
-
-pub not_end : {X : Type 0} (r : List ℕ) (at : ℕ) → Next r at → length r ≤ at → X
-not_end r at x h = let here = x.are in let nothing = records_past r at h in let z : ◌≡◌ {A = ℕ} 0 1 = cc in absurd (omega arith)
+pub not_none : {X : Type 0} (r : List ℕ) (at : ℕ) → Next r at → next_record (drop at r) ≡ none → X
+not_none r at x e = go (dec_lt at (length r))
+  where
+    go : {X : Type 0} → Dec (at < length r) → X
+    go (yes h) = let here = x.are in let nothing = records_bad r at h e in let z : ◌≡◌ {A = ℕ} 0 1 = cc in absurd (omega arith)
+    go (no h) = let here = x.are in let past = records_past r at (omega arith) in let z : ◌≡◌ {A = ℕ} 0 1 = cc in absurd (omega arith)
 
 -- its own bytes, and the place behind them
-pub taken_one : {s : List ℕ} {at kind a b c text_at next : ℕ} → Taken s at kind a b c text_at next
-    → (record_at (drop at s) ≡ some (recorded s kind a b c text_at next)) × (next ≡ at + extent (drop at s))
-taken_one {s} {at} {kind} {a} {b} {c} {text_at} {next} g =
-    let h = next_inverse (drop at s) (recorded s kind a b c text_at next) (drop next s) g.one in
-    let w = (whole_of (drop at s) (recorded s kind a b c text_at next) h.0).0 in
+pub taken_one : {s : List ℕ} {at : ℕ} {r : Recorded} {next : ℕ} → Taken s at r next
+    → (record_at (drop at s) ≡ some r) × (next ≡ at + extent (drop at s))
+taken_one {s} {at} {r} {next} g =
+    let h = next_inverse (drop at s) r (drop next s) g.one in
+    let w = (whole_of (drop at s) r h.0).0 in
     let there = w.there in
-    let starts = g.starts in
-    let ends = g.ends in
+    let starts = g.text_inside in
     let behind = g.there in
     let size : length (drop (extent (drop at s)) (drop at s)) ≡ length (drop next s) = ap length h.1 in
     (h.0, omega (arith, length-drop (extent (drop at s)) (drop at s), length-drop at s, length-drop next s))
-
--- its text is all of its part
-pub taken_text : {s : List ℕ} {at kind a b c text_at next : ℕ} → Taken s at kind a b c text_at next → length (take (next - text_at) (drop text_at s)) ≡ next - text_at
-taken_text {s} {text_at = text_at} {next = next} g =
-    let ends = g.ends in let there = g.there in length-take-le (next - text_at) (drop text_at s) (omega (arith, length-drop text_at s))
 
 -- ── the walk ──
 -- n records stand before a place of s, with m bytes of text, so that the records of s are these and those from there on
@@ -116,19 +110,17 @@ module _ {s : List ℕ} {at n m : ℕ} (w : Walked s at n m) where
       let z : ◌≡◌ {A = ℕ} 0 1 = cc in
       absurd (omega arith)
 
-  pub walk_turn : {kind a b c text_at next : ℕ} → Taken s at kind a b c text_at next → Walked s next (n + 1) (m + (next - text_at))
-  walk_turn {kind} {a} {b} {c} {text_at} {next} g =
-      let r = recorded s kind a b c text_at next in
+  pub walk_turn : {r : Recorded} {next : ℕ} → Taken s at r next → Walked s next (n + 1) (m + length r.text)
+  walk_turn {r} {next} g =
       let one = taken_one g in
-      let starts = g.starts in
-      let ends = g.ends in
+      let starts = g.text_inside in
       let less = w.less in
       record {
         list = w.list ++ (r ∷ []);
         upto = records_upto s at next w.upto one.0 one.1;
         all = walk_rest (records_taken g) ∙ map_snoc w.list r (records (drop next s));
         count = omega (arith, length-append w.list (r ∷ []), w.count);
-        text = sum_snoc (λ (x : Recorded). length x.text) w.list r ∙ ap₂ (λ x y. x + y) w.text (taken_text g);
+        text = sum_snoc (λ (x : Recorded). length x.text) w.list r ∙ ap (λ x. x + length r.text) w.text;
         less = omega arith;
         within = g.there;
       }

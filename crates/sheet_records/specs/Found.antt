@@ -1,21 +1,21 @@
--- What reading at a place and judging a list answer, by cases, and the number that each case stands for.
-use Rattle.std.specs.Prelude.{ℕ, ◌+◌, ◌-◌, ◌≤◌, ◌<◌, ◌≡◌, List, ◌∷◌, true, length, get_or, take, drop}
+-- What reading at a place, walking over records and judging a list answer, by cases.
+use Rattle.std.specs.Prelude.{ℕ, ◌+◌, ◌≤◌, ◌<◌, ◌≡◌, List, ◌∷◌, true, length, get_or, drop, Result, Ok, Err, Option, Some, None}
 use Rattle.std.proofs.Math.Option.{none, some}
 use Rattle.model_sheet.specs.Record.{Recorded, fits, extent, next_record, records, text_size}
-use Rattle.sheet_records.specs.declared.Read.{Read}
-use Rattle.sheet_records.specs.declared.Read.TheVariants.{Record, Bad, End}
-use Rattle.sheet_records.specs.declared.Judged.{Judged}
-use Rattle.sheet_records.specs.declared.Judged.TheVariants.{Records, Broken}
+use Rattle.sheet_records.specs.Kinds.{code}
+use Rattle.sheet_records.specs.declared.Record.{Record}
+use Rattle.sheet_records.specs.declared.BadRecord.{BadRecord}
+use Rattle.sheet_records.specs.declared.Records.{Records}
+use Rattle.sheet_records.specs.declared.Totals.{Totals}
 
--- the record of these fields whose text lies in s from text_at up to next
-abbrev pub recorded : List ℕ → ℕ → ℕ → ℕ → ℕ → ℕ → ℕ → Recorded
-recorded s kind a b c text_at next = record { kind = kind; a = a; b = b; c = c; text = take (next - text_at) (drop text_at s) }
+-- the record of these fields, its kind as a number
+abbrev pub recorded : Record → Recorded
+recorded e = record { kind = code e.kind; a = e.a; b = e.b; c = e.c; text = e.text.now }
 
--- the record at a place of s: its fields, its text as a part of s, and the place behind it
-pub record Taken (s : List ℕ) (at kind a b c text_at next : ℕ) : Type 0 where
-  pub one : next_record (drop at s) ≡ some (recorded s kind a b c text_at next, drop next s)
-  pub starts : at < text_at
-  pub ends : text_at ≤ next
+-- the record at a place of s, and the place behind it
+pub record Taken (s : List ℕ) (at : ℕ) (r : Recorded) (next : ℕ) : Type 0 where
+  pub one : next_record (drop at s) ≡ some (r, drop next s)
+  pub text_inside : at + length r.text < next
   pub there : next ≤ length s
 
 -- a whole record of n bytes and this kind stands at a place of s
@@ -25,16 +25,23 @@ pub record Stands (s : List ℕ) (at kind n : ℕ) : Type 0 where
   pub good : fits kind n ≡ true
   pub there : at + n ≤ length s
 
-abbrev pub Found : List ℕ → ℕ → Read → Type 0
-Found s at (Record kind a b c text_at next) = Taken s at kind a b c text_at next
-Found s at Bad = (at < length s) × (next_record (drop at s) ≡ none)
-Found s at End = length s ≤ at
+abbrev pub Found : List ℕ → ℕ → Option Record → Type 0
+Found s at (Some e) = Taken s at (recorded e) e.next
+Found s at None = next_record (drop at s) ≡ none
 
--- 16 where the bytes break the rules of a record
-abbrev pub number_read : Read → ℕ
-number_read (Record kind a b c text_at next) = 0
-number_read Bad = 16
-number_read End = 0
+-- ── one behind the other ──
+-- where a walk stands, in which bytes
+abbrev pub walk_bytes : Records → List ℕ
+walk_bytes x = x.bytes.now
+
+abbrev pub walk_at : Records → ℕ
+walk_at x = x.at
+
+-- the record that stands there, and on behind it; or that there is none, and nothing behind
+abbrev pub Gives : Records → Option (Result Record BadRecord) → Records → Type 0
+Gives x None y = length (walk_bytes x) ≤ walk_at x
+Gives x (Some (Ok e)) y = Taken (walk_bytes x) (walk_at x) (recorded e) (walk_at y) × (walk_bytes y ≡ walk_bytes x)
+Gives x (Some (Err b)) y = (walk_at x < length (walk_bytes x)) × (next_record (drop (walk_at x) (walk_bytes x)) ≡ none)
 
 -- records stand from a place on, at least one
 pub record Next (r : List ℕ) (at : ℕ) : Type 0 where
@@ -54,11 +61,6 @@ pub record Measured (s : List ℕ) (most n m : ℕ) : Type 0 where
   pub counted : Counted s most n
   pub text : text_size counted.list ≡ m
 
-abbrev pub Counts : List ℕ → ℕ → Judged → Type 0
-Counts s most (Records n m) = Measured s most n m
-Counts s most Broken = (l : List Recorded) → records s ≡ some l → most < length l
-
--- 16 where they are no such list
-abbrev pub number_judged : Judged → ℕ
-number_judged (Records n m) = 0
-number_judged Broken = 16
+abbrev pub Counts : List ℕ → ℕ → Option Totals → Type 0
+Counts s most (Some x) = Measured s most x.count x.text
+Counts s most None = (l : List Recorded) → records s ≡ some l → most < length l

@@ -1,10 +1,9 @@
--- What judging a whole sheet answers, by cases, and the number that each case stands for.
-use Rattle.std.specs.Prelude.{ℕ, ◌+◌, ◌≤◌, ◌≡◌, List, length}
+-- What judging a whole sheet answers, by cases.
+use Rattle.std.specs.Prelude.{ℕ, ◌+◌, ◌≤◌, ◌≡◌, List, length, Option, Some, None}
 use Rattle.std.proofs.Math.Option.{none, some}
 use Rattle.model_sheet.specs.Record.{Recorded, records}
 use Rattle.model_sheet.specs.Sheet.{MOST_RECORDS, FRONT, source_size, source_of, records_of, sheet}
-use Rattle.sheet_records.specs.declared.sheet.SheetJudged.{SheetJudged}
-use Rattle.sheet_records.specs.declared.sheet.SheetJudged.TheVariants.{Sheet, Broken}
+use Rattle.sheet_records.specs.declared.sheet.Shape.{Shape}
 
 -- s is a sheet with n bytes of source and c records
 pub record SheetIs (s : List ℕ) (n c : ℕ) : Type 0 where
@@ -16,11 +15,7 @@ pub record SheetIs (s : List ℕ) (n c : ℕ) : Type 0 where
   pub size : n ≡ source_size s
   pub there : FRONT + n ≤ length s
 
-abbrev pub JudgesSheet : List ℕ → SheetJudged → Type 0
-JudgesSheet s (Sheet n c) = SheetIs s n c
-JudgesSheet s Broken = sheet s ≡ none
-
--- 16 where "the version, a length, a kind, the record count or the size breaks these rules"
-abbrev pub number_sheet : SheetJudged → ℕ
-number_sheet (Sheet n c) = 0
-number_sheet Broken = 16
+-- none where "the version, a length, a kind, the record count or the size breaks these rules"
+abbrev pub JudgesSheet : List ℕ → Option Shape → Type 0
+JudgesSheet s (Some x) = SheetIs s x.source_n x.count
+JudgesSheet s None = sheet s ≡ none

@@ -1,55 +1,28 @@
 // Reads records of a sheet, one behind the other (document 02, L1).
 #![tactic(auto)]
 
-ghost use Rattle.std.specs.Prelude.{◌≡◌, ◌+◌, ◌*◌, ◌≤◌, ◌<◌, length, get_or, take, drop};
+ghost use Rattle.std.specs.Prelude.{◌≡◌, ◌+◌, ◌-◌, ◌*◌, ◌≤◌, ◌<◌, length, get_or, take, drop};
+ghost use Rattle.std.specs.Iterator.{at_most};
 ghost use Rattle.model_sheet.specs.BigEndian.{number};
-ghost use Rattle.model_sheet.specs.Record.{positions, carries, fits, numbers};
-ghost use Rattle.model_sheet.specs.Sheet.{inserts_left};
-ghost use Rattle.sheet_records.specs.Found.{Stands, Found, Counts};
+ghost use Rattle.model_sheet.specs.Record.{numbers};
+ghost use Rattle.sheet_records.specs.Kinds.{code};
+ghost use Rattle.sheet_records.specs.Found.{Stands, Found, Taken, recorded, walk_bytes, walk_at, Gives, Counts};
 
+use kinds::Kind;
+
+pub mod kinds;
 pub mod sheet;
 
-// What stands at a place.
+// A record, its text as a part of the bytes, and the place behind it.
 #[derive(Clone, Copy)]
-pub enum Read {
-    // A whole record, its text as a part of the bytes, and the place behind it.
-    Record {
-        kind: u8,
-        a: u32,
-        b: u32,
-        c: u32,
-        text_at: usize,
-        next: usize,
-    },
-    // Bytes that are no whole record.
-    Bad,
-    // Nothing.
-    End,
-}
-
-// What a list of bytes is.
-#[derive(Clone, Copy)]
-pub enum Judged {
-    // Whole records up to the end, so many, and no more than allowed; and the bytes of their texts.
-    Records { count: usize, text: usize },
-    Broken,
-}
-
-// For each kind, how many positions it has, and whether it carries text.
-const POSITIONS: [u8; 9] = [0, 2, 2, 2, 1, 1, 1, 1, 3];
-
-const CARRIES: [bool; 9] = [false, false, true, false, true, true, true, true, false];
-
-fn wide(x: u8) -> u32
-    ensures { (result ≡ x) × (result < 256) }
-{
-    x as u32
-}
-
-fn size(x: u32) -> usize
-    ensures { result ≡ x }
-{
-    x as usize
+pub struct Record<'a> {
+    pub kind: Kind,
+    // Its positions, 0 where its kind has none.
+    pub a: u32,
+    pub b: u32,
+    pub c: u32,
+    pub text: &'a [u8],
+    pub next: usize,
 }
 
 // The number of 16 bits at a place.
@@ -57,7 +30,7 @@ pub fn u16_at(s: &[u8], at: usize) -> u32
     requires { at + 2 ≤ length s.now }
     ensures { (result ≡ number (take 2 (drop at s.now))) × (result < 65536) }
 {
-    wide(s[at]) * 256 + wide(s[at + 1])
+    s[at] as u32 * 256 + s[at + 1] as u32
 }
 
 // The number of 32 bits at a place.
@@ -65,53 +38,7 @@ fn u32_at(s: &[u8], at: usize) -> u32
     requires { at + 4 ≤ length s.now }
     ensures { result ≡ number (take 4 (drop at s.now)) }
 {
-    ((wide(s[at]) * 256 + wide(s[at + 1])) * 256 + wide(s[at + 2])) * 256 + wide(s[at + 3])
-}
-
-fn positions_of(kind: u8) -> usize
-    ensures { (result ≡ positions kind) × (result ≤ 3) }
-{
-    let k = size(wide(kind));
-    if k < 9 {
-        let table = POSITIONS;
-        size(wide(table[k]))
-    } else {
-        0
-    }
-}
-
-fn carries_text(kind: u8) -> bool
-    ensures { result ≡ carries kind }
-{
-    let k = size(wide(kind));
-    if k < 9 {
-        let table = CARRIES;
-        table[k]
-    } else {
-        false
-    }
-}
-
-// Kinds 4 and 6 insert left of their position, 5 and 7 right of it.
-pub fn inserts_left(kind: u8) -> bool
-    ensures { result ≡ inserts_left kind }
-{
-    kind == 4 || kind == 6
-}
-
-// Whether a record of this kind may have n bytes.
-fn size_fits(kind: u8, n: usize) -> bool
-    ensures { result ≡ fits kind n }
-{
-    let p = positions_of(kind);
-    if p == 0 {
-        return false;
-    }
-    if carries_text(kind) {
-        3 + 4 * p <= n
-    } else {
-        3 + 4 * p == n
-    }
+    ((s[at] as u32 * 256 + s[at + 1] as u32) * 256 + s[at + 2] as u32) * 256 + s[at + 3] as u32
 }
 
 // The i-th of p positions that start at a place; 0 where there is none.
@@ -123,81 +50,109 @@ fn position(s: &[u8], at: usize, p: usize, i: usize) -> u32
 }
 
 // The record of n bytes that stands at a place.
-fn fields_at(s: &[u8], at: usize, kind: u8, n: usize) -> Read
-    requires { Stands s.now at kind n }
-    ensures { Found s.now at result }
+fn fields_at(s: &[u8], at: usize, kind: Kind, n: usize) -> Record<'_>
+    requires { Stands s.now at (code kind) n }
+    ensures { Taken s.now at (recorded result) result.next }
 {
-    let p = positions_of(kind);
+    let p = kind.positions();
     let places = at + 3;
-    let a = position(s, places, p, 0);
-    let b = position(s, places, p, 1);
-    let c = position(s, places, p, 2);
-    let text_at = places + 4 * p;
     let next = at + n;
-    Read::Record {
+    Record {
         kind,
-        a,
-        b,
-        c,
-        text_at,
+        a: position(s, places, p, 0),
+        b: position(s, places, p, 1),
+        c: position(s, places, p, 2),
+        text: &s[places + 4 * p..next],
         next,
     }
 }
 
-// The record at a place: judged by its first bytes, and its fields read only if all of it is there.
-pub fn read_at(s: &[u8], at: usize) -> Read
+// The record that stands at a place, if all of it is there: judged by its first bytes, and its fields read only then.
+pub fn read_at(s: &[u8], at: usize) -> Option<Record<'_>>
     ensures { Found s.now at result }
 {
-    if s.len() <= at {
-        return Read::End;
-    }
-    let left = s.len() - at;
+    let left = s.len().saturating_sub(at);
     if left < 3 {
-        return Read::Bad;
+        return None;
     }
-    let n = 2 + size(u16_at(s, at));
+    let n = 2 + u16_at(s, at) as usize;
     if left < n {
-        return Read::Bad;
+        return None;
     }
-    let kind = s[at + 2];
-    if size_fits(kind, n) {
-        fields_at(s, at, kind, n)
-    } else {
-        Read::Bad
+    let Ok(kind) = Kind::try_from(s[at + 2]) else {
+        return None;
+    };
+    if kind.size_fits(n) {
+        return Some(fields_at(s, at, kind, n));
+    }
+    None
+}
+
+// Bytes that are no whole record.
+#[derive(Clone, Copy, Debug, PartialEq, Eq)]
+pub struct BadRecord;
+
+// The records of a list of bytes that are still to come, from a place on. Where no whole record stands, that is said once, and nothing comes behind.
+#[derive(Clone, Copy, Drop)]
+pub struct Records<'a> {
+    bytes: &'a [u8],
+    at: usize,
+}
+
+impl<'a> Records<'a> {
+    pub fn new(bytes: &'a [u8]) -> Records<'a>
+        ensures { (walk_bytes result ≡ bytes.now) × (walk_at result ≡ 0) }
+    {
+        Records { bytes, at: 0 }
     }
 }
 
-// Whether the bytes are whole records up to their end, and at most so many; how many, and how many bytes of text they have.
-pub fn count_records(s: &[u8], most: usize) -> Judged
-    ensures { Counts s.now most result }
-{
-    let mut at: usize = 0;
-    let mut count: usize = 0;
-    let mut text: usize = 0;
-    while at < s.len() {
-        match read_at(s, at) {
-            Read::Record {
-                kind: _,
-                a: _,
-                b: _,
-                c: _,
-                text_at,
-                next,
-            } => {
-                if count == most {
-                    return Judged::Broken;
-                }
-                count += 1;
-                text += next - text_at;
-                at = next;
+impl<'a> Iterator for Records<'a> {
+    type Item = Result<Record<'a>, BadRecord>;
+
+    ghost next_gives = { Gives };
+
+    ghost remaining = { λ x. at_most (length (walk_bytes x) - walk_at x) };
+
+    fn next(&mut self) -> Option<Result<Record<'a>, BadRecord>> {
+        if self.bytes.len() <= self.at {
+            return None;
+        }
+        match read_at(self.bytes, self.at) {
+            Some(entry) => {
+                self.at = entry.next;
+                Some(Ok(entry))
             }
-            Read::Bad => {
-                return Judged::Broken;
-            }
-            Read::End => {
-                return Judged::Broken;
+            None => {
+                self.at = self.bytes.len();
+                Some(Err(BadRecord))
             }
         }
     }
-    Judged::Records { count, text }
+}
+
+// How many records a list has, and how many bytes of text these.
+#[derive(Clone, Copy)]
+pub struct Totals {
+    pub count: usize,
+    pub text: usize,
+}
+
+// Counts the records, if the bytes are whole records up to their end, and at most so many.
+pub fn count_records(s: &[u8], most: usize) -> Option<Totals>
+    ensures { Counts s.now most result }
+{
+    let mut count: usize = 0;
+    let mut text: usize = 0;
+    for entry in Records::new(s) {
+        let Ok(entry) = entry else {
+            return None;
+        };
+        if count == most {
+            return None;
+        }
+        count += 1;
+        text += entry.text.len();
+    }
+    Some(Totals { count, text })
 }

@@ -1,14 +1,13 @@
 // A whole sheet, judged before anything is done: the version, the source's length, the source, then records.
 ghost use Rattle.sheet_records.specs.SheetFound.{JudgesSheet};
 
-use crate::{Judged, count_records, u16_at};
+use crate::{count_records, u16_at};
 
-// What the bytes of a sheet are.
+// How many bytes of source a sheet has, and how many records.
 #[derive(Clone, Copy)]
-pub enum SheetJudged {
-    // A sheet with so many bytes of source, and so many records.
-    Sheet { source_n: usize, count: usize },
-    Broken,
+pub struct Shape {
+    pub source_n: usize,
+    pub count: usize,
 }
 
 // The most bytes, and the most records.
@@ -21,26 +20,28 @@ pub const FRONT: usize = 3;
 
 pub const VERSION: u8 = 1;
 
-pub fn judge_sheet(s: &[u8]) -> SheetJudged
+// The shape of a sheet; none where the bytes break its rules.
+pub fn judge_sheet(s: &[u8]) -> Option<Shape>
     ensures { JudgesSheet s.now result }
 {
     let len = s.len();
     if len > MOST_BYTES {
-        return SheetJudged::Broken;
+        return None;
     }
     if len < FRONT {
-        return SheetJudged::Broken;
+        return None;
     }
     if s[0] != VERSION {
-        return SheetJudged::Broken;
+        return None;
     }
     let source_n = u16_at(s, 1) as usize;
     let behind = FRONT + source_n;
     if len < behind {
-        return SheetJudged::Broken;
+        return None;
     }
-    match count_records(&s[behind..], MOST_RECORDS) {
-        Judged::Records { count, text: _ } => SheetJudged::Sheet { source_n, count },
-        Judged::Broken => SheetJudged::Broken,
-    }
+    let records = count_records(&s[behind..], MOST_RECORDS)?;
+    Some(Shape {
+        source_n,
+        count: records.count,
+    })
 }

@@ -36,10 +36,7 @@ module _ (a b c : ℕ) (t : Text) (k : ℕ) where
   unfolding call_of
   of_relocate e = sym (ap (λ k. call_of (fields k)) e)
 
-  -- none of these kinds
-  abbrev pub Others : Type 0
-  Others = ((((Unit {0} × (k ≡ 1 → ⊥)) × (k ≡ 2 → ⊥)) × (k ≡ 3 → ⊥)) × (k ≡ 8 → ⊥))
-
-  pub of_insert : {left front : Bool} → left ≡ inserts_left k → front ≡ inserts_front k → Others → insert a t left front ≡ call_of (fields k)
+  pub of_insert : {left front : Bool} → left ≡ inserts_left k → front ≡ inserts_front k → (k ≡ 1 → ⊥) → (k ≡ 2 → ⊥) → (k ≡ 3 → ⊥) → (k ≡ 8 → ⊥)
+      → insert a t left front ≡ call_of (fields k)
   unfolding call_of
-  of_insert l f ((((_, h₁), h₂), h₃), h₄) = rw (l, f, ne_eqb k 1 h₁, ne_eqb k 2 h₂, ne_eqb k 3 h₃, ne_eqb k 8 h₄)
+  of_insert l f h₁ h₂ h₃ h₄ = rw (l, f, ne_eqb k 1 h₁, ne_eqb k 2 h₂, ne_eqb k 3 h₃, ne_eqb k 8 h₄)

@@ -1,3 +1,5 @@
 mod CallOf
 pub mod Running
 mod Ran
+pub mod Codes
+pub mod NoKind

@@ -17,7 +17,6 @@ use Rattle.memory.specs.declared.Answer.{Answer}
 use Rattle.memory.proofs.Desks.{limits_as, all_same}
 use Rattle.memory_used.specs.declared.Used.{Used}
 use Rattle.open.specs.OpenedWith.{Opens, NewDesk}
-use Rattle.open.proofs.Opening.{number_with}
 use Rattle.sheet_records.specs.Found.{Counted}
 use Rattle.sheet_records.specs.SheetFound.{SheetIs}
 use Rattle.sheet_records.proofs.Parts.{source_part, records_part, source_is, records_are}
@@ -30,6 +29,11 @@ unfolding opened
 opened_desk k source e o =
     let h : length source ≤ k.most_source = subst (λ n. length source ≤ n) (sym e) (o.fits refl) in
     rw (le-leb (length source) k.most_source h, o.text refl) refl
+
+-- the number of the opening is the same in tables of all sizes
+number_with : (source t p s : List ℕ) {n : ℕ} → Opens source n → n ≡ (opened (limits_of t p s) source (new [])).number
+unfolding opened
+number_with source t p s h = h.number_is
 
 pub records_counted : {s : List ℕ} {n c : ℕ} → SheetIs s n c → (room : ℕ) → c ≤ room → Counted (records_part s n) room c
 records_counted {s} {n} g room h = record { list = g.list; are = records_are s n g.size ∙ g.are; count = g.count; few = h }

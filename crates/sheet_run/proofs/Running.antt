@@ -16,9 +16,10 @@ use Rattle.memory.specs.Layout.{magic_string_of}
 use Rattle.memory.specs.WellFormed.{limits_of, Lengths}
 use Rattle.memory.proofs.Desks.{limits_as}
 use Rattle.memory_used.specs.declared.Used.{Used}
+use Rattle.memory_layout.specs.Refusals.{number_of}
+use Rattle.memory_used.specs.declared.Outcome.{Outcome}
 use Rattle.memory_used.specs.Above.{Desk}
 use Rattle.sheet_records.specs.Found.{Counted, Next}
-use Rattle.sheet_run.specs.declared.records.Made.{Made}
 use Rattle.sheet_run.specs.Steps.{Stepped}
 use Rattle.sheet_run.specs.RanAll.{RanAll}
 
@@ -68,19 +69,19 @@ module _ {r source t₀ p₀ s₀ a₀ : List ℕ} {n at i : ℕ} {t p s a : Lis
       go [] e = let left = w.left in absurd (omega (arith, ap length e))
       go (one ∷ rest) e = record { one = one; rest = rest; are = w.here ∙ ap {B = Option (List Recorded)} some e }
 
-  module _ {t' p' s' : List ℕ} {k : Made} (x : Stepped r at source t p s t' p' s' k) where
+  module _ {t' p' s' : List ℕ} {made : Outcome} {next : ℕ} (x : Stepped r at source t p s t' p' s' made next) where
     -- a call's number is a byte
-    pub running_byte : k.outcome.number ≤ 20
+    pub running_byte : number_of made.status ≤ 20
     running_byte =
         let q = x.left.ran.number_is in
         omega (arith, answer_small (limits_of t p s) (call_of x.one) (magic_string_of source t p s) w.desk.well_formed.desk.formed)
 
     pub running_turn : i < n → Lengths t p s t' p' s'
-        → Running r source t₀ p₀ s₀ a₀ n k.next (i + 1) t' p' s' (set a i k.outcome.number) k.outcome.used
-    running_turn h same = go (records (drop k.next r)) refl
+        → Running r source t₀ p₀ s₀ a₀ n next (i + 1) t' p' s' (set a i (number_of made.status)) made.used
+    running_turn h same = go (records (drop next r)) refl
       where
-        go : (o : Option (List Recorded)) → records (drop k.next r) ≡ o
-            → Running r source t₀ p₀ s₀ a₀ n k.next (i + 1) t' p' s' (set a i k.outcome.number) k.outcome.used
+        go : (o : Option (List Recorded)) → records (drop next r) ≡ o
+            → Running r source t₀ p₀ s₀ a₀ n next (i + 1) t' p' s' (set a i (number_of made.status)) made.used
         go none e =
             let here = w.here in
             let nothing : records (drop at r) ≡ none = x.here ∙ ap (map (λ l. x.one ∷ l)) e in
@@ -90,36 +91,36 @@ module _ {r source t₀ p₀ s₀ a₀ : List ℕ} {n at i : ℕ} {t p s a : Lis
             let both : x.one ∷ l ≡ w.rest = same_list (x.here ∙ ap (map (λ l. x.one ∷ l)) e) w.here in
             let left = w.left in
             let room = w.room in
-            let next : i + 1 ≡ suc i = omega arith in
+            let one : i + 1 ≡ suc i = omega arith in
             let k₀ = limits_of t₀ p₀ s₀ in
             let m = magic_string_of source t p s in
             let limits : limits_of t p s ≡ k₀ = limits_as w.lengths in
-            let number : k.outcome.number ≡ (run k₀ (call_of x.one) m).number =
+            let number : number_of made.status ≡ (run k₀ (call_of x.one) m).number =
             x.left.ran.number_is ∙ ap (λ q. (run q (call_of x.one) m).number) limits in
             let desk : magic_string_of source t' p' s' ≡ (run k₀ (call_of x.one) m).desk =
             x.left.ran.desk_is ∙ ap (λ q. (run q (call_of x.one) m).desk) limits in
-            let front : take (i + 1) (set a i k.outcome.number) ≡ take i a ++ (k.outcome.number ∷ []) =
-            ap (λ j. take j (set a i k.outcome.number)) next ∙ take-suc-set a i k.outcome.number (omega arith) in
+            let front : take (i + 1) (set a i (number_of made.status)) ≡ take i a ++ ((number_of made.status) ∷ []) =
+            ap (λ j. take j (set a i (number_of made.status))) one ∙ take-suc-set a i (number_of made.status) (omega arith) in
             record {
               rest = l;
               here = e;
               left = omega (arith, ap length both);
-              room = omega (arith, length-set a i k.outcome.number);
+              room = omega (arith, length-set a i (number_of made.status));
               desk = record { well_formed = x.left.ran.well_formed; above = x.left.above };
               lengths = record {
                 chunks = same.chunks ∙ w.lengths.chunks;
                 pieces = same.pieces ∙ w.lengths.pieces;
                 store = same.store ∙ w.lengths.store;
               };
-              long = length-set a i k.outcome.number ∙ w.long;
-              kept = drop-set-lt (i + 1) a i k.outcome.number (omega arith) ∙ sym (drop-drop 1 i a) ∙ ap (drop 1) w.kept ∙ drop-drop 1 i a₀;
+              long = length-set a i (number_of made.status) ∙ w.long;
+              kept = drop-set-lt (i + 1) a i (number_of made.status) (omega arith) ∙ sym (drop-drop 1 i a) ∙ ap (drop 1) w.kept ∙ drop-drop 1 i a₀;
               done = λ list q.
                   let d = subst (λ (y : List Recorded). Done list y k₀ (magic_string_of source t₀ p₀ s₀) m (take i a)) (sym both) (w.done list q) in
                   record {
                     desk = ap (after k₀ (recorded_calls l)) desk ∙ d.desk;
                     numbers =
                         ap₂ (λ f g. f ++ answers k₀ (recorded_calls l) g) front desk
-                        ∙ append_assoc (take i a) (k.outcome.number ∷ []) (answers k₀ (recorded_calls l) (run k₀ (call_of x.one) m).desk)
+                        ∙ append_assoc (take i a) ((number_of made.status) ∷ []) (answers k₀ (recorded_calls l) (run k₀ (call_of x.one) m).desk)
                         ∙ ap (λ j. take i a ++ (j ∷ answers k₀ (recorded_calls l) (run k₀ (call_of x.one) m).desk)) number
                         ∙ d.numbers;
                   };

@@ -1,19 +1,13 @@
 // The core call of a record, by its kind: one dispatcher for every list of records.
-ghost use Rattle.std.specs.Prelude.{◌≡◌};
-ghost use Rattle.model_sheet.specs.Sheet.{inserts_front, call_of};
+ghost use Rattle.model_sheet.specs.Sheet.{call_of};
 ghost use Rattle.memory_used.specs.Above.{Desk, Leaves};
+ghost use Rattle.sheet_records.specs.Found.{recorded};
 
 use memory_used::{Outcome, Used};
-use sheet_records::inserts_left;
+use sheet_records::Record;
+use sheet_records::kinds::Kind;
 
-// Kinds 4 to 7 are one insertion: left of its position or right (`inserts_left`), and at the front of the piece list or the back.
-fn inserts_front(kind: u8) -> bool
-    ensures { result ≡ inserts_front kind }
-{
-    kind >= 6
-}
-
-// Makes the call of a record with these fields on a desk.
+// Makes the call of a record with these fields on a desk. A byte that is no kind's inserts, as `call_of` has it.
 pub fn core_call(
     source: &[u8],
     chunks: &mut [u32],
@@ -30,20 +24,61 @@ pub fn core_call(
     ensures { Leaves (call_of (record { kind = kind; a = a; b = b; c = c; text = text.now }))
         source.now chunks.old pieces.old store.old chunks.new pieces.new store.new result }
 {
-    match kind {
-        1 => edit_remove::remove(source, chunks, pieces, store, a, b, used),
-        2 => edit_update::update_with(source, chunks, pieces, store, a, b, text, true, used),
-        3 => edit_reset::reset(source, chunks, pieces, store, a, b, used),
-        8 => edit_relocate::relocate(source, chunks, pieces, store, a, b, c, used),
-        _ => edit_insert::insert(
+    let Ok(known) = Kind::try_from(kind) else {
+        return edit_insert::insert(
             source,
             chunks,
             pieces,
             store,
             a,
             text,
-            inserts_left(kind),
-            inserts_front(kind),
+            false,
+            kind >= 6,
+            used,
+        );
+    };
+    let r = Record {
+        kind: known,
+        a,
+        b,
+        c,
+        text,
+        next: 0,
+    };
+    record_call(source, chunks, pieces, store, r, used)
+}
+
+// Makes the call of a record on a desk. Four kinds are one insertion: left of its position or right, and at the front of the piece list or the back.
+pub fn record_call(
+    source: &[u8],
+    chunks: &mut [u32],
+    pieces: &mut [u32],
+    store: &mut [u8],
+    r: Record,
+    used: Used,
+) -> Outcome
+    requires { Desk source.now chunks.old pieces.old store.old used }
+    ensures { Leaves (call_of (recorded r.entry))
+        source.now chunks.old pieces.old store.old chunks.new pieces.new store.new result }
+{
+    match r.kind {
+        Kind::Remove => edit_remove::remove(source, chunks, pieces, store, r.a, r.b, used),
+        Kind::Update => edit_update::update_with(
+            source, chunks, pieces, store, r.a, r.b, r.text, true, used,
+        ),
+        Kind::Reset => edit_reset::reset(source, chunks, pieces, store, r.a, r.b, used),
+        Kind::Relocate => edit_relocate::relocate(
+            source, chunks, pieces, store, r.a, r.b, r.c, used,
+        ),
+        _ => edit_insert::insert(
+            source,
+            chunks,
+            pieces,
+            store,
+            r.a,
+            r.text,
+            r.kind.inserts_left(),
+            r.kind.inserts_front(),
             used,
         ),
     }

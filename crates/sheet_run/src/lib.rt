@@ -4,44 +4,34 @@
 pub mod core_call;
 pub mod records;
 
-ghost use Rattle.std.specs.Prelude.{◌≡◌};
+ghost use Rattle.memory_layout.specs.Refusals.{number_of, value_of};
 ghost use Rattle.memory.specs.WellFormed.{Sized};
 ghost use Rattle.sheet_run.specs.SheetRan.{SheetDone};
 
-use memory::Answer;
-use memory_layout::numbers;
-use sheet_records::sheet::SheetJudged;
-
-fn refused(number: u32) -> Answer
-    ensures { (result.number ≡ number) × (result.value ≡ 0) }
-{
-    Answer { number, value: 0 }
-}
+use memory_layout::refusal::Refusal;
+use sheet_records::sheet;
 
 // Runs a sheet in tables of any size that a desk may have, whatever they held: 16, then 13 and 1 as an opening gives them, 14 where fewer answer bytes are lent than
 // there are records; these change nothing. Else every call is made, and its number is one of the answers; the value is how many there are.
 pub fn run_sheet(
-    sheet: &[u8],
+    bytes: &[u8],
     chunks: &mut [u32],
     pieces: &mut [u32],
     store: &mut [u8],
     answers: &mut [u8],
-) -> Answer
+) -> Result<u32, Refusal>
     requires { Sized chunks.old pieces.old store.old }
-    ensures { SheetDone sheet.now chunks.old pieces.old store.old answers.old
-        chunks.new pieces.new store.new answers.new result }
+    ensures { SheetDone bytes.now chunks.old pieces.old store.old answers.old
+        chunks.new pieces.new store.new answers.new (record { number = number_of result; value = value_of result }) }
 {
-    let SheetJudged::Sheet { source_n, count } = sheet_records::sheet::judge_sheet(sheet) else {
-        return refused(numbers::BAD_SHEET);
+    let Some(shape) = sheet::judge_sheet(bytes) else {
+        return Err(Refusal::BadSheet);
     };
-    let behind = sheet_records::sheet::FRONT + source_n;
-    let source = &sheet[sheet_records::sheet::FRONT..behind];
-    let number = open::source_number(source);
-    if number != 0 {
-        return refused(number);
-    }
-    if answers.len() < count {
-        return refused(numbers::SHORT_BUFFER);
+    let behind = sheet::FRONT + shape.source_n;
+    let source = &bytes[sheet::FRONT..behind];
+    open::judge_source(source)?;
+    if answers.len() < shape.count {
+        return Err(Refusal::ShortBuffer);
     }
     let used = open::open_rows(source, chunks, pieces, store);
     records::run_records(
@@ -49,13 +39,10 @@ pub fn run_sheet(
         chunks,
         pieces,
         store,
-        &sheet[behind..],
-        count,
+        &bytes[behind..],
+        shape.count,
         answers,
         used,
     );
-    Answer {
-        number: 0,
-        value: count as u32,
-    }
+    Ok(shape.count as u32)
 }

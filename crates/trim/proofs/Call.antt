@@ -2,9 +2,8 @@
 use mathlib.Core.Path.{◌≡◌, refl, sym, ◌∙◌}
 use mathlib.Core.Bool.{Bool, true, false}
 use mathlib.Core.List.{List}
-use Prim.Native.Nat.{ℕ, suc, ◌-◌, ◌≤◌, ◌<◌}
+use Prim.Native.Nat.{ℕ, suc, ◌-◌}
 use native.Mathlib.Omega.{arith}
-use borrow.Author.Tests.{le-leb, lt-leb}
 use Rattle.model.specs.Call.{Edit, trim, trim_start, trim_end, trim_lines, refused_before}
 use Rattle.memory.specs.Layout.{magic_string_of}
 use Rattle.memory_used.specs.declared.Used.{Used}
@@ -12,36 +11,31 @@ use Rattle.memory_used.specs.declared.Outcome.{Outcome}
 use Rattle.memory_used.specs.Above.{Above, Desk, Leaves}
 use Rattle.memory_frozen.specs.Frozen.{frozen_in_rows}
 use Rattle.memory_frozen.proofs.Frozen.{frozen_any}
+use Rattle.std.specs.Prelude.{Err}
+use Rattle.memory_layout.specs.declared.refusal.Refusal.{Refusal}
+use Rattle.memory_layout.specs.Refusals.{code, number_of}
+use Rattle.edit_scratch.proofs.Refused.{code_some}
 use Rattle.edit_scratch.proofs.Tables.{ran_before}
 use Rattle.trim_scratch.specs.Call.{TrimRan}
 use Rattle.trim.specs.Asks.{Asks, refusal}
 
--- ---- the tests
+-- ---- past the tests, or refused by them
 
-module _ (pattern : ℕ) (marked : Bool) where
-  pub above_last : 1 < pattern → 15 ≡ refusal pattern marked
-  above_last h = rw (lt-leb pattern 1 h)
-
-  pub marked_desk : pattern ≤ 1 → marked ≡ true → 20 ≡ refusal pattern marked
-  marked_desk h e = rw (le-leb pattern 1 h, e)
-
-  pub passed : pattern ≤ 1 → marked ≡ false → 0 ≡ refusal pattern marked
-  passed h e = rw (le-leb pattern 1 h, e)
-
-module _ (source t p s : List ℕ) {both front : Bool} {pattern number : ℕ} (h : number ≡ refusal pattern (frozen_in_rows true 0 0 t)) (e : Edit) (a : Asks both front pattern e) where
-  refused_is : refused_before (magic_string_of source t p s) e ≡ number
+module _ (source t p s : List ℕ) {both front : Bool} {pattern : ℕ} (e : Edit) (a : Asks both front pattern e) where
+  refused_is : refused_before (magic_string_of source t p s) e ≡ refusal pattern (frozen_in_rows true 0 0 t)
   unfolding refused_before
-  refused_is = rw (a.options, a.no_text, a.no_position, a.whole_desk, sym (frozen_any source t p s)) (sym h)
+  refused_is = rw (a.options, a.no_text, a.no_position, a.whole_desk, sym (frozen_any source t p s))
 
   -- the desk stays, and what it uses
-  pub refused : {used : Used} → Desk source t p s used → (number ≡ 0 → ⊥) → Leaves e source t p s t p s (record { number = number; cuts = 0; used = used })
-  refused d n =
-      let positive : number ≡ suc (number - 1) = omega (arith, n) in
-      record { ran = ran_before e source t p s (number - 1) number d.well_formed (refused_is ∙ positive) positive; above = d.above }
+  pub refused : {used : Used} (r : Refusal) → Desk source t p s used → code r ≡ refusal pattern (frozen_in_rows true 0 0 t)
+      → Leaves e source t p s t p s (record { status = Err r; cuts = 0; used = used })
+  refused r d n =
+      let positive : code r ≡ suc (code r - 1) = omega (arith, code_some r) in
+      record { ran = ran_before e source t p s (code r - 1) (code r) d.well_formed (refused_is ∙ sym n ∙ positive) positive; above = d.above }
 
-  pub ran : number ≡ 0 → {t' p' s' : List ℕ} {o : Outcome} → TrimRan both front pattern source t p s t' p' s' o.number o.cuts × Above t' p' s' o.used
+  pub ran : 0 ≡ refusal pattern (frozen_in_rows true 0 0 t) → {t' p' s' : List ℕ} {o : Outcome} → TrimRan both front pattern source t p s t' p' s' (number_of o.status) o.cuts × Above t' p' s' o.used
       → Leaves e source t p s t' p' s' o
-  ran z f = record { ran = f.0 e (refused_is ∙ z) (a.does (magic_string_of source t p s)) a.busy; above = f.1 }
+  ran z f = record { ran = f.0 e (refused_is ∙ sym z) (a.does (magic_string_of source t p s)) a.busy; above = f.1 }
 
 -- ---- the calls
 

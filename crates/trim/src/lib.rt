@@ -1,31 +1,32 @@
 // trim.rs: `trim`, `trim_start`, `trim_end` and `trim_lines`. Each is told what the desk uses, and hands back what the desk that it leaves uses.
 #![tactic(auto)]
 
-ghost use Rattle.std.specs.Prelude.{◌≡◌, true};
+ghost use Rattle.std.specs.Prelude.{◌≡◌, true, IfOk};
 ghost use Rattle.model.specs.Call.{trim, trim_start, trim_end, trim_lines};
+ghost use Rattle.memory_layout.specs.Refusals.{number_of};
 ghost use Rattle.memory_table.specs.Order.{Linked};
 ghost use Rattle.memory_used.specs.Above.{Desk, Leaves};
 ghost use Rattle.memory_frozen.specs.Frozen.{frozen_in_rows};
+ghost use Rattle.trim_text.specs.Patterns.{pattern_number};
 ghost use Rattle.trim.specs.Asks.{refusal, TrimLeaves};
 
-use memory_layout::numbers;
+use memory_layout::refusal::Refusal;
 use memory_used::{Outcome, Used};
+use trim_text::Pattern;
 
-// The patterns are 0, white space, and 1, line ends.
-const LAST_PATTERN: u32 = 1;
-
-// 15 for a pattern above 1, then 20 on a desk with a frozen chunk; 0 if neither.
-fn refused(chunks: &[u32], pattern: u32) -> u32
+// The pattern with this number: 15 for a number above 1, then 20 on a desk with a frozen chunk.
+fn asked(chunks: &[u32], pattern: u32) -> Result<Pattern, Refusal>
     requires { Linked chunks.now }
-    ensures { result ≡ refusal pattern (frozen_in_rows true 0 0 chunks.now) }
+    ensures refusal { number_of result ≡ refusal pattern (frozen_in_rows true 0 0 chunks.now) }
+    ensures pattern { IfOk result (λ p. pattern_number p ≡ pattern) }
 {
-    if pattern > LAST_PATTERN {
-        return numbers::BAD_OPTION;
-    }
+    let Ok(known) = Pattern::try_from(pattern) else {
+        return Err(Refusal::BadOption);
+    };
     if memory_frozen::any_frozen(chunks) {
-        return numbers::FROZEN;
+        return Err(Refusal::Frozen);
     }
-    0
+    Ok(known)
 }
 
 // What the calls share: those tests, then the trim of one side or of both.
@@ -43,15 +44,16 @@ fn trim_sides(
     ensures { TrimLeaves both front pattern source.now chunks.old pieces.old store.old
         chunks.new pieces.new store.new result }
 {
-    let number = refused(chunks, pattern);
-    if number != 0 {
-        return Outcome {
-            number,
+    match asked(chunks, pattern) {
+        Ok(pattern) => {
+            trim_either::trim_either(source, chunks, pieces, store, both, front, pattern, used)
+        }
+        Err(refusal) => Outcome {
+            status: Err(refusal),
             cuts: 0,
             used,
-        };
+        },
     }
-    trim_either::trim_either(source, chunks, pieces, store, both, front, pattern, used)
 }
 
 // `trim_start`: the head, then the chunks from the first on.
@@ -114,5 +116,6 @@ pub fn trim_lines(
     ensures { Leaves trim_lines source.now chunks.old pieces.old store.old
         chunks.new pieces.new store.new result }
 {
-    trim_sides(source, chunks, pieces, store, true, true, 1, used)
+    let lines = Pattern::LineEnds as u32;
+    trim_sides(source, chunks, pieces, store, true, true, lines, used)
 }

@@ -1,4 +1,3 @@
-pub mod Clearing
 pub mod RunEnds
 pub mod Runs
 pub mod Plain

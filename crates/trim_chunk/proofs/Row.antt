@@ -31,6 +31,7 @@ use Rattle.memory_texts.specs.Low.{RowsKept, TextLow, RunsLow, EntryLow}
 use Rattle.memory_texts.proofs.Low.{rows_same, bytes_same, none_below, run_same, run_still}
 use Rattle.trim_run.specs.Run.{RunReady, RowRoom, RunTrimmed}
 use Rattle.memory.proofs.Desks.{no_run, none_text, some_text, among_none}
+use Rattle.trim_chunk.specs.declared.Stop.TheVariants.{Content, Far}
 use Rattle.trim_chunk.specs.Uses.{NoMore, RowApart}
 use Rattle.trim_chunk.proofs.Uses.{no_more_none, no_more_same, no_more_trimmed, rows_above, among_most, text_before, text_within, text_empty, Fewer, row_apart}
 use Rattle.trim_chunk.specs.Plain.{plain_of, Behind}
@@ -295,7 +296,7 @@ module _ (front : Bool) (pattern : ℕ) (source p s : List ℕ) (e : Entry) (top
   sides_text true n q x t = t
   sides_text false n q x t = t
 
-  stopped_near : all (blank pattern) (run_of p s (near_of front e)) ≡ false → (p' : List ℕ) (q : Place) → RunTrimmed front pattern p s (near_of front e).0 (near_of front e).1 top p' q
+  pub stopped_near : all (blank pattern) (run_of p s (near_of front e)) ≡ false → (p' : List ℕ) (q : Place) → RunTrimmed front pattern p s (near_of front e).0 (near_of front e).1 top p' q
       → RowTrimmed front pattern source p s e top byte p' s (with_side_places front e q (far_of front e) e.text)
   stopped_near b p' q d =
       let c = chunk_of p s e in
@@ -316,9 +317,9 @@ module _ (front : Bool) (pattern : ℕ) (source p s : List ℕ) (e : Entry) (top
             (λ j l. omega (arith, among_most q j, far_above j l)) (λ b l. omega arith);
       }
 
-  stopped_content : all (blank pattern) (run_of p s (near_of front e)) ≡ true → blank pattern (content_of source s e) ≡ false → (s' : List ℕ) (x : Place)
+  pub stopped_content : PartIs front pattern source p s e Content → (s' : List ℕ) (x : Place)
       → ContentTrimmed front pattern source s e byte s' x → RowTrimmed front pattern source p s e top byte p s' (with_side_places front e (0, 0) (far_of front e) x)
-  stopped_content b g s' x d =
+  stopped_content (b, g) s' x d =
       let c = chunk_of p s e in
       let k = content_left pattern source c front (ap (all (blank pattern)) (near_run p s e front) ∙ b) g in
       record {
@@ -335,10 +336,10 @@ module _ (front : Bool) (pattern : ℕ) (source p s : List ℕ) (e : Entry) (top
             (λ j l. omega (arith, among_none 0 j, far_above j l)) d.uses;
       }
 
-  stopped_far : all (blank pattern) (run_of p s (near_of front e)) ≡ true → blank pattern (content_of source s e) ≡ true → all (blank pattern) (run_of p s (far_of front e)) ≡ false
+  pub stopped_far : PartIs front pattern source p s e Far → all (blank pattern) (run_of p s (far_of front e)) ≡ false
       → (p' : List ℕ) (q : Place) → RunTrimmed front pattern p s (far_of front e).0 (far_of front e).1 top p' q
       → RowTrimmed front pattern source p s e top byte p' s (with_side_places front e (0, 0) q (cleared_text_place e))
-  stopped_far b g f p' q d =
+  stopped_far (b, g) f p' q d =
       let c = chunk_of p s e in
       let k = content_blank pattern source c front (ap (all (blank pattern)) (near_run p s e front) ∙ b) g in
       let z : is_nil (trim_deque front pattern (far front c.texts)) ≡ false = deque_nil front pattern (far front c.texts) ∙ ap (all (blank pattern)) (far_run p s e front) ∙ f in
@@ -359,33 +360,20 @@ module _ (front : Bool) (pattern : ℕ) (source p s : List ℕ) (e : Entry) (top
             (λ j l. omega (arith, among_none 0 j, among_most q j)) (λ b l. cleared_uses e b);
       }
 
-  -- at the place that `part` tells
-  module _ (k : ℕ) (w : PartIs front pattern source p s e k) where
-    pub row_near : k ≡ 0 → (p' : List ℕ) (q : Place) → RunTrimmed front pattern p s (near_of front e).0 (near_of front e).1 top p' q
-        → RowTrimmed front pattern source p s e top byte p' s (with_side_places front e q (far_of front e) e.text)
-    row_near z = stopped_near (w.stops_near z)
-
-    pub row_content : k ≡ 1 → (s' : List ℕ) (x : Place) → ContentTrimmed front pattern source s e byte s' x
-        → RowTrimmed front pattern source p s e top byte p s' (with_side_places front e (0, 0) (far_of front e) x)
-    row_content z = stopped_content (w.near_blank (λ y. omega arith)) (w.stops_content z)
-
-    pub far_stays : (k ≡ 0 → ⊥) → (k ≡ 1 → ⊥) → blank_row pattern source p s e ≡ false → all (blank pattern) (run_of p s (far_of front e)) ≡ false
-    unfolding blank_row
-    far_stays y z b = other front (w.near_blank y) (w.content_is_blank y z) b
-      where
-        other : (f : Bool) → all (blank pattern) (run_of p s (near_of f e)) ≡ true → blank pattern (content_of source s e) ≡ true
-            → (all (blank pattern) (run_of p s e.intro) && (blank pattern (content_of source s e) && all (blank pattern) (run_of p s e.outro))) ≡ false
-            → all (blank pattern) (run_of p s (far_of f e)) ≡ false
-        other true a d x = rw (a, d) at x
-        other false a d x = last _ (rw (a, d) at x)
-          where
-            last : (i : Bool) → (i && true) ≡ false → i ≡ false
-            last true q = q
-            last false q = refl
-
-    pub row_far : (k ≡ 0 → ⊥) → (k ≡ 1 → ⊥) → blank_row pattern source p s e ≡ false → (p' : List ℕ) (q : Place) → RunTrimmed front pattern p s (far_of front e).0 (far_of front e).1 top p' q
-        → RowTrimmed front pattern source p s e top byte p' s (with_side_places front e (0, 0) q (cleared_text_place e))
-    row_far y z b = stopped_far (w.near_blank y) (w.content_is_blank y z) (far_stays y z b)
+  -- a chunk that is not blank, but for its far side
+  pub far_stays : PartIs front pattern source p s e Far → blank_row pattern source p s e ≡ false → all (blank pattern) (run_of p s (far_of front e)) ≡ false
+  unfolding blank_row
+  far_stays w b = other front w.0 w.1 b
+    where
+      other : (f : Bool) → all (blank pattern) (run_of p s (near_of f e)) ≡ true → blank pattern (content_of source s e) ≡ true
+          → (all (blank pattern) (run_of p s e.intro) && (blank pattern (content_of source s e) && all (blank pattern) (run_of p s e.outro))) ≡ false
+          → all (blank pattern) (run_of p s (far_of f e)) ≡ false
+      other true a d x = rw (a, d) at x
+      other false a d x = last _ (rw (a, d) at x)
+        where
+          last : (i : Bool) → (i && true) ≡ false → i ≡ false
+          last true q = q
+          last false q = refl
 
 -- a blank chunk is cleared, and the trim goes on
 pub row_blank : (front : Bool) (pattern : ℕ) (source p s : List ℕ) (e : Entry) → RowReady source p s e → blank_row pattern source p s e ≡ true
@@ -413,20 +401,7 @@ row_blank front pattern source p s e r b =
     both true q = rw (q, no_run p s 0)
     both false q = rw (q, no_run p s 0)
 
--- ---- the tests of `is_blank`
-
-module _ (pattern : ℕ) (source p s : List ℕ) (e : Entry) where
-  pub blank_first : all (blank pattern) (run_of p s e.intro) ≡ false → false ≡ blank_row pattern source p s e
-  unfolding blank_row
-  blank_first h = rw h
-
-  pub blank_second : all (blank pattern) (run_of p s e.intro) ≡ true → blank pattern (content_of source s e) ≡ false → false ≡ blank_row pattern source p s e
-  unfolding blank_row
-  blank_second h k = rw (h, k)
-
-  pub blank_third : all (blank pattern) (run_of p s e.intro) ≡ true → blank pattern (content_of source s e) ≡ true → all (blank pattern) (run_of p s e.outro) ≡ blank_row pattern source p s e
-  unfolding blank_row
-  blank_third h k = rw (h, k)
+-- ---- the row that is written
 
 pub sides_start : (front : Bool) (e : Entry) (n f x : Place) → (with_side_places front e n f x).start ≡ e.start
 sides_start true e n f x = refl

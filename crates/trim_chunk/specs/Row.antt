@@ -12,6 +12,8 @@ use Rattle.memory.specs.WellFormed.{ReplacementIn, EntryIn, replacement_uses}
 use Rattle.memory_texts.specs.Texts.{SpanIn, content_at}
 use Rattle.trim_text.specs.Sides.{trim_text, blank}
 use Rattle.memory_texts.specs.Low.{RowsKept, BytesKept, TextLow, RunsLow, EntryLow}
+use Rattle.trim_chunk.specs.declared.Stop.{Stop}
+use Rattle.trim_chunk.specs.declared.Stop.TheVariants.{Near, Content, Far}
 use Rattle.trim_chunk.specs.Uses.{RowApart}
 use Rattle.trim_chunk.specs.Plain.{plain_of, Behind}
 use Rattle.trim_chunk.specs.Sides.{trim_chunk}
@@ -84,11 +86,10 @@ pub record ContentReady (source s : List ℕ) (e : Entry) (byte : ℕ) : Type 0 
 -- ---- what they give
 
 -- where a trim stops
-pub record PartIs (front : Bool) (pattern : ℕ) (source p s : List ℕ) (e : Entry) (k : ℕ) : Type 0 where
-  pub stops_near : k ≡ 0 → all (blank pattern) (run_of p s (near_of front e)) ≡ false
-  pub near_blank : (k ≡ 0 → ⊥) → all (blank pattern) (run_of p s (near_of front e)) ≡ true
-  pub stops_content : k ≡ 1 → blank pattern (content_of source s e) ≡ false
-  pub content_is_blank : (k ≡ 0 → ⊥) → (k ≡ 1 → ⊥) → blank pattern (content_of source s e) ≡ true
+abbrev pub PartIs : Bool → ℕ → List ℕ → List ℕ → List ℕ → Entry → Stop → Type 0
+PartIs front pattern source p s e Near = all (blank pattern) (run_of p s (near_of front e)) ≡ false
+PartIs front pattern source p s e Content = (all (blank pattern) (run_of p s (near_of front e)) ≡ true) × (blank pattern (content_of source s e) ≡ false)
+PartIs front pattern source p s e Far = (all (blank pattern) (run_of p s (near_of front e)) ≡ true) × (blank pattern (content_of source s e) ≡ true)
 
 -- the replacement of a content that is trimmed in part: none, or what it was, where nothing was taken off
 pub record ContentTrimmed (front : Bool) (pattern : ℕ) (source s : List ℕ) (e : Entry) (byte : ℕ) (s' : List ℕ) (x : Place) : Type 0 where

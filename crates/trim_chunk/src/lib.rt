@@ -5,6 +5,7 @@ ghost use Rattle.std.specs.Prelude.{◌≡◌, true, false, ◌+◌, ◌≤◌, 
 ghost use Rattle.memory_layout.specs.Layout.{TRIM_STORE_LEN};
 ghost use Rattle.memory_texts.specs.Over.{over};
 ghost use Rattle.memory_table.specs.Order.{entry_of};
+ghost use Rattle.trim_text.specs.Patterns.{pattern_number};
 ghost use Rattle.trim_text.specs.Sides.{blank};
 ghost use Rattle.memory_texts.specs.Low.{TextLow};
 ghost use Rattle.trim_chunk.specs.Plain.{Behind};
@@ -13,6 +14,7 @@ ghost use Rattle.trim_chunk.specs.Row.{near_of, far_of, with_side_places, cleare
 ghost use Rattle.trim_chunk.specs.Row.{ContentTrimmed, RowDone};
 
 use memory_table::{Piece, Row};
+use trim_text::Pattern;
 
 // Where what is in use ends: a row of the piece table and a byte of the store behind all of it.
 #[derive(Clone, Copy)]
@@ -58,18 +60,16 @@ fn cleared_text(r: Row) -> Piece
     requires { r.start ≤ r.end }
     ensures { place_of result ≡ cleared_text_place (entry_of r) }
 {
-    let same = Piece {
-        at: r.text_at,
-        n: r.text_n,
+    let n = if r.text_at == memory_layout::NONE {
+        r.end - r.start
+    } else {
+        r.text_n
     };
-    if r.text_at == memory_layout::NONE {
-        if r.end - r.start == 0 {
-            return same;
-        }
-        return Piece { at: 0, n: 0 };
-    }
-    if r.text_n == 0 {
-        return same;
+    if n == 0 {
+        return Piece {
+            at: r.text_at,
+            n: r.text_n,
+        };
     }
     Piece { at: 0, n: 0 }
 }
@@ -84,9 +84,15 @@ pub fn cleared(r: Row) -> Row
 }
 
 // Whether a chunk's content is blank.
-fn is_blank_content<'a>(source: &'a [u8], p: &'a [u32], s: &'a [u8], r: Row, pattern: u32) -> bool
+fn is_blank_content<'a>(
+    source: &'a [u8],
+    p: &'a [u32],
+    s: &'a [u8],
+    r: Row,
+    pattern: Pattern,
+) -> bool
     requires { RowReady source.now p.now s.now (entry_of r) }
-    ensures { result ≡ blank pattern (content_of source.now s.now (entry_of r)) }
+    ensures { result ≡ blank (pattern_number pattern) (content_of source.now s.now (entry_of r)) }
 {
     trim_text::is_blank(
         memory_texts::content(source, s, r.start, r.end, r.text_at, r.text_n),
@@ -95,32 +101,43 @@ fn is_blank_content<'a>(source: &'a [u8], p: &'a [u32], s: &'a [u8], r: Row, pat
 }
 
 // Whether nothing is left of a chunk, from either end.
-pub fn is_blank<'a>(source: &'a [u8], p: &'a [u32], s: &'a [u8], r: Row, pattern: u32) -> bool
+#[tactic(auto, unfolding(crate::specs::Row::blank_row))]
+pub fn is_blank<'a>(source: &'a [u8], p: &'a [u32], s: &'a [u8], r: Row, pattern: Pattern) -> bool
     requires { RowReady source.now p.now s.now (entry_of r) }
-    ensures { result ≡ blank_row pattern source.now p.now s.now (entry_of r) }
+    ensures { result ≡ blank_row (pattern_number pattern) source.now p.now s.now (entry_of r) }
 {
-    if !trim_run::is_blank(p, s, r.intro_at, r.intro_n, pattern) {
-        return false;
-    }
-    if !is_blank_content(source, p, s, r, pattern) {
-        return false;
-    }
-    trim_run::is_blank(p, s, r.outro_at, r.outro_n, pattern)
+    trim_run::is_blank(p, s, r.intro_at, r.intro_n, pattern)
+        && is_blank_content(source, p, s, r, pattern)
+        && trim_run::is_blank(p, s, r.outro_at, r.outro_n, pattern)
 }
 
-// Where a trim stops in a chunk that is not blank: 0 in the pieces on the near side, 1 in the content, 2 in those on the far side.
-fn part<'a>(source: &'a [u8], p: &'a [u32], s: &'a [u8], r: Row, front: bool, pattern: u32) -> u32
+// Where a trim stops in a chunk that is not blank: in the pieces on the near side, in the content, or in those on the far side.
+#[derive(Clone, Copy)]
+enum Stop {
+    Near,
+    Content,
+    Far,
+}
+
+fn part<'a>(
+    source: &'a [u8],
+    p: &'a [u32],
+    s: &'a [u8],
+    r: Row,
+    front: bool,
+    pattern: Pattern,
+) -> Stop
     requires { RowReady source.now p.now s.now (entry_of r) }
-    ensures { PartIs front pattern source.now p.now s.now (entry_of r) result }
+    ensures { PartIs front (pattern_number pattern) source.now p.now s.now (entry_of r) result }
 {
     let q = near(r, front);
     if !trim_run::is_blank(p, s, q.at, q.n, pattern) {
-        return 0;
+        return Stop::Near;
     }
     if !is_blank_content(source, p, s, r, pattern) {
-        return 1;
+        return Stop::Content;
     }
-    2
+    Stop::Far
 }
 
 // A text written over the store from a byte on.
@@ -133,9 +150,16 @@ fn put_at(s: &mut [u8], byte: u32, text: &[u8])
 }
 
 // The replacement of a chunk whose content stops the trim: a shorter place of the same bytes, or what is left of its part of the source, copied to a byte of the store.
-fn trim_content(source: &[u8], s: &mut [u8], r: Row, byte: u32, front: bool, pattern: u32) -> Piece
+fn trim_content(
+    source: &[u8],
+    s: &mut [u8],
+    r: Row,
+    byte: u32,
+    front: bool,
+    pattern: Pattern,
+) -> Piece
     requires { ContentReady source.now s.old (entry_of r) byte }
-    ensures { ContentTrimmed front pattern source.now s.old (entry_of r) byte s.new (place_of result) }
+    ensures { ContentTrimmed front (pattern_number pattern) source.now s.old (entry_of r) byte s.new (place_of result) }
 {
     let old = Piece {
         at: r.text_at,
@@ -168,27 +192,30 @@ pub fn trim_chunk(
     top: u32,
     byte: u32,
     front: bool,
-    pattern: u32,
+    pattern: Pattern,
 ) -> Row
     requires row_ready { RowReady source.now p.old s.old (entry_of r) }
     requires row_fits { RowFits p.old s.old top byte (entry_of r) }
-    requires r_value { blank_row pattern source.now p.old s.old (entry_of r) ≡ false }
-    ensures { RowDone front pattern source.now p.old s.old r top byte p.new s.new result }
+    requires r_value { blank_row (pattern_number pattern) source.now p.old s.old (entry_of r) ≡ false }
+    ensures { RowDone front (pattern_number pattern) source.now p.old s.old r top byte p.new s.new result }
 {
     let none = Piece { at: 0, n: 0 };
-    let k = part(source, p, s, r, front, pattern);
-    if k == 0 {
-        let q = near(r, front);
-        let n = trim_run::trim_run(p, s, q.at, q.n, top, front, pattern);
-        return with_near(r, front, n);
+    match part(source, p, s, r, front, pattern) {
+        Stop::Near => {
+            let q = near(r, front);
+            let n = trim_run::trim_run(p, s, q.at, q.n, top, front, pattern);
+            with_near(r, front, n)
+        }
+        Stop::Content => {
+            let x = trim_content(source, s, r, byte, front, pattern);
+            with_sides(r, front, none, far(r, front), x)
+        }
+        Stop::Far => {
+            let q = far(r, front);
+            let f = trim_run::trim_run(p, s, q.at, q.n, top, front, pattern);
+            with_sides(r, front, none, f, cleared_text(r))
+        }
     }
-    let q = far(r, front);
-    if k == 1 {
-        let x = trim_content(source, s, r, byte, front, pattern);
-        return with_sides(r, front, none, q, x);
-    }
-    let f = trim_run::trim_run(p, s, q.at, q.n, top, front, pattern);
-    with_sides(r, front, none, f, cleared_text(r))
 }
 
 // The byte behind `byte` and behind a row's replacement.
@@ -199,11 +226,7 @@ fn text_behind(r: Row, byte: u32) -> u32
     if r.text_at == memory_layout::NONE {
         return byte;
     }
-    let end = r.text_at + r.text_n;
-    if end < byte {
-        return byte;
-    }
-    end
+    byte.max(r.text_at + r.text_n)
 }
 
 // The row behind `row` and behind a run; a run of no piece lies nowhere.
@@ -214,11 +237,7 @@ fn run_behind(at: u32, n: u32, row: u32) -> u32
     if n == 0 {
         return row;
     }
-    let end = at + n;
-    if end < row {
-        return row;
-    }
-    end
+    row.max(at + n)
 }
 
 // The row behind `row` and behind a row's two runs.
@@ -236,7 +255,8 @@ pub fn behind(r: Row, row: u32, byte: u32) -> Ends
     requires text_low { TextLow TRIM_STORE_LEN (entry_of r).text }
     ensures { RunsBehind row (entry_of r) result.row × Behind byte (entry_of r).text result.byte }
 {
-    let row = runs_behind(r, row);
-    let byte = text_behind(r, byte);
-    Ends { row, byte }
+    Ends {
+        row: runs_behind(r, row),
+        byte: text_behind(r, byte),
+    }
 }

@@ -5,6 +5,7 @@ use mathlib.Core.List.{List, [], ◌∷◌, ◌++◌, map, map-append, map-map, 
 use Prim.Native.Nat.{ℕ, ◌+◌, ◌*◌, ◌≤◌, ◌<◌}
 use native.Mathlib.Omega.{arith}
 use lib.ListN.{length, length-reverse}
+use Rattle.std.specs.Prelude.{Option, Some, None}
 use Rattle.memory_layout.specs.Layout.{ROW, TRIM_STORE_LEN}
 use Rattle.utf8.specs.Chars.{All}
 use Rattle.memory_table.specs.declared.Row.{Row}
@@ -31,7 +32,7 @@ use Rattle.trim_chunk.specs.Uses.{RowApart}
 use Rattle.trim_chunks.proofs.Apart.{all_apart, one_apart}
 use Rattle.trim_chunks.specs.Sums.{way}
 use Rattle.trim_chunks.proofs.Sums.{each_sum, but_one, entries_sum}
-use Rattle.trim_chunks.specs.Walk.{step_of, head_or, Standing, WalkAt, NextRow, Walked, ReadyAt, ChunksReady, ChunksTrimmed}
+use Rattle.trim_chunks.specs.Walk.{step_of, head_or, Standing, WalkAt, NextRow, WalkEnd, Walked, ReadyAt, ChunksReady, ChunksTrimmed}
 
 -- ---- lists
 
@@ -176,17 +177,17 @@ module _ (front : Bool) (pattern : ℕ) (source p s t₀ t : List ℕ) (n k cur 
           len = m ∙ w.len;
         }
 
--- ---- where the walk ends: row i stops it, or i is 0 and every chunk is blank
+-- ---- where the walk ends: a row stops it, or every chunk is blank
 
 module _ (front : Bool) (pattern : ℕ) (source p s t₀ t : List ℕ) (n k cur : ℕ) (l : Linked t₀) (w : WalkAt front pattern source p s t₀ t n k cur) where
-  pub walk_end : n ≤ k → Walked front pattern source p s t₀ t 0
-  walk_end h = record { n = n; k = k; cur = cur; at = w; ended = λ _. none w.rest (omega (arith, w.size)); stopped = λ z. absurd (z refl) }
+  pub walk_end : n ≤ k → Walked front pattern source p s t₀ t None
+  walk_end h = record { n = n; k = k; cur = cur; at = w; ends = none w.rest (omega (arith, w.size)) }
     where
       none : (m : List ℕ) → length m ≤ 0 → m ≡ []
       none [] g = refl
       none (x ∷ m) g = absurd (omega arith)
 
-  pub walk_stop : k < n → (r : Row) → r ≡ row_at t cur → blank_row pattern source p s (entry_of r) ≡ false → Walked front pattern source p s t₀ t cur
+  pub walk_stop : k < n → (r : Row) → r ≡ row_at t cur → blank_row pattern source p s (entry_of r) ≡ false → Walked front pattern source p s t₀ t (Some cur)
   walk_stop g r e b =
       let x = next_row front pattern source p s t₀ t n k cur l w g in
       record {
@@ -194,8 +195,7 @@ module _ (front : Bool) (pattern : ℕ) (source p s t₀ t : List ℕ) (n k cur 
         k = k;
         cur = cur;
         at = w;
-        ended = λ z. absurd (omega (arith, x.stands.positive));
-        stopped = λ _. (x, ap (λ (z : Row). blank_row pattern source p s (entry_of z)) (sym (e ∙ x.row_is)) ∙ b);
+        ends = (x, ap (λ (z : Row). blank_row pattern source p s (entry_of z)) (sym (e ∙ x.row_is)) ∙ b);
       }
 
 -- ---- the chunks, trimmed
@@ -224,7 +224,7 @@ chunks_way : (front : Bool) (p s t : List ℕ) → map (λ x. chunk_of p s (entr
 chunks_way front p s t = map_way front (λ x. chunk_of p s (entry_at t x)) (order t) ∙ ap (way front) (sym (map-map (chunk_of p s) (entry_at t) (order t)))
 
 module _ (front : Bool) (pattern : ℕ) (source p s : List ℕ) (top wide byte : ℕ) (t : List ℕ) (ready : ChunksReady source p s top wide byte t) (t1 : List ℕ)
-    (i : ℕ) (w : Walked front pattern source p s t t1 i) where
+    (found : Option ℕ) (w : Walked front pattern source p s t t1 found) where
   abbrev us : List ℕ
   us = w.at.us
 
@@ -330,14 +330,14 @@ module _ (front : Bool) (pattern : ℕ) (source p s : List ℕ) (top wide byte :
   sums t' o f = (entries_sum front f t, entries_sum front f t' ∙ ap (λ (m : List ℕ). sum (λ x. f (entry_at t' x)) (way front m)) o)
 
   -- every chunk is blank
-  pub all_blank : i ≡ 0 → ChunksTrimmed front pattern source p s top wide byte t p s t1 top byte
+  pub all_blank : found ≡ None → ChunksTrimmed front pattern source p s top wide byte t p s t1 top byte
   unfolding Clear GoesOn Low Goes Spent
   all_blank z =
       let kp = rows_same top p in
       let ks = bytes_same byte s in
       let kr : top ≤ top = omega arith in
       let kb : byte ≤ byte = omega arith in
-      let q : way front (order t) ≡ us = w.at.place ∙ ap (λ (m : List ℕ). us ++ m) (w.ended z) ∙ append-nil us in
+      let q : way front (order t) ≡ us = w.at.place ∙ ap (λ (m : List ℕ). us ++ m) (subst (WalkEnd front pattern source p s t t1 us w.at.rest) z w.ends) ∙ append-nil us in
       let o = same_order t1 (λ x. refl) (λ x. refl) refl refl in
       let g = cleared t1 p s kp ks top kr byte kb us ready_us w.at.blanks w.at.done in
       let x = together t1 p s kp ks top kr byte kb o.0 (rw q (cleared_low t1 p s kp ks top kr byte kb us ready_us w.at.done))
@@ -361,9 +361,9 @@ module _ (front : Bool) (pattern : ℕ) (source p s : List ℕ) (top wide byte :
       }
 
   -- row i stops the walk
-  module _ (nz : i ≡ 0 → ⊥) where
+  module _ (i : ℕ) (is : found ≡ Some i) where
     stop : NextRow front t t1 us w.at.rest i
-    stop = (w.stopped nz).0
+    stop = (subst (WalkEnd front pattern source p s t t1 us w.at.rest) is w.ends).0
 
     ready_rest : Each (ReadyAt source p s top wide byte t) (i ∷ stop.bs)
     ready_rest = subst (Each (ReadyAt source p s top wide byte t)) stop.rest_is (each_right (ReadyAt source p s top wide byte t) us w.at.rest ready_way)
@@ -378,7 +378,7 @@ module _ (front : Bool) (pattern : ℕ) (source p s : List ℕ) (top wide byte :
       pub stop_ready : RowReady source p s (entry_of r) × (RowFits p s top byte (entry_of r) × (blank_row pattern source p s (entry_of r) ≡ false))
       stop_ready =
           subst (λ (y : Row). RowReady source p s (entry_of y) × (RowFits p s top byte (entry_of y) × (blank_row pattern source p s (entry_of y) ≡ false))) (sym row_was)
-          (ready_rest.0.0, (ready_rest.0.1.0, (w.stopped nz).1))
+          (ready_rest.0.0, (ready_rest.0.1.0, (subst (WalkEnd front pattern source p s t t1 us w.at.rest) is w.ends).1))
 
       module _ (p' s' : List ℕ) (q : Row) (d : RowDone front pattern source p s r top byte p' s' q) where
         -- what is asked for the row and the byte behind it

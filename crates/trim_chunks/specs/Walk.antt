@@ -1,5 +1,5 @@
 -- The walk of a trim along the chunk list, from its first row on or from its last one back: blank chunks are cleared until one stops the trim.
-use Rattle.std.specs.Prelude.{◌≡◌, Bool, true, false, List, [], ◌∷◌, ◌++◌, map, ℕ, ◌+◌, ◌≤◌, ◌<◌, length}
+use Rattle.std.specs.Prelude.{◌≡◌, Bool, true, false, List, [], ◌∷◌, ◌++◌, map, Option, Some, None, ℕ, ◌+◌, ◌≤◌, ◌<◌, length}
 use Rattle.utf8.specs.Chars.{All}
 use Rattle.memory_table.specs.declared.Row.{Row}
 use Rattle.memory_table.specs.Ring.{Each, Not}
@@ -57,15 +57,18 @@ pub record NextRow (front : Bool) (t₀ t us rest : List ℕ) (cur : ℕ) : Type
   pub row_is : row_at t cur ≡ row_at t₀ cur
   pub later : Each (λ x. row_at t x ≡ row_at t₀ x) bs
 
--- ---- where the walk ends: row i stops it, or i is 0 and every chunk is blank
+-- ---- where the walk ends: a row stops it, or every chunk is blank
 
-pub record Walked (front : Bool) (pattern : ℕ) (source p s t₀ t : List ℕ) (i : ℕ) : Type 0 where
+abbrev pub WalkEnd : Bool → ℕ → List ℕ → List ℕ → List ℕ → List ℕ → List ℕ → List ℕ → List ℕ → Option ℕ → Type 0
+WalkEnd front pattern source p s t₀ t us rest None = rest ≡ []
+WalkEnd front pattern source p s t₀ t us rest (Some i) = NextRow front t₀ t us rest i × (blank_row pattern source p s (entry_at t₀ i) ≡ false)
+
+pub record Walked (front : Bool) (pattern : ℕ) (source p s t₀ t : List ℕ) (found : Option ℕ) : Type 0 where
   pub n : ℕ
   pub k : ℕ
   pub cur : ℕ
   pub at : WalkAt front pattern source p s t₀ t n k cur
-  pub ended : i ≡ 0 → at.rest ≡ []
-  pub stopped : (i ≡ 0 → ⊥) → NextRow front t₀ t at.us at.rest i × (blank_row pattern source p s (entry_at t₀ i) ≡ false)
+  pub ends : WalkEnd front pattern source p s t₀ t at.us at.rest found
 
 -- ---- the chunks, trimmed
 

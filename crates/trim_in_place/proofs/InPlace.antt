@@ -11,6 +11,7 @@ use Rattle.memory_table.specs.Order.{Entry, count_of}
 use Rattle.model.specs.MagicString.{MagicString, ok}
 use Rattle.model.specs.Limits.{within, piece_count}
 use Rattle.memory_layout.specs.Layout.{NONE}
+use Rattle.memory_layout.specs.Refusals.{number_of}
 use Rattle.memory.specs.Layout.{magic_string_of}
 use Rattle.memory.specs.WellFormed.{limits_of, RunsIn, Readable, WellFormed}
 use Rattle.memory.proofs.Desks.{chunk_count, source_of, keeps_within, keeps_desk}
@@ -107,6 +108,6 @@ module _ {source t p s : List ℕ} {l : Used} (w : WellFormed source t p s) (a :
 
     -- what is answered, for a row and a byte where the trim stopped writing
     pub top_leaves : {pieces₁ row₁ byte₁ : ℕ} {o : Outcome} → Trimmed pieces₁ row₁ byte₁ o → pieces₁ ≡ l.pieces → row₁ ≡ row → byte₁ ≡ byte
-        → TrimRan both front pattern source t p s t' p' s' o.number o.cuts × Above t' p' s' o.used
+        → TrimRan both front pattern source t p s t' p' s' (number_of o.status) o.cuts × Above t' p' s' o.used
     top_leaves {o = o} h n r b =
         (rw (h.number, h.cuts) left_ran, top_above {u = o.used} (h.pieces_are ∙ n) (h.row_is ∙ r) (h.byte_is ∙ b))

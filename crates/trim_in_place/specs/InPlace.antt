@@ -1,5 +1,6 @@
 -- Room for a trim above all that a desk uses, and what the trim answers.
 use Rattle.std.specs.Prelude.{◌≡◌, ℕ, ◌+◌, ◌/◌, ◌≤◌}
+use Rattle.memory_layout.specs.Refusals.{number_of}
 use Rattle.memory_used.specs.declared.Used.{Used}
 use Rattle.memory_used.specs.declared.Outcome.{Outcome}
 
@@ -9,7 +10,7 @@ pub record TrimRoom (cp cs : ℕ) (l : Used) (n : ℕ) : Type 0 where
   pub places : l.byte + n ≤ cs
 
 pub record Trimmed (pieces row byte : ℕ) (o : Outcome) : Type 0 where
-  pub number : o.number ≡ 0
+  pub number : number_of o.status ≡ 0
   pub cuts : o.cuts ≡ 0
   pub pieces_are : o.used.pieces ≡ pieces
   pub row_is : o.used.row ≡ row

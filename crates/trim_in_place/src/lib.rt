@@ -2,27 +2,24 @@
 #![tactic(auto)]
 
 ghost use Rattle.std.specs.Prelude.{length};
+ghost use Rattle.memory_layout.specs.Refusals.{number_of};
 ghost use Rattle.memory.specs.WellFormed.{WellFormed};
 ghost use Rattle.memory_used.specs.Above.{Above};
 ghost use Rattle.memory_counting.specs.Counts.{Decides};
 ghost use Rattle.edit_room_above.specs.Live.{Small};
+ghost use Rattle.trim_text.specs.Patterns.{pattern_number};
 ghost use Rattle.trim_scratch.specs.Call.{TrimRan};
 ghost use Rattle.trim_in_place.specs.InPlace.{TrimRoom, Trimmed};
 
 use memory_used::{Outcome, Used};
+use trim_text::Pattern;
 
 // Whether the lent tables have room above all that is in use for any two runs and for n bytes of a source. So 13 cannot arise: texts that lie apart in the store keep its limit.
 pub fn has_room(l: Used, n: usize, cp: usize, cs: usize) -> bool
     requires { Small cp cs l }
     ensures { Decides result (TrimRoom cp cs l n) }
 {
-    if l.row + l.pieces + l.pieces > cp / memory_layout::PIECE {
-        return false;
-    }
-    if n > cs - l.byte {
-        return false;
-    }
-    true
+    l.row + l.pieces + l.pieces <= cp / memory_layout::PIECE && n <= cs - l.byte
 }
 
 // What a trim answers: it cannot fail, makes no cut, and the desk has no piece more.
@@ -30,7 +27,7 @@ fn trimmed(pieces: usize, row: u32, byte: u32) -> Outcome
     ensures { Trimmed pieces row byte result }
 {
     Outcome {
-        number: 0,
+        status: Ok(()),
         cuts: 0,
         used: Used {
             pieces,
@@ -49,14 +46,14 @@ pub fn trim_in_place(
     store: &mut [u8],
     both: bool,
     front: bool,
-    pattern: u32,
+    pattern: Pattern,
     l: Used,
 ) -> Outcome
     requires well_formed { WellFormed source.now chunks.old pieces.old store.old }
     requires above { Above chunks.old pieces.old store.old l }
     requires trim_room { TrimRoom (length pieces.old) (length store.old) l (length source.now) }
-    ensures { TrimRan both front pattern source.now chunks.old pieces.old store.old
-        chunks.new pieces.new store.new result.number result.cuts
+    ensures { TrimRan both front (pattern_number pattern) source.now chunks.old pieces.old store.old
+        chunks.new pieces.new store.new (number_of result.status) result.cuts
         × Above chunks.new pieces.new store.new result.used }
 {
     let row = l.row as u32;

@@ -4,48 +4,45 @@
 ghost use Rattle.std.specs.Prelude.{◌≡◌, false, ◌<◌};
 ghost use Rattle.model.specs.Text.{all};
 ghost use Rattle.memory.specs.Layout.{run_of};
+ghost use Rattle.trim_text.specs.Patterns.{pattern_number};
 ghost use Rattle.trim_text.specs.Sides.{blank};
 ghost use Rattle.trim_run.specs.Run.{RunReady, BlankFront, BlankBack, RowRoom, PutTrimmed, RunTrimmed};
 
 use memory_table::Piece;
+use trim_text::Pattern;
 
 // How many pieces at the front are blank.
-fn blank_front(p: &[u32], s: &[u8], at: u32, n: u32, pattern: u32) -> u32
+fn blank_front(p: &[u32], s: &[u8], at: u32, n: u32, pattern: Pattern) -> u32
     requires { RunReady p.now s.now (at, n) }
-    ensures { BlankFront pattern p.now s.now at n result }
+    ensures { BlankFront (pattern_number pattern) p.now s.now at n result }
 {
     let first = at as usize;
-    let count = n as usize;
-    let mut k: usize = 0;
-    while k < count {
-        if !trim_text::is_blank(memory_texts::text_of(p, s, first + k), pattern) {
-            return k as u32;
+    for k in 0..n {
+        if !trim_text::is_blank(memory_texts::text_of(p, s, first + k as usize), pattern) {
+            return k;
         }
-        k += 1;
     }
-    k as u32
+    n
 }
 
 // From which piece on all are blank.
-fn blank_back(p: &[u32], s: &[u8], at: u32, n: u32, pattern: u32) -> u32
+fn blank_back(p: &[u32], s: &[u8], at: u32, n: u32, pattern: Pattern) -> u32
     requires { RunReady p.now s.now (at, n) }
-    ensures { BlankBack pattern p.now s.now at n result }
+    ensures { BlankBack (pattern_number pattern) p.now s.now at n result }
 {
     let first = at as usize;
-    let mut k = n as usize;
-    while k > 0 {
-        if !trim_text::is_blank(memory_texts::text_of(p, s, first + (k - 1)), pattern) {
-            return k as u32;
+    for k in (0..n).rev() {
+        if !trim_text::is_blank(memory_texts::text_of(p, s, first + k as usize), pattern) {
+            return k + 1;
         }
-        k -= 1;
     }
-    k as u32
+    0
 }
 
 // Whether nothing is left of the list, from either end.
-pub fn is_blank(p: &[u32], s: &[u8], at: u32, n: u32, pattern: u32) -> bool
+pub fn is_blank(p: &[u32], s: &[u8], at: u32, n: u32, pattern: Pattern) -> bool
     requires { RunReady p.now s.now (at, n) }
-    ensures { result ≡ all (blank pattern) (run_of p.now s.now (at, n)) }
+    ensures { result ≡ all (blank (pattern_number pattern)) (run_of p.now s.now (at, n)) }
 {
     blank_front(p, s, at, n, pattern) == n
 }
@@ -59,17 +56,17 @@ fn put_trimmed(
     k: u32,
     top: u32,
     front: bool,
-    pattern: u32,
+    pattern: Pattern,
 )
     requires run_ready { RunReady p.old s.now (at, n) }
     requires row_room { RowRoom p.old s.now at n top }
     requires k_lt_n { k < n }
-    ensures { PutTrimmed front pattern p.old s.now at n k top p.new }
+    ensures { PutTrimmed front (pattern_number pattern) p.old s.now at n k top p.new }
 {
-    let old = memory_table::get_piece(p, at + k);
+    let old = memory_table::piece_at(p, (at + k) as usize);
     let new = trim_text::trim_place(s, old, front, pattern);
     memory_copy::copy_rows(p, at, n, top as usize);
-    memory_table::put_piece(p, top + k, new);
+    memory_table::set_piece(p, (top + k) as usize, new.at, new.n);
 }
 
 // What is left of a list that is not blank, as a new run from row top on.
@@ -80,12 +77,12 @@ pub fn trim_run(
     n: u32,
     top: u32,
     front: bool,
-    pattern: u32,
+    pattern: Pattern,
 ) -> Piece
     requires run_ready { RunReady p.old s.now (at, n) }
     requires row_room { RowRoom p.old s.now at n top }
-    requires n_value { all (blank pattern) (run_of p.old s.now (at, n)) ≡ false }
-    ensures { RunTrimmed front pattern p.old s.now at n top p.new (result.at, result.n) }
+    requires n_value { all (blank (pattern_number pattern)) (run_of p.old s.now (at, n)) ≡ false }
+    ensures { RunTrimmed front (pattern_number pattern) p.old s.now at n top p.new (result.at, result.n) }
 {
     if front {
         let k = blank_front(p, s, at, n, pattern);

@@ -1,14 +1,17 @@
 // The trims past their test of the pattern, on scratch tables: new rows and bytes stand behind the loaded ones. What the desk uses is counted where it is written back.
 #![tactic(auto)]
 
+ghost use Rattle.memory_layout.specs.Refusals.{number_of};
 ghost use Rattle.memory.specs.WellFormed.{WellFormed};
 ghost use Rattle.memory_used.specs.Above.{Above};
 ghost use Rattle.edit_scratch.specs.Tables.{Scratch};
+ghost use Rattle.trim_text.specs.Patterns.{pattern_number};
 ghost use Rattle.trim_scratch.specs.Call.{Wide, TrimRan};
 
-use memory::Answer;
+use memory::Steps;
 use memory_layout::{NEW_BYTE, NEW_ROW};
 use memory_used::Outcome;
+use trim_text::Pattern;
 
 // One side, and after it the end where both are trimmed, with scratch tables lent.
 fn trim_by(
@@ -21,13 +24,13 @@ fn trim_by(
     s: &mut [u8],
     both: bool,
     front: bool,
-    pattern: u32,
+    pattern: Pattern,
 ) -> Outcome
     requires well_formed { WellFormed source.now chunks.old pieces.old store.old }
     requires scratch { Scratch t.old p.old s.old }
     requires wide { Wide p.old s.old }
-    ensures { TrimRan both front pattern source.now chunks.old pieces.old store.old
-        chunks.new pieces.new store.new result.number result.cuts
+    ensures { TrimRan both front (pattern_number pattern) source.now chunks.old pieces.old store.old
+        chunks.new pieces.new store.new (number_of result.status) result.cuts
         × Above chunks.new pieces.new store.new result.used }
 {
     edit_scratch::load(chunks, pieces, store, t, p, s);
@@ -39,9 +42,9 @@ fn trim_by(
         chunks,
         pieces,
         store,
-        Answer {
-            number: 0,
-            value: 0,
+        Steps {
+            status: Ok(()),
+            cuts: 0,
         },
     )
 }
@@ -54,11 +57,11 @@ pub fn trim_scratch(
     store: &mut [u8],
     both: bool,
     front: bool,
-    pattern: u32,
+    pattern: Pattern,
 ) -> Outcome
     requires { WellFormed source.now chunks.old pieces.old store.old }
-    ensures { TrimRan both front pattern source.now chunks.old pieces.old store.old
-        chunks.new pieces.new store.new result.number result.cuts
+    ensures { TrimRan both front (pattern_number pattern) source.now chunks.old pieces.old store.old
+        chunks.new pieces.new store.new (number_of result.status) result.cuts
         × Above chunks.new pieces.new store.new result.used }
 {
     let rows = memory_layout::SCRATCH_LEN;

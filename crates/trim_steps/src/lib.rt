@@ -1,16 +1,18 @@
 // trim.rs on lent tables: `trim_start`, `trim_end`, or one after the other. New rows stand from row top on and a new text from `byte` on, behind all that the desk uses.
 #![tactic(auto)]
 
+ghost use Rattle.trim_text.specs.Patterns.{pattern_number};
 ghost use Rattle.trim_steps.specs.Side.{desk_pieces, SideReady, SideTrimmed, OwnReady, OwnTrimmed};
 ghost use Rattle.trim_steps.specs.Both.{SidesReady, SidesTrimmed};
 
 use memory_table::Piece;
 use trim_chunk::Ends;
+use trim_text::Pattern;
 
 // The head or the tail, trimmed; whether nothing is left of it.
-fn trim_own(t: &mut [u32], p: &mut [u32], s: &[u8], top: u32, front: bool, pattern: u32) -> bool
+fn trim_own(t: &mut [u32], p: &mut [u32], s: &[u8], top: u32, front: bool, pattern: Pattern) -> bool
     requires { OwnReady front p.old s.now top t.old }
-    ensures { OwnTrimmed front pattern p.old s.now top t.old p.new t.new result }
+    ensures { OwnTrimmed front (pattern_number pattern) p.old s.now top t.old p.new t.new result }
 {
     let z = memory_table::get_row(t, 0);
     let q = trim_chunk::near(z, front);
@@ -32,10 +34,10 @@ fn trim_side(
     top: u32,
     byte: u32,
     front: bool,
-    pattern: u32,
+    pattern: Pattern,
 ) -> Ends
     requires { SideReady source.now t.old p.old s.old top (desk_pieces source.now t.old p.old s.old) byte }
-    ensures { SideTrimmed front pattern source.now t.old p.old s.old top
+    ensures { SideTrimmed front (pattern_number pattern) source.now t.old p.old s.old top
         (desk_pieces source.now t.old p.old s.old) byte t.new p.new s.new result.row result.byte }
 {
     let gone = trim_own(t, p, s, top, front, pattern);
@@ -56,10 +58,10 @@ pub fn trim_steps(
     byte: u32,
     both: bool,
     front: bool,
-    pattern: u32,
+    pattern: Pattern,
 ) -> Ends
     requires { SidesReady source.now t.old p.old s.old top byte }
-    ensures { SidesTrimmed both front pattern source.now t.old p.old s.old
+    ensures { SidesTrimmed both front (pattern_number pattern) source.now t.old p.old s.old
         t.new p.new s.new result.row result.byte }
 {
     let first = trim_side(source, t, p, s, top, byte, front, pattern);

@@ -7,6 +7,7 @@ use native.Mathlib.Omega.{arith}
 use lib.ListN.{length, get_or, take, drop, length-take, drop_of_length-le}
 use lib.Seq.{take-take, take-length}
 use Rattle.utf8.specs.Rfc3629.{follows, utf8, decode_at, code_of, LastStart}
+use Rattle.utf8.specs.declared.Decoded.{Decoded}
 use Rattle.utf8.specs.declared.Decoded.TheVariants.{Char, Invalid, End}
 use Rattle.utf8.specs.Chars.{All, nil, cons, to_first, chars, concat, code}
 use Rattle.utf8.proofs.Texts.{turn, stops, invalid_below, end_past, decode_drop}
@@ -82,15 +83,20 @@ module _ (p : ℕ) (s : Text) (i : ℕ) (a : StartAt p s i) where
         let q : trim_start_pattern p (drop i s) ≡ concat (chars (drop i s)) = rw (first, code_at s i v w e, m) in
         sym (q ∙ concat_chars (drop i s)) ∙ a.same
 
-  pub start_all : decode_at s i ≡ End → drop i s ≡ trim_start_pattern p s
+  start_all : decode_at s i ≡ End → drop i s ≡ trim_start_pattern p s
   unfolding trim_start_matches chars flatten
   start_all e =
       let n : drop i s ≡ [] = drop_of_length-le s (end_past s i e) in
       let q : trim_start_pattern p (drop i s) ≡ [] = rw n in
       n ∙ sym q ∙ a.same
 
-  pub start_whole : decode_at s i ≡ Invalid → ⊥
+  start_whole : decode_at s i ≡ Invalid → ⊥
   start_whole e = let z : ◌≡◌ {A = ℕ} 0 1 = cc (stops s i (invalid_below s i e) e, a.whole) in omega arith
+
+  pub start_over : (d : Decoded) → d ≡ decode_at s i → ((v w : ℕ) → d ≡ Char v w → ⊥) → drop i s ≡ trim_start_pattern p s
+  start_over (Char v w) e none = absurd (none v w refl)
+  start_over Invalid e none = absurd (start_whole (sym e))
+  start_over End e none = start_all (sym e)
 
 -- ---- from the end: the first n bytes stay
 

@@ -20,9 +20,6 @@ pub or_more : (s : List ℕ) (i j x : ℕ) → ((k : ℕ) → k < j → get_or s
 or_more s i j x h k l =
     elim (dec_lt k j) [ yes m ↦ omega (arith, h k m, or_left x (get_or s (i + j) 0)) | no m ↦ let e : k ≡ j = omega arith in rw e (or_right x (get_or s (i + j) 0)) ]
 
-pub none : (s : List ℕ) (i : ℕ) → i ≤ length s → Ascii s i i
-none s i h = record { after = omega arith; inside = h; each = λ k l m. absurd (omega arith) }
-
 pub block : (s : List ℕ) (i r x : ℕ) → Ascii s i r → r + 32 ≤ length s → ((j : ℕ) → j < 32 → get_or s (r + j) 0 ≤ x) → x < 0x80 → Ascii s i (r + 32)
 block s i r x a h b l =
     record {

@@ -1,27 +1,13 @@
--- The laws of masks and shifts: the two upper bits of a byte, six bits joined to the left part, and what the joins make of a sequence.
-use mathlib.Core.Path.{◌≡◌, sym, ap, ◌∙◌}
+-- The low bits of a sequence's bytes, and what the joins make of a sequence.
+use mathlib.Core.Path.{◌≡◌, sym, ◌∙◌}
 use mathlib.Core.Bool.{Bool, true, false}
 use Prim.Native.Nat.{ℕ, ◌+◌, ◌-◌, ◌*◌, ◌/◌, ◌%◌, ◌<◌, ◌≤◌}
 use native.Mathlib.Omega.{arith}
 use native.Mathlib.Decide.{dec_lt}
-use lib.Dec.{eqb}
-use lib.Bits.{bit_and, bit_or, and_mask, and_high, or_shifted}
-use borrow.Author.Tests.{lt-ltb, le-ltb, le-leb, lt-leb, ne_eqb}
+use lib.Bits.{bit_and, and_mask}
 use Rattle.utf8.specs.Rfc3629.{follows, scalar, sequence, value2, value3, value4}
 use Rattle.utf8.proofs.Sequences.{follows_from, seq_2, seq_3, seq_4}
 use Rattle.utf8.specs.declared.Decoded.TheVariants.{Invalid}
-
--- the two upper bits of a byte
-pub upper_bits : (b : ℕ) → b < 256 → eqb (bit_and b 192) 128 ≡ follows b
-upper_bits b h =
-    ap (λ (n : ℕ). eqb n 128) (and_high b 2 6)
-    ∙ elim (dec_lt b 128) [
-      | yes l ↦ simp (lt-leb 128 b l, ne_eqb (b / 64 % 4 * 64) 128 (λ e. omega arith))
-      | no l ↦ elim (dec_lt b 192) [
-        | yes m ↦ let q : b / 64 ≡ 2 = omega arith in simp (le-leb 128 b (omega arith), lt-ltb b 192 m, q)
-        | no m ↦ let q : b / 64 ≡ 3 = omega arith in simp (le-leb 128 b (omega arith), le-ltb b 192 (omega arith), q)
-      ]
-    ]
 
 -- the low bits of a first byte
 low_4 : (a : ℕ) → 0xE0 ≤ a → a < 0xF0 → a % 16 ≡ a - 0xE0
@@ -29,12 +15,6 @@ low_4 a h k = let q : a / 16 ≡ 14 = omega arith in omega arith
 
 low_3 : (a : ℕ) → 0xF0 ≤ a → a < 0xF8 → a % 8 ≡ a - 0xF0
 low_3 a h k = let q : a / 8 ≡ 30 = omega arith in omega arith
-
--- six bits joined to the left part
-pub joined : (l b : ℕ) → l < 32768 → bit_or (l * 64 % 4294967296) (bit_and b 63) ≡ l * 64 + b % 64
-joined l b h =
-    let e : l * 64 % 4294967296 ≡ l * 64 = omega arith in
-    rw (e, and_mask b 6, or_shifted l 6 (b % 64) (omega arith))
 
 module _ (a b c d : ℕ) where
   -- the answer of the joins, by the first byte's low bits and the following bytes

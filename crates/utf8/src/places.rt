@@ -10,11 +10,7 @@ pub fn boundary(s: &[u8], p: usize) -> bool
     requires { utf8 s.now ≡ true }
     ensures { result ≡ between s.now p }
 {
-    if p < s.len() {
-        !following(s[p] as u32)
-    } else {
-        true
-    }
+    s.len() <= p || !following(s[p])
 }
 
 // How many bytes the character at i takes; 0 where there is none. A number, which comes back in a register.
@@ -23,23 +19,18 @@ pub fn width_at(s: &[u8], i: usize) -> usize
     ensures { result ≡ width_of (decode_at s.now i) }
 {
     if s[i] < 0x80 {
-        return width(s[i] as u32);
+        return width(s[i]);
     }
     match decode(s, i) {
-        Decoded::Char { code: _, width } => width,
-        Decoded::Invalid => 0,
-        Decoded::End => 0,
+        Decoded::Char { width, .. } => width,
+        Decoded::Invalid | Decoded::End => 0,
     }
 }
 
-// Where the last character of the text s begins.
+// Where the last character of the text s begins: its last byte that does not follow another. The first never does.
 pub fn last_start(s: &[u8]) -> usize
     requires { (utf8 s.now ≡ true) × (0 < length s.now) }
     ensures { LastStart s.now result }
 {
-    let mut p = s.len() - 1;
-    while following(s[p] as u32) {
-        p -= 1;
-    }
-    p
+    s.iter().rposition(|b| !following(*b)).unwrap_or(0)
 }

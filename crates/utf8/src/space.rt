@@ -6,7 +6,8 @@ ghost use Rattle.utf8.specs.WhiteSpace.{white_space};
 pub fn is_white_space(code: u32) -> bool
     ensures { result ≡ white_space code }
 {
-    match code {
+    matches!(
+        code,
         0x9..=0xd
         | 0x20
         | 0x85
@@ -17,7 +18,6 @@ pub fn is_white_space(code: u32) -> bool
         | 0x2029
         | 0x202f
         | 0x205f
-        | 0x3000 => true,
-        _ => false,
-    }
+        | 0x3000
+    )
 }

@@ -1,5 +1,5 @@
 // Whether a text is valid: character by character, and with blocks of ASCII passed at once.
-ghost use Rattle.std.specs.Prelude.{◌≡◌, ℕ, min, ◌+◌, ◌<◌, ◌≤◌, length, get_or};
+ghost use Rattle.std.specs.Prelude.{◌≡◌, ℕ, ◌+◌, ◌<◌, ◌≤◌, length, get_or};
 ghost use Rattle.utf8.specs.Rfc3629.{utf8};
 ghost use Rattle.utf8.specs.Ascii.{Ascii};
 
@@ -14,15 +14,9 @@ pub fn valid_by_character(s: &[u8]) -> bool
     let mut i: usize = 0;
     loop {
         match decode(s, i) {
-            Decoded::Char { code: _, width } => {
-                i += width;
-            }
-            Decoded::Invalid => {
-                return false;
-            }
-            Decoded::End => {
-                return true;
-            }
+            Decoded::Char { width, .. } => i += width,
+            Decoded::Invalid => return false,
+            Decoded::End => return true,
         }
     }
 }
@@ -33,10 +27,8 @@ fn joined_bits(s: &[u8], i: usize) -> u8
     ensures { (j : ℕ) → j < 32 → get_or s.now (i + j) 0 ≤ result }
 {
     let mut bits: u8 = 0;
-    let mut j: usize = 0;
-    while j < 32 {
-        bits |= s[i + j];
-        j += 1;
+    for b in &s[i..i + 32] {
+        bits |= *b;
     }
     bits
 }
@@ -47,19 +39,10 @@ fn ascii_to(s: &[u8], from: usize) -> usize
     ensures { Ascii s.now from result }
 {
     let mut i = from;
-    while 32 <= s.len() - i {
-        if 0x80 <= joined_bits(s, i) {
-            return i;
-        }
+    while 32 <= s.len() - i && joined_bits(s, i) < 0x80 {
         i += 32;
     }
     i
-}
-
-fn at_most(a: usize, b: usize) -> usize
-    ensures { result ≡ min a b }
-{
-    if a < b { a } else { b }
 }
 
 // The same as `valid_by_character`, with blocks of ASCII passed at once: a block is tried in vain at most once in 32 bytes.
@@ -69,7 +52,7 @@ pub fn valid(s: &[u8]) -> bool
     let mut i: usize = 0;
     while i < s.len() {
         i = ascii_to(s, i);
-        let stop = at_most(i + 32, s.len());
+        let stop = usize::min(i + 32, s.len());
         while i < stop {
             let w = width_at(s, i);
             if w == 0 {

@@ -5,7 +5,7 @@
 // character begins. At the end it writes every code that is white space.
 #![tactic(auto)]
 
-ghost use Rattle.std.specs.Prelude.{◌≡◌, true, ◌≤◌, ◌<◌, length};
+ghost use Rattle.std.specs.Prelude.{◌≡◌, true, ◌≤◌, length};
 ghost use Rattle.utf8.specs.Rfc3629.{utf8};
 
 use std::io;
@@ -24,62 +24,39 @@ fn print_place<W: Write>(out: &mut W, p: usize) -> io::Result<()> {
     write!(out, " {p}")
 }
 
-// The first place of the byte b in s from `from` on, or s's length.
-fn find(s: &[u8], from: usize, b: u8) -> usize
-    requires { from ≤ length s.now }
-    ensures { (from ≤ result) × (result ≤ length s.now) }
-{
-    let mut i = from;
-    while i < s.len() {
-        if s[i] == b {
-            return i;
-        }
-        i += 1;
+// The value of a hexadecimal digit.
+fn digit(b: u8) -> Option<u8> {
+    match b {
+        b'0'..=b'9' => Some(b - b'0'),
+        b'A'..=b'F' => Some(b - b'A' + 10),
+        _ => None,
     }
-    i
 }
 
-// The value of a hexadecimal digit, or 16.
-fn digit(b: u8) -> u8
-    ensures { result ≤ 16 }
-{
-    match b {
-        b'0'..=b'9' => b - b'0',
-        b'A'..=b'F' => b - b'A' + 10,
-        _ => 16,
-    }
+// The byte that two digits and a space stand for.
+fn byte(digits: &[u8]) -> Option<u8> {
+    let [high, low, _] = digits else {
+        return None;
+    };
+    Some(digit(*high)? << 4 | digit(*low)?)
 }
 
 // Puts the bytes that a line begins with into out, two digits and a space each, and answers how many.
 fn parse(line: &[u8], out: &mut [u8]) -> usize
     ensures { result ≤ length out.new }
 {
-    let mut n: usize = 0;
-    while n < out.len() {
-        let b = byte(line, n);
-        if 255 < b {
+    let mut n = 0;
+    for digits in line.chunks_exact(3) {
+        let Some(b) = byte(digits) else {
+            return n;
+        };
+        if n == out.len() {
             return n;
         }
-        out[n] = b as u8;
+        out[n] = b;
         n += 1;
     }
     n
-}
-
-// The line's byte number n, or 256 where it has no such byte.
-fn byte(line: &[u8], n: usize) -> u32 {
-    if line.len() / 3 <= n {
-        return 256;
-    }
-    let high = digit(line[n * 3]);
-    let low = digit(line[n * 3 + 1]);
-    if high == 16 {
-        return 256;
-    }
-    if low == 16 {
-        return 256;
-    }
-    high as u32 * 16 + low as u32
 }
 
 // The codes from the start on, and the place where they stop if that is not the end.
@@ -107,15 +84,12 @@ fn print_places<W: Write>(out: &mut W, s: &[u8]) -> io::Result<()>
     requires { utf8 s.now ≡ true }
 {
     print(out, b" boundaries")?;
-    for p in 0..s.len() {
+    for p in 0..=s.len() {
         if utf8::boundary(s, p) {
             print_place(out, p)?;
         }
     }
-    if utf8::boundary(s, s.len()) {
-        print_place(out, s.len())?;
-    }
-    if 0 < s.len() {
+    if !s.is_empty() {
         print(out, b" last")?;
         print_place(out, utf8::last_start(s))?;
     }
@@ -144,20 +118,14 @@ fn print_line<W: Write>(out: &mut W, line: &[u8]) -> io::Result<()> {
     let n = parse(line, &mut bytes);
     report(out, &bytes[..n])?;
     print(out, b" ")?;
-    let note = find(line, 0, b';');
+    let note = line.iter().position(|b| *b == b';').unwrap_or(line.len());
     print(out, &line[note..])?;
     print(out, b"\n")
 }
 
 fn print_lines<W: Write>(out: &mut W, s: &[u8]) -> io::Result<()> {
-    let mut at: usize = 0;
-    while at < s.len() {
-        let end = find(s, at, b'\n');
-        print_line(out, &s[at..end])?;
-        if end == s.len() {
-            return Ok(());
-        }
-        at = end + 1;
+    for line in s.split_inclusive(|b| *b == b'\n') {
+        print_line(out, line.strip_suffix(b"\n").unwrap_or(line))?;
     }
     Ok(())
 }

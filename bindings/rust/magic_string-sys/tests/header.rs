@@ -8,7 +8,7 @@ use magic_string_sys::{NAMES, layout::*, numbers::NUMBERS};
 
 const HEADER: &str = include_str!("../../../../include/magic_string.h");
 const WRAPPER: &str = include_str!("../../magic_string/src/refusal.rs");
-const LIBRARY: &str = include_str!("../../../../crates/memory_layout/src/numbers.rt");
+const LIBRARY: &str = include_str!("../../../../crates/memory_layout/src/refusal.rt");
 const LIBRARY_LAYOUT: &str = include_str!("../../../../crates/memory_layout/src/lib.rt");
 const LIBRARY_SHEET: &str = include_str!("../../../../crates/sheet_records/src/sheet.rt");
 
@@ -161,14 +161,21 @@ fn numbers_of_the_header() {
   assert_eq!(listed.collect::<Vec<_>>(), NUMBERS);
 }
 
+/// The lines of a text's `pub enum Refusal` but its comments, trimmed.
+fn variants(text: &'static str) -> impl Iterator<Item = &'static str> {
+  let (_, behind) = text.split_once("pub enum Refusal {\n").expect("the enum");
+  let (variants, _) = behind.split_once("\n}").expect("its end");
+  variants.lines().map(str::trim).filter(|line| !line.starts_with("//"))
+}
+
 #[test]
 fn numbers_of_the_library() {
-  let constants = LIBRARY.lines().filter_map(|line| line.strip_prefix("pub const "));
-  let listed = constants.map(|constant| {
-    let named = constant.strip_suffix(';').and_then(|rest| numbered(rest, ": u32 = "));
-    named.unwrap_or_else(|| panic!("not a name and its number: {constant}"))
+  let listed = variants(LIBRARY).map(|line| {
+    let named = line.strip_suffix(',').and_then(|rest| numbered(rest, " = "));
+    named.unwrap_or_else(|| panic!("not a name and its number: {line}"))
   });
-  assert_eq!(listed.collect::<Vec<_>>(), NUMBERS);
+  let expected: Vec<_> = NUMBERS.iter().map(|(name, number)| (variant(name), *number)).collect();
+  assert_eq!(listed.map(|(name, number)| (name.to_string(), number)).collect::<Vec<_>>(), expected);
 }
 
 #[test]
@@ -194,9 +201,6 @@ fn variant(name: &str) -> String {
 /// Each variant takes its number from the constant of its name.
 #[test]
 fn numbers_of_the_wrapper() {
-  let (_, behind) = WRAPPER.split_once("pub enum Refusal {\n").expect("the enum");
-  let (variants, _) = behind.split_once("\n}").expect("its end");
-  let lines = variants.lines().map(str::trim).filter(|line| !line.starts_with("///"));
   let expected = NUMBERS.iter().map(|(name, _)| format!("{} = numbers::{name},", variant(name)));
-  assert_eq!(lines.collect::<Vec<_>>(), expected.collect::<Vec<_>>());
+  assert_eq!(variants(WRAPPER).collect::<Vec<_>>(), expected.collect::<Vec<_>>());
 }

@@ -1,7 +1,5 @@
 -- The invariant: the texts of the first i rows lie inside and apart, the marks are theirs, and `top` is the byte behind them.
-use mathlib.Core.Path.{◌≡◌}
-use Prim.Native.Nat.{◌+◌, ◌-◌, ◌≤◌}
-use lib.ListN.{length}
+use Prim.Native.Nat.{◌+◌, ◌≤◌}
 use Rattle.memory.specs.Layout.{piece_at}
 use Rattle.memory.specs.WellFormed.{among}
 use Rattle.check_marks.proofs.Passing.{PassesTo}
@@ -10,8 +8,4 @@ use Rattle.check_text_marks.proofs.mark_texts.Given as goal
 
 abbrev pub invariant-loop-i : goal.invariant-loop-i
 invariant-loop-i l =
-    (l.i ≤ l.n) × (length l.marks ≡ length l.initial.marks)
-    × PassesTo ◌≤◌ l.size (bit_at l.initial.marks) l.byte (λ k w. (piece_at l.pieces (l.at + k)).0 + (piece_at l.pieces (l.at + k)).1 ≤ w) (λ k. among (piece_at l.pieces (l.at + k))) l.i (bit_at l.marks) l.top
-
-abbrev pub decreases-loop-i : goal.decreases-loop-i
-decreases-loop-i l = l.n - l.i
+    PassesTo ◌≤◌ l.size (bit_at l.initial.marks) l.byte (λ k w. (piece_at l.pieces (l.at + k)).0 + (piece_at l.pieces (l.at + k)).1 ≤ w) (λ k. among (piece_at l.pieces (l.at + k))) l.i (bit_at l.marks) l.top

@@ -1,38 +1,23 @@
-use mathlib.Core.Path.{◌∙◌}
-use Prim.Native.Nat.{◌-◌}
 use native.Mathlib.Omega.{arith}
 use Rattle.check_runs_apart.proofs.Runs.{steps_none, steps_markable, steps_more, steps_no, steps_done}
 use Rattle.check_texts_apart.specs.Places.{entry_of_row}
 use Rattle.check_texts_apart.proofs.Places.{entry_few}
 use Rattle.check_texts_apart.proofs.mark_rows.Goals as goal
 
-pub loop-k-init : goal.loop-k-init
-loop-k-init c = (omega arith, steps_none c.requires.markable _ _ _)
+pub loop-i-init : goal.loop-i-init
+loop-i-init c = steps_none c.requires.markable _ _ _
 
-pub mark_entry-a-requires : goal.mark_entry-a-requires
-mark_entry-a-requires c = record { i_in_bounds = omega arith; markable = steps_markable c.requires.markable c.loop-k.invariant.1; pieces_bound = omega (arith, c.loop-k.invariant.1.few) }
+pub mark_entry-requires-clause-markable : goal.mark_entry-requires-clause-markable
+mark_entry-requires-clause-markable c = steps_markable c.requires.markable c.loop-i.invariant
 
-pub loop-k-preserved : goal.loop-k-preserved
-loop-k-preserved c =
-    let small = entry_few (entry_of_row c.args.t.now c.loop-k.k) (steps_markable c.requires.markable c.loop-k.invariant.1) c.mark_entry-a.ensures c.if-a.true in
-    (omega arith, steps_more c.requires.markable c.loop-k.invariant.1 c.mark_entry-a.ensures c.if-a.true small c.mark_entry-a.auto.rows c.mark_entry-a.auto.marks)
+pub loop-i-preserved : goal.loop-i-preserved
+loop-i-preserved c =
+    let few = entry_few (entry_of_row c.args.t.now c.loop-i.i) (steps_markable c.requires.markable c.loop-i.invariant) c.in_ok-used.ensures in
+    steps_more c.requires.markable c.loop-i.invariant c.in_ok-used.ensures few c.mark_entry.auto.rows c.mark_entry.auto.marks
 
-pub shape_of-rows-else-a : goal.shape_of-rows-else-a
-shape_of-rows-else-a c = c.mark_entry-a.auto.rows ∙ c.loop-k.invariant.1.rows_same
-
-pub shape_of-marks-else-a : goal.shape_of-marks-else-a
-shape_of-marks-else-a c = c.mark_entry-a.auto.marks ∙ c.loop-k.invariant.1.words_same
-
-pub returns-else-a : goal.returns-else-a
-returns-else-a c =
-    steps_no c.requires.markable c.loop-k.invariant.1 c.mark_entry-a.ensures _
-    c.loop-k-test.true c.if-a.false _ _
-
-pub shape_of-rows : goal.shape_of-rows
-shape_of-rows c = c.loop-k.invariant.1.rows_same
-
-pub shape_of-marks : goal.shape_of-marks
-shape_of-marks c = c.loop-k.invariant.1.words_same
+pub returns-in_err-used : goal.returns-in_err-used
+returns-in_err-used c =
+    rw c.from_residual.ensures (steps_no c.requires.markable c.loop-i.invariant c.in_err-used.ensures _ c.loop-i-test.true _ _)
 
 pub returns : goal.returns
-returns c = steps_done c.requires.markable c.loop-k.invariant.1 _ (omega arith)
+returns c = steps_done c.requires.markable c.loop-i.invariant _ (omega arith)

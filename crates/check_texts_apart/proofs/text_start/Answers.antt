@@ -7,4 +7,4 @@ pub returns-then-i-eq0 : goal.returns-then-i-eq0
 returns-then-i-eq0 c = (sym (start_first _ _ c.if-i-eq0.true), omega arith)
 
 pub returns : goal.returns
-returns c = (c.word.ensures.0 ∙ sym (start_other _ _ c.if-i-eq0.false), c.word.ensures.1)
+returns c = (c.word.ensures ∙ sym (start_other _ _ c.if-i-eq0.false), omega arith)

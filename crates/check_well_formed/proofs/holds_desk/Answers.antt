@@ -3,30 +3,21 @@ use Rattle.memory_counting.proofs.Sums.{not_both}
 use Rattle.check_well_formed.proofs.Bridge.{formed_rows}
 use Rattle.check_well_formed.proofs.Whole.{formed_sees}
 use Rattle.check_well_formed.proofs.holds_desk.Goals as goal
+use Rattle.check_well_formed.proofs.holds_desk.Goals.{then-not-shaped-via-then-not-shaped, then-not-shaped-via-else-not-shaped+then-not-valid}
 
-pub chunked-requires : goal.chunked-requires
-chunked-requires c = record { source_value = sym c.valid.ensures ∙ c.if-valid.true; source_len_bound = (c.shaped.ensures.yes c.if-shaped.true).fits }
+pub returns-then-not-shaped : goal.returns-then-not-shaped
+returns-then-not-shaped c = λ x.
+    let y = formed_rows _ _ _ _ x in
+    elim c.then-not-shaped.branch [
+      | then-not-shaped-via-then-not-shaped w ↦ c.shaped.ensures.no w.if-not-shaped.true y.shaped
+      | then-not-shaped-via-else-not-shaped+then-not-valid w ↦ not_both (sym w.if-not-valid.true ∙ w.valid.ensures ∙ y.text)
+    ]
 
-pub pieced-requires : goal.pieced-requires
-pieced-requires c =
-    record {
-      linked = (c.chunked.ensures.yes c.if-chunked.true).linked;
-      sized = (c.shaped.ensures.yes
-          c.if-shaped.true).sized;
-    }
+pub returns-then-not-chunked : goal.returns-then-not-chunked
+returns-then-not-chunked c = λ x. c.chunked.ensures.no c.if-not-chunked.true (formed_rows _ _ _ _ x).chunked
 
-pub returns-then-chunked : goal.returns-then-chunked
-returns-then-chunked c =
+pub returns : goal.returns
+returns c =
     formed_sees c.args.chunks.now c.args.pieces.now c.args.store.now c.args.source.now
-    (c.shaped.ensures.yes c.if-shaped.true)
-    (sym c.valid.ensures ∙ c.if-valid.true)
-    (c.chunked.ensures.yes c.if-chunked.true) c.pieced.result c.pieced.ensures
-
-pub returns-else-chunked : goal.returns-else-chunked
-returns-else-chunked c = λ x. c.chunked.ensures.no c.if-chunked.false (formed_rows _ _ _ _ x).chunked
-
-pub returns-else-valid : goal.returns-else-valid
-returns-else-valid c = λ x. not_both (sym c.if-valid.false ∙ c.valid.ensures ∙ (formed_rows _ _ _ _ x).text)
-
-pub returns-else-shaped : goal.returns-else-shaped
-returns-else-shaped c = λ x. c.shaped.ensures.no c.if-shaped.false (formed_rows _ _ _ _ x).shaped
+    (c.shaped.ensures.yes c.if-not-shaped.false) (sym c.valid.ensures ∙ c.if-not-valid.false)
+    (c.chunked.ensures.yes c.if-not-chunked.false) c.pieced.result c.pieced.ensures

@@ -1,18 +1,8 @@
 -- `insert_scratch::insert_scratch` meets its contract: its own tables are clear and long enough.
-use mathlib.Core.Path.{sym}
 use native.Mathlib.Omega.{arith}
 use Rattle.memory_layout.specs.Layout.{SCRATCH_LEN, INSERT_PIECES_LEN, INSERT_STORE_LEN}
 use Rattle.memory.proofs.Desks.{zeros_length, zeros_at}
 use Rattle.edit_insert_scratch.proofs.insert_scratch.Goals as goal
-
-pub slice_bounds-insert_by-end : goal.slice_bounds-insert_by-end
-slice_bounds-insert_by-end c = sym (zeros_length SCRATCH_LEN SCRATCH_LEN (omega arith))
-
-pub slice_bounds-insert_by-end-2 : goal.slice_bounds-insert_by-end-2
-slice_bounds-insert_by-end-2 c = sym (zeros_length INSERT_PIECES_LEN INSERT_PIECES_LEN (omega arith))
-
-pub slice_bounds-insert_by-end-3 : goal.slice_bounds-insert_by-end-3
-slice_bounds-insert_by-end-3 c = sym (zeros_length INSERT_STORE_LEN INSERT_STORE_LEN (omega arith))
 
 pub insert_by-requires : goal.insert_by-requires
 insert_by-requires c =

@@ -22,5 +22,5 @@ shape_of-p c = c.attempt-edit.auto.p ∙ c.lay-l.auto.p
 
 pub returns : goal.returns
 returns c =
-    let stays = adding_stays c.args.whole c.args.left c.args.front c.args.q c.args.text.now in
+    let stays = adding_stays c.args.spot c.args.front c.args.text.now in
     tried c.requires.well_formed c.lay-l.ensures c.attempt-edit.ensures stays c.finish.ensures.0 c.finish.result refl refl c.finish.ensures.1

@@ -1,19 +1,9 @@
 -- `insert_small::insert_with` meets its contract: its own tables are as long as the limits that the desk keeps ask.
-use mathlib.Core.Path.{sym}
 use native.Mathlib.Omega.{arith}
 use Rattle.memory.proofs.Desks.{zeros_length}
 use Rattle.edit_insert_small.proofs.Sizes.{small_fits}
 use Rattle.memory_layout.specs.Layout.{SMALL_CHUNKS_LEN, SMALL_PIECES_LEN, SMALL_STORE_LEN}
 use Rattle.edit_insert_small.proofs.insert_with.Goals as goal
-
-pub slice_bounds-insert_by-end : goal.slice_bounds-insert_by-end
-slice_bounds-insert_by-end c = sym (zeros_length SMALL_CHUNKS_LEN SMALL_CHUNKS_LEN (omega arith))
-
-pub slice_bounds-insert_by-end-2 : goal.slice_bounds-insert_by-end-2
-slice_bounds-insert_by-end-2 c = sym (zeros_length SMALL_PIECES_LEN SMALL_PIECES_LEN (omega arith))
-
-pub slice_bounds-insert_by-end-3 : goal.slice_bounds-insert_by-end-3
-slice_bounds-insert_by-end-3 c = sym (zeros_length SMALL_STORE_LEN SMALL_STORE_LEN (omega arith))
 
 pub insert_by-requires : goal.insert_by-requires
 insert_by-requires c =

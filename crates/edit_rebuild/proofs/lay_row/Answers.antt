@@ -1,4 +1,3 @@
-use native.Mathlib.Omega.{arith}
 use Rattle.memory_table.specs.Order.{entry_of}
 use Rattle.edit_rebuild.proofs.LayOne.{laid_run, laid_entry, room_intro, room_outro, room_text}
 use Rattle.edit_rebuild.proofs.lay_row.Goals as goal
@@ -16,12 +15,6 @@ lay_text-x-requires c =
       n_in_bounds = room_text _ _ (entry_of c.args.r) c.requires.room_entry c.copy_run-a.ensures c.copy_run-a.auto.new_pieces c.copy_run-a.auto.new_store
           c.copy_run-b.ensures c.copy_run-b.auto.new_store;
     }
-
-pub overflow_cast-q : goal.overflow_cast-q
-overflow_cast-q c = omega (arith, c.requires.room_entry.rows_in, c.requires.room_entry.rows_narrow)
-
-pub overflow_cast-q-2 : goal.overflow_cast-q-2
-overflow_cast-q-2 c = omega (arith, c.requires.room_entry.rows_in, c.requires.room_entry.rows_narrow, c.copy_run-a.ensures.row_is)
 
 pub returns : goal.returns
 returns c =

@@ -16,65 +16,59 @@ pub get_row-z-requires : goal.get_row-z-requires
 get_row-z-requires c = omega (arith, c.requires.room)
 
 pub loop-k-init : goal.loop-k-init
-loop-k-init c = (
-  ap (λ (r : Row). r.start) c.get_row-z.ensures,
-  walk_none c.args.t.now c.args.a c.args.b c.in-At.first
-      (subst (FoundIn (meets Start c.args.a) c.args.t.now) c.in-At.is c.find.ensures),
-)
+loop-k-init c = walk_none c.args.t.now c.args.a c.args.b c.in-Some.first (subst (FoundIn (meets Start c.args.a) c.args.t.now) c.in-Some.is c.find.ensures)
 
 pub get_row-c-requires : goal.get_row-c-requires
 get_row-c-requires c =
-    let first = c.in-At.first in
+    let first = c.in-Some.first in
     let t = c.args.t.now in
     let a = c.args.a in
     let b = c.args.b in
-    walk_row t a b first c.requires c.loop-k.last c.loop-k.k c.loop-k.invariant.1
+    walk_row t a b first c.requires c.loop-k.last c.loop-k._k c.loop-k.invariant
 
 pub returns-then-c-b : goal.returns-then-c-b
 returns-then-c-b c =
-    let first = c.in-At.first in
+    let first = c.in-Some.first in
     let t = c.args.t.now in
     let a = c.args.a in
     let b = c.args.b in
-    walk_whole t a b first c.requires c.loop-k.last c.loop-k.k c.loop-k.invariant.1 (sym (ap (λ (r : Row). r.end) c.get_row-c.ensures) ∙ c.if-c-b.true)
+    walk_whole t a b first c.requires c.loop-k.last c.loop-k._k c.loop-k.invariant (sym (ap (λ (r : Row). r.end) c.get_row-c.ensures) ∙ c.if-c-b.true)
 
 pub next_follows-requires : goal.next_follows-requires
 next_follows-requires c =
-    let first = c.in-At.first in
+    let first = c.in-Some.first in
     let t = c.args.t.now in
     let a = c.args.a in
     let b = c.args.b in
-    omega (arith, ap (λ (r : Row). r.next) c.get_row-c.ensures, walk_next t a b first c.requires c.loop-k.last c.loop-k.k c.loop-k.invariant.1)
+    omega (arith, ap (λ (r : Row). r.next) c.get_row-c.ensures, walk_next t a b first c.requires c.loop-k.last c.loop-k._k c.loop-k.invariant)
 
 pub loop-k-preserved : goal.loop-k-preserved
 loop-k-preserved c =
-    let first = c.in-At.first in
-    let t = c.args.t.now in
-    let a = c.args.a in
-    let b = c.args.b in
-    let e = c.get_row-c.ensures in
-    let short : (entry_at t c.loop-k.last).end ≡ b → ⊥ = λ h. c.if-c-b.false (ap (λ (r : Row). r.end) e ∙ h) in
-    let goes = sym (ap (λ (r : Row). goes_on t r.next r.end) e) ∙ sym c.next_follows.ensures in (
-      c.loop-k.invariant.0,
-      subst (λ (x : ℕ). WalkAt t a b first x (c.loop-k.k + 1)) (sym (ap (λ (r : Row). r.next) e))
-          (walk_more t a b first c.requires c.loop-k.last c.loop-k.k c.loop-k.invariant.1 short (goes ∙ c.if-next_follows.true)),
-    )
-
-pub returns-else-next_follows : goal.returns-else-next_follows
-returns-else-next_follows c =
-    let first = c.in-At.first in
+    let first = c.in-Some.first in
     let t = c.args.t.now in
     let a = c.args.a in
     let b = c.args.b in
     let e = c.get_row-c.ensures in
     let short : (entry_at t c.loop-k.last).end ≡ b → ⊥ = λ h. c.if-c-b.false (ap (λ (r : Row). r.end) e ∙ h) in
     let goes = sym (ap (λ (r : Row). goes_on t r.next r.end) e) ∙ sym c.next_follows.ensures in
-    walk_broken t a b first c.requires c.loop-k.last c.loop-k.k c.loop-k.invariant.1 short (goes ∙ c.if-next_follows.false)
+    subst (λ (x : ℕ). WalkAt t a b first x (c.loop-k._k + 1)) (sym (ap (λ (r : Row). r.next) e))
+    (walk_more t a b first c.requires c.loop-k.last c.loop-k._k c.loop-k.invariant short (goes ∙ c.if-not-next_follows.false))
 
-pub returns : goal.returns
-returns c =
-    let first = c.in-At.first in
+pub returns-then-not-next_follows : goal.returns-then-not-next_follows
+returns-then-not-next_follows c =
+    let first = c.in-Some.first in
     let t = c.args.t.now in
     let a = c.args.a in
     let b = c.args.b in
-    walk_over t a b first c.requires c.loop-k.last c.loop-k.k c.loop-k.invariant.1 (omega (arith, c.loop-k.invariant.0, c.loop-k-test.false))
+    let e = c.get_row-c.ensures in
+    let short : (entry_at t c.loop-k.last).end ≡ b → ⊥ = λ h. c.if-c-b.false (ap (λ (r : Row). r.end) e ∙ h) in
+    let goes = sym (ap (λ (r : Row). goes_on t r.next r.end) e) ∙ sym c.next_follows.ensures in
+    walk_broken t a b first c.requires c.loop-k.last c.loop-k._k c.loop-k.invariant short (goes ∙ c.if-not-next_follows.true)
+
+pub returns : goal.returns
+returns c =
+    let first = c.in-Some.first in
+    let t = c.args.t.now in
+    let a = c.args.a in
+    let b = c.args.b in
+    walk_over t a b first c.requires c.loop-k.last c.loop-k._k c.loop-k.invariant (omega (arith, ap (λ (r : Row). r.start) c.get_row-z.ensures))

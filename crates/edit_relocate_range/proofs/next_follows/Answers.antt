@@ -4,10 +4,10 @@ use Rattle.memory_table.specs.declared.Row.{Row}
 use Rattle.edit_relocate_range.specs.Range.{goes_on}
 use Rattle.edit_relocate_range.proofs.next_follows.Goals as goal
 
-pub returns-then-c-eq-LIST_END : goal.returns-then-c-eq-LIST_END
+pub returns-then-c-ne-LIST_END : goal.returns-then-c-ne-LIST_END
 unfolding goes_on
-returns-then-c-eq-LIST_END c = rw (eq-eqb _ _ c.if-c-eq-LIST_END.true)
+returns-then-c-ne-LIST_END c = rw (ne_eqb _ _ c.if-c-ne-LIST_END.true, ap (λ (r : Row). r.start) c.get_row.ensures)
 
-pub returns : goal.returns
+pub returns-else-c-ne-LIST_END : goal.returns-else-c-ne-LIST_END
 unfolding goes_on
-returns c = rw (ne_eqb _ _ c.if-c-eq-LIST_END.false, ap (λ (r : Row). r.start) c.get_row-d.ensures)
+returns-else-c-ne-LIST_END c = rw (eq-eqb _ _ c.if-c-ne-LIST_END.false)

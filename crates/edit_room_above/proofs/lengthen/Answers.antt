@@ -6,7 +6,7 @@ use Rattle.edit_room_above.proofs.lengthen.Goals as goal
 pub returns-then-ends_at : goal.returns-then-ends_at
 returns-then-ends_at c =
     let e = c.ends_at.ensures c.if-ends_at.true in
-    rw (e.0, c.wide.ensures.0) (lengthen_here (c.args.text_at, c.args.text_n) (c.args.at, c.args.n) c.args.row c.args.p.now c.requires _ e.1 c.set_piece.ensures)
+    rw e.0 (lengthen_here (c.args.text_at, c.args.text_n) (c.args.at, c.args.n) c.args.row c.args.p.now c.requires _ e.1 c.set_piece.ensures)
 
 pub copy_rows-requires : goal.copy_rows-requires
 copy_rows-requires c = record { n_bound = λ k. omega (arith, c.requires.under k); n_in_bounds = omega (arith, c.requires.rows_in, c.set_piece-then-front.auto.t) }

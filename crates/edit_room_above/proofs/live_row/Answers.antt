@@ -1,6 +1,3 @@
-use mathlib.Core.Path.{ap₂, ◌∙◌}
-use Prim.Native.Nat.{ℕ, ◌+◌, max}
-use native.Mathlib.Omega.{arith}
 use Rattle.memory_table.specs.Order.{entry_of}
 use Rattle.edit_room_above.proofs.Passing.{entry_none, entry_some}
 use Rattle.edit_room_above.proofs.live_row.Goals as goal
@@ -14,11 +11,5 @@ live_run-b-requires c = record { run_in = c.requires.entry_in.runs.outro; live_i
 pub returns-then-r-eq-NONE : goal.returns-then-r-eq-NONE
 returns-then-r-eq-NONE c = entry_none (entry_of c.args.r) c.live_run-a.ensures c.live_run-b.ensures c.if-r-eq-NONE.true
 
-pub overflow_add-wide : goal.overflow_add-wide
-overflow_add-wide c = omega (arith, c.wide.ensures.1, c.wide-2.ensures.1)
-
 pub returns : goal.returns
-returns c =
-    let e = entry_of c.args.r in
-    entry_some e c.live_run-a.ensures c.live_run-b.ensures c.larger.result c.if-r-eq-NONE.false c.requires.entry_in.replacement
-    (c.larger.ensures ∙ ap₂ (λ (x y : ℕ). max c.live_run-b.result.byte (x + y)) c.wide.ensures.0 c.wide-2.ensures.0)
+returns c = entry_some (entry_of c.args.r) c.live_run-a.ensures c.live_run-b.ensures c.max.result c.if-r-eq-NONE.false c.requires.entry_in.replacement c.max.ensures

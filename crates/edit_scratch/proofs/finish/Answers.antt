@@ -3,12 +3,6 @@ use native.Mathlib.Omega.{arith}
 use Rattle.edit_scratch.proofs.Counting.{finish_fits, finish_breaks}
 use Rattle.edit_scratch.proofs.finish.Goals as goal
 
-pub overflow_sub-most : goal.overflow_sub-most
-overflow_sub-most c = omega (arith, c.requires.sized.some)
-
-pub overflow_cast-most : goal.overflow_cast-most
-overflow_cast-most c = omega (arith, c.requires.sized.chunks)
-
 pub keeps-requires : goal.keeps-requires
 keeps-requires c = record { readable = c.requires.readable; most_chunks_bound = (omega (arith, c.requires.sized.chunks), omega (arith, c.requires.sized.pieces), c.requires.sized.store) }
 

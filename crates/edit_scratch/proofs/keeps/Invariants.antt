@@ -1,11 +1,7 @@
-use mathlib.Core.Path.{◌≡◌}
-use Prim.Native.Nat.{◌-◌}
-use Rattle.memory_table.specs.Order.{count_of}
-use Rattle.edit_scratch.proofs.Counting.{Loop}
+use Rattle.memory_table.specs.Order.{order}
+use Rattle.memory_list.proofs.Gathers.{Gathered}
+use Rattle.edit_scratch.proofs.Counting.{CountOf}
 use Rattle.edit_scratch.proofs.keeps.Given as goal
 
-abbrev pub invariant-loop-k : goal.invariant-loop-k
-invariant-loop-k l = (l.n ≡ count_of l.t) × Loop l.t l.p l.s l.n l.k l.cur l.pieces l.bytes
-
-abbrev pub decreases-loop-k : goal.decreases-loop-k
-decreases-loop-k l = l.n - l.k
+abbrev pub invariant-loop-r : goal.invariant-loop-r
+invariant-loop-r l = Gathered (CountOf l.t l.p l.s l.c.pieces l.c.bytes) l.t (order l.t) l.r-iterator

@@ -1,4 +1,6 @@
-use mathlib.Core.Path.{refl, ◌∙◌}
+use mathlib.Core.Path.{◌≡◌, refl, ◌∙◌}
+use Rattle.std.proofs.lemmas.Grind.{common_steps}
+use Rattle.memory_layout.specs.Refusals.{number_of}
 use native.Mathlib.Omega.{arith}
 use Rattle.edit_scratch.proofs.Tables.{loaded_roomy}
 use Rattle.edit_room_above.proofs.Finishing.{formed_usable}
@@ -14,17 +16,21 @@ update_steps-steps-requires c = let w = c.requires.well_formed in let y = loaded
 pub counted-requires : goal.counted-requires
 counted-requires c = formed_usable c.requires.well_formed
 
-pub returns-then-steps-eq-LIMIT : goal.returns-then-steps-eq-LIMIT
-returns-then-steps-eq-LIMIT c =
+pub returns-then-eq : goal.returns-then-eq
+returns-then-eq c =
     let w = c.requires.well_formed in
+    let past : number_of c.update_steps-steps.result.status ≡ 13 = grind (arith, common_steps) in
     record {
-      ran = rw (c.counted.ensures.0, c.counted.ensures.1, c.if-steps-eq-LIMIT.true, c.update_steps-steps.ensures.no_cuts c.if-steps-eq-LIMIT.true)
-          (update_too_long c.requires.start_lt_end w c.requires.overwrite_value c.requires.update_scratch c.load.ensures c.update_steps-steps.ensures refl c.if-steps-eq-LIMIT.true);
+      ran = rw (c.counted.ensures.0, c.counted.ensures.1, past, c.update_steps-steps.ensures.no_cuts past)
+          (update_too_long c.requires.start_lt_end w c.requires.overwrite_value c.requires.update_scratch c.load.ensures c.update_steps-steps.ensures refl past);
       above = c.counted.ensures.2;
     }
 
 pub finish-requires : goal.finish-requires
-finish-requires c = let w = c.requires.well_formed in record { readable = update_readable c.requires.start_lt_end w c.requires.overwrite_value c.requires.update_scratch c.load.ensures c.update_steps-steps.ensures refl c.if-steps-eq-LIMIT.false; usable = formed_usable w }
+finish-requires c =
+    let w = c.requires.well_formed in
+    let within : number_of c.update_steps-steps.result.status ≡ 13 → ⊥ = grind (arith, common_steps) in
+    record { readable = update_readable c.requires.start_lt_end w c.requires.overwrite_value c.requires.update_scratch c.load.ensures c.update_steps-steps.ensures refl within; usable = formed_usable w }
 
 pub shape_of-t : goal.shape_of-t
 shape_of-t c = c.update_steps-steps.auto.t ∙ c.load.auto.t
@@ -35,7 +41,8 @@ shape_of-p c = c.load.auto.p
 pub returns : goal.returns
 returns c =
     let w = c.requires.well_formed in
+    let within : number_of c.update_steps-steps.result.status ≡ 13 → ⊥ = grind (arith, common_steps) in
     record {
-      ran = update_ran c.requires.start_lt_end w c.requires.overwrite_value c.requires.update_scratch c.load.ensures c.update_steps-steps.ensures refl c.if-steps-eq-LIMIT.false c.finish.ensures.0;
+      ran = update_ran c.requires.start_lt_end w c.requires.overwrite_value c.requires.update_scratch c.load.ensures c.update_steps-steps.ensures refl within c.finish.ensures.0;
       above = c.finish.ensures.1;
     }

@@ -1,19 +1,24 @@
 -- `filed_checked::file` meets its contract.
-use Rattle.check_well_formed.proofs.Told.{seen_none, seen_taken, seen_desk}
-use Rattle.filed_taken.proofs.Says.{beside_none, beside_record}
+use mathlib.Core.Path.{sym, subst}
+use Rattle.filed.specs.Done.{Files}
+use Rattle.filed_taken.proofs.Says.{said}
 use Rattle.filed_checked.proofs.Checked.{sitting_no_desk, sitting_no_record, sitting_yes}
 use Rattle.filed_checked.proofs.file.Goals as goal
 
 pub returns-in_default : goal.returns-in_default
-returns-in_default c = sitting_no_desk (seen_none c.args.source.now c.args.chunks.now c.args.pieces.now c.args.store.now c.in_default.is c.taken.ensures) c.refused.ensures
+returns-in_default c = sitting_no_desk c.in_default.ensures (said c.from.ensures)
 
 pub returns-in_default-record_taken : goal.returns-in_default-record_taken
-returns-in_default-record_taken c = sitting_no_record (beside_none c.args.source.now c.args.words.now c.args.bytes.now c.in_default-record_taken.is c.record_taken.ensures) c.refused-in_default-record_taken.ensures
+returns-in_default-record_taken c = sitting_no_record c.in_default-record_taken.ensures (said c.from-in_default-record_taken.ensures)
 
 pub file-requires : goal.file-requires
-file-requires c = record { desk = seen_desk c.args.source.now c.args.chunks.now c.args.pieces.now c.args.store.now c.in-Desk.used c.in-Desk.is c.taken.ensures; full = (seen_taken c.args.source.now c.args.chunks.now c.args.pieces.now c.args.store.now c.in-Desk.used c.in-Desk.is c.taken.ensures).full; holds = (beside_record c.args.source.now c.args.words.now c.args.bytes.now c.in-Record.size c.in-Record.kept c.in-Record.is c.record_taken.ensures).holds }
+file-requires c =
+    let (taken, above) = c.in-Some.ensures in
+    record { desk = record { well_formed = taken.well_formed; above = above }; full = taken.full; holds = c.in-Some-record_taken.ensures.holds }
 
 pub returns : goal.returns
 returns c =
-    sitting_yes (seen_taken c.args.source.now c.args.chunks.now c.args.pieces.now c.args.store.now c.in-Desk.used c.in-Desk.is c.taken.ensures)
-    (beside_record c.args.source.now c.args.words.now c.args.bytes.now c.in-Record.size c.in-Record.kept c.in-Record.is c.record_taken.ensures) c.file.ensures
+    let a = c.args in
+    let n = c.file.new in
+    sitting_yes c.in-Some.ensures.0 c.in-Some-record_taken.ensures
+    (subst (Files a.call.now a.source.now a.chunks.now a.pieces.now a.store.now a.words.now a.bytes.now n.chunks n.pieces n.store n.words n.bytes) (sym c.from-2.ensures) c.file.ensures)

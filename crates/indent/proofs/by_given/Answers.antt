@@ -1,4 +1,7 @@
-use mathlib.Core.Path.{sym, ◌∙◌}
+use mathlib.Core.Path.{◌≡◌, refl, sym, ◌∙◌}
+use lib.ListN.{length}
+use native.Mathlib.Omega.{arith}
+use Rattle.std.proofs.lemmas.Grind.{common_steps}
 use mathlib.Core.Option.{some}
 use Rattle.memory.proofs.Desks.{valid_source}
 use Rattle.indent.proofs.Call.{given_invalid, refused, given_empty, given_ran}
@@ -9,26 +12,23 @@ returns-then-not-valid c =
     let invalid = sym c.valid.ensures ∙ c.if-not-valid.true in
     record { ran = given_invalid c.requires.desk.well_formed c.args.exclude.now c.requires.exclude_value c.args.indentor.now invalid; above = c.requires.desk.above }
 
-pub refused-number-requires : goal.refused-number-requires
-refused-number-requires c = let w = c.requires.desk.well_formed in record { source_value = valid_source w; linked = c.requires.desk.well_formed.readable.linked }
+pub refused-requires : goal.refused-requires
+refused-requires c = let w = c.requires.desk.well_formed in record { source_value = valid_source w; linked = w.readable.linked }
 
-pub returns-then-number-ne0 : goal.returns-then-number-ne0
-returns-then-number-ne0 c =
+pub returns-in-Err : goal.returns-in-Err
+returns-in-Err c =
     let valid = sym c.valid.ensures ∙ c.if-not-valid.false in
-    refused _ _ _ _ _ c.requires.exclude_value c.refused-number.ensures (some c.args.indentor.now) (rw valid) c.requires.desk c.if-number-ne0.true
+    refused _ _ _ _ _ c.requires.exclude_value c.in-Err.ensures (some c.args.indentor.now) (rw valid) c.requires.desk c.in-Err.refusal refl
 
-pub returns-then-indentor-eq0 : goal.returns-then-indentor-eq0
-returns-then-indentor-eq0 c =
+pub returns-then-is_empty : goal.returns-then-is_empty
+returns-then-is_empty c =
     let valid = sym c.valid.ensures ∙ c.if-not-valid.false in
-    let ran = given_empty _ _ _ _ _ c.requires.exclude_value c.refused-number.ensures c.if-number-ne0.false c.args.indentor.now valid c.requires.desk.well_formed c.if-indentor-eq0.true in
-    record { ran = ran; above = c.requires.desk.above }
-
-pub indent_scratch-requires : goal.indent_scratch-requires
-indent_scratch-requires c = c.requires.desk
+    let empty : length c.args.indentor.now ≡ 0 = grind (arith, common_steps) in
+    record { ran = given_empty _ _ _ _ _ c.requires.exclude_value c.in_default.ensures refl c.args.indentor.now valid c.requires.desk.well_formed empty; above = c.requires.desk.above }
 
 pub returns : goal.returns
 returns c =
     let valid = sym c.valid.ensures ∙ c.if-not-valid.false in
-    let ran =
-    given_ran _ _ _ _ _ c.requires.exclude_value c.refused-number.ensures c.if-number-ne0.false c.args.indentor.now valid c.if-indentor-eq0.false c.indent_scratch.ensures.0 in
+    let some : length c.args.indentor.now ≡ 0 → ⊥ = grind (arith, common_steps) in
+    let ran = given_ran _ _ _ _ _ c.requires.exclude_value c.in_default.ensures refl c.args.indentor.now valid some c.indent_scratch.ensures.0 in
     record { ran = ran; above = c.indent_scratch.ensures.1 }

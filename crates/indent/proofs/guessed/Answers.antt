@@ -1,10 +1,12 @@
-use Prim.Native.Nat.{◌+◌, ◌-◌}
 use native.Mathlib.Omega.{arith}
 use Rattle.indent.proofs.Call.{tab_guessed, spaces_guessed}
 use Rattle.indent.proofs.guessed.Goals as goal
 
-pub returns-then-g : goal.returns-then-g
-returns-then-g c = tab_guessed c.requires.guessed c.if-g.true c.requires.tab_value
+pub returns-in-Tab : goal.returns-in-Tab
+returns-in-Tab c = tab_guessed c.requires c.in-Tab.is
 
-pub returns : goal.returns
-returns c = spaces_guessed c.requires.guessed c.if-g.false (c.args.g.at + c.args.g.spaces - c.args.g.at) (omega arith)
+pub slice_bounds-result-end-in-Spaces : goal.slice_bounds-result-end-in-Spaces
+slice_bounds-result-end-in-Spaces c = let h = (c.requires.place c.in-Spaces.n c.in-Spaces.at c.in-Spaces.is).0 in omega (arith, h)
+
+pub returns-in-Spaces : goal.returns-in-Spaces
+returns-in-Spaces c = spaces_guessed c.requires c.in-Spaces.n c.in-Spaces.at c.in-Spaces.is _ (omega arith)

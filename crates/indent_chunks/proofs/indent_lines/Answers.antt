@@ -1,25 +1,28 @@
+use mathlib.Core.Logic.{inl, inr}
 use native.Mathlib.Omega.{arith}
-use borrow.Author.Tests.{not-true, not-false}
-use Rattle.indent_chunks.proofs.Row.{lines_none, lines_short, source_ready, lines_done}
+use Rattle.indent_chunks.proofs.Row.{lines_none, lines_short, source_ready, lines_done, lines_past}
 use Rattle.indent_chunks.proofs.indent_lines.Goals as goal
 
-pub returns-then-x-end : goal.returns-then-x-end
-returns-then-x-end c = lines_none c.args.exclude.now c.args.mark c.requires.row_at c.requires.i_value.0 c.requires.i_value.1 c.requires.i_value.2 c.next_start-q.result.at c.next_start-q.result.mark c.next_start-q.ensures c.if-x-end.true
+pub returns-in-End : goal.returns-in-End
+returns-in-End c = let v = c.requires.i_value in lines_none c.args.exclude.now c.args.mark c.requires.row_at v.0 v.1 v.2 c.in-End.mark c.in-End.ensures
 
-pub returns-then-not-o : goal.returns-then-not-o
-returns-then-not-o c =
-    lines_short c.args.exclude.now c.args.mark c.requires.row_at c.requires.i_value.0 c.requires.i_value.1 c.requires.i_value.2 c.next_start-q.result.at c.next_start-q.result.mark c.next_start-q.ensures c.if-x-end.false
-    c.lay_indentor-o.ensures (not-true _ c.if-not-o.true) _ _ _ _ _ _ _
+pub returns-in_err-at : goal.returns-in_err-at
+returns-in_err-at c =
+    let v = c.requires.i_value in
+    rw c.from_residual.ensures (inr (lines_short c.args.exclude.now c.args.mark c.requires.row_at v.0 v.1 v.2 c.in-Start.x c.in-Start.ensures c.in_err-at.ensures))
 
 pub overflow_cast-indentor : goal.overflow_cast-indentor
-overflow_cast-indentor c =
-    let d = c.lay_indentor-o.ensures.done (not-false _ c.if-not-o.false) in
-    omega (arith, d.at.low, d.byte_in, d.bytes.len, c.requires.row_at.narrow)
+overflow_cast-indentor c = let d = c.in_ok-at.ensures in omega (arith, d.at.low, d.byte_in, d.bytes.len, c.requires.row_at.narrow)
 
-pub indent_source-c-requires : goal.indent_source-c-requires
-indent_source-c-requires c = source_ready c.args.exclude.now c.args.mark c.requires.row_at c.requires.i_value.0 c.requires.i_value.1 c.requires.i_value.2 c.next_start-q.result.at c.next_start-q.result.mark c.next_start-q.ensures c.if-x-end.false
+pub indent_source-requires : goal.indent_source-requires
+indent_source-requires c = let v = c.requires.i_value in source_ready c.args.exclude.now c.args.mark c.requires.row_at v.0 v.1 v.2 c.in-Start.x c.in-Start.ensures
+
+pub returns-in_err-cut : goal.returns-in_err-cut
+returns-in_err-cut c =
+    let v = c.requires.i_value in
+    rw c.from_residual-in_err-cut.ensures (inl (lines_past c.args.exclude.now c.args.mark c.requires.row_at v.0 v.1 v.2 c.in-Start.x c.in-Start.ensures c.in_err-cut.ensures))
 
 pub returns : goal.returns
 returns c =
-    lines_done c.args.exclude.now c.args.mark c.requires.row_at c.requires.i_value.0 c.requires.i_value.1 c.requires.i_value.2 c.next_start-q.result.at c.next_start-q.result.mark c.next_start-q.ensures c.if-x-end.false
-    (c.lay_indentor-o.ensures.done (not-false _ c.if-not-o.false)) c.indent_source-c.ensures
+    let v = c.requires.i_value in
+    lines_done c.args.exclude.now c.args.mark c.requires.row_at v.0 v.1 v.2 c.in-Start.x c.in-Start.ensures c.in_ok-at.ensures c.in_ok-cut.ensures.0 c.in_ok-cut.ensures.1

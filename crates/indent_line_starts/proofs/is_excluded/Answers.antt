@@ -1,29 +1,14 @@
-use mathlib.Core.Path.{refl}
-use Prim.Native.Nat.{◌-◌}
-use native.Mathlib.Omega.{arith}
-use Rattle.indent_line_starts.proofs.Turns.{unheld_met, unheld_more, unheld_all}
+use mathlib.Core.Path.{◌∙◌}
+use mathlib.Core.Logic.{inl, inr}
+use Rattle.indent_line_starts.proofs.Turns.{pair_passed}
 use Rattle.indent_line_starts.proofs.is_excluded.Goals as goal
+use Rattle.indent_line_starts.proofs.is_excluded.Goals.{else-start-i-via-then-start-i+else-i-end, else-start-i-via-else-start-i}
 
-pub loop-k-init : goal.loop-k-init
-loop-k-init c = (omega arith, refl)
-
-pub overflow_sub-n : goal.overflow_sub-n
-overflow_sub-n c = c.loop-k.invariant.0
-
-pub bounds-exclude-k : goal.bounds-exclude-k
-bounds-exclude-k c = omega arith
-
-pub bounds-exclude-k-in-loop-k : goal.bounds-exclude-k-in-loop-k
-bounds-exclude-k-in-loop-k c = omega arith
-
-pub returns-then-is_within : goal.returns-then-is_within
-returns-then-is_within c = unheld_met _ _ _ _ c.loop-k.invariant c.loop-k-test.true c.is_within.ensures c.if-is_within.true
-
-pub loop-k-smaller : goal.loop-k-smaller
-loop-k-smaller c = omega arith
-
-pub loop-k-preserved : goal.loop-k-preserved
-loop-k-preserved c = unheld_more _ _ _ _ c.loop-k.invariant c.loop-k-test.true c.is_within.ensures c.if-is_within.false
-
-pub returns : goal.returns
-returns c = unheld_all _ _ _ c.loop-k.invariant c.loop-k-test.false
+pub loop-rest-preserved : goal.loop-rest-preserved
+loop-rest-preserved c =
+    c.loop-rest.invariant
+    ∙ pair_passed c.loop-rest.rest.now c.args.i c.in-len2-up.len_at_least
+    (elim c.else-start-i.branch [
+      | else-start-i-via-then-start-i+else-i-end w ↦ inr w.if-i-end.false
+      | else-start-i-via-else-start-i w ↦ inl w.if-start-i.false
+    ])

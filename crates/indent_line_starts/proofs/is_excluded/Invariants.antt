@@ -1,11 +1,10 @@
--- `next_start::is_excluded` meets its contract.
-use Prim.Native.Nat.{◌-◌}
+use mathlib.Core.Path.{◌≡◌}
 use lib.ListN.{length}
-use Rattle.indent_line_starts.proofs.Turns.{Unheld}
+use Rattle.model.specs.Indent.{excluded}
 use Rattle.indent_line_starts.proofs.is_excluded.Given as goal
 
-abbrev pub invariant-loop-k : goal.invariant-loop-k
-invariant-loop-k l = Unheld l.exclude l.i l.k
+abbrev pub invariant-loop-rest : goal.invariant-loop-rest
+invariant-loop-rest l = excluded l.exclude l.i ≡ excluded l.rest l.i
 
-abbrev pub decreases-loop-k : goal.decreases-loop-k
-decreases-loop-k l = length l.exclude - l.k
+abbrev pub decreases-loop-rest : goal.decreases-loop-rest
+decreases-loop-rest l = length l.rest

@@ -1,17 +1,7 @@
-use mathlib.Core.Path.{sym}
 use native.Mathlib.Omega.{arith}
 use Rattle.memory_layout.specs.Layout.{SCRATCH_LEN, INDENT_PIECES_LEN, INDENT_STORE_LEN}
 use Rattle.memory.proofs.Desks.{zeros_length, zeros_at}
 use Rattle.indent_scratch.proofs.indent_scratch.Goals as goal
-
-pub slice_bounds-indent_by-end : goal.slice_bounds-indent_by-end
-slice_bounds-indent_by-end c = sym (zeros_length SCRATCH_LEN SCRATCH_LEN (omega arith))
-
-pub slice_bounds-indent_by-end-2 : goal.slice_bounds-indent_by-end-2
-slice_bounds-indent_by-end-2 c = sym (zeros_length INDENT_PIECES_LEN INDENT_PIECES_LEN (omega arith))
-
-pub slice_bounds-indent_by-end-3 : goal.slice_bounds-indent_by-end-3
-slice_bounds-indent_by-end-3 c = sym (zeros_length INDENT_STORE_LEN INDENT_STORE_LEN (omega arith))
 
 pub indent_by-requires : goal.indent_by-requires
 indent_by-requires c =

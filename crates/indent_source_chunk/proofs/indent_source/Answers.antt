@@ -14,8 +14,7 @@ cut_lines-requires c = own_lines c.requires c.if-x-start.true c.add_row-next.ens
 
 pub returns-then-x-start : goal.returns-then-x-start
 returns-then-x-start c =
-    own_done c.requires c.if-x-start.true c.add_row-next.ensures c.add_row-next.auto.t refl {w = lines_from c.args.exclude.now c.args.source.now false (c.args.x + 1) c.args.end}
-    c.cut_lines.ensures
+    own_done c.requires c.if-x-start.true c.add_row-next.ensures c.add_row-next.auto.t refl (lines_from c.args.exclude.now c.args.source.now false (c.args.x + 1) c.args.end) _ _ _ c.cut_lines.ensures
 
 pub returns : goal.returns
-returns c = inner_done c.requires c.cut_lines-2.ensures
+returns c = inner_done c.requires _ _ _ _ c.cut_lines-2.ensures

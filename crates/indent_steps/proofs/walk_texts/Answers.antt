@@ -1,18 +1,13 @@
-use Rattle.indent_turns.specs.Walk.{TurnReady}
-use Rattle.indent_steps.proofs.Walk.{walking_over}
+use Rattle.std.proofs.lemmas.Result.{err_from_is_err_and}
 use Rattle.indent_steps.proofs.walk_texts.Goals as goal
 
-pub loop-at-init : goal.loop-at-init
-loop-at-init c = c.requires
+pub returns-in_err-next : goal.returns-in_err-next
+returns-in_err-next c =
+    let p = err_from_is_err_and c.from_residual.result c.from_residual.ensures.1 in
+    rw (p.1, p.2) (c.in_err-next.ensures.next c.args.t.now c.loop-next.invariant)
 
-pub next_text-at-requires : goal.next_text-at-requires
-next_text-at-requires c = record { t₀ = c.args.t.now; more = c.loop-at-test.true; walking = c.loop-at.invariant }
-
-pub loop-at-smaller : goal.loop-at-smaller
-loop-at-smaller c = c.next_text-at.ensures.less
-
-pub loop-at-preserved : goal.loop-at-preserved
-loop-at-preserved c = c.next_text-at.ensures.next c.args.t.now c.loop-at.invariant
+pub loop-next-preserved : goal.loop-next-preserved
+loop-next-preserved c = let turned = rw c.in-Some.is at c.in_ok-next.ensures in turned.next c.args.t.now c.loop-next.invariant
 
 pub returns : goal.returns
-returns c = walking_over c.loop-at.invariant c.loop-at-test.false
+returns c = let turned = rw c.in_default.is at c.in_ok-next.ensures in turned.next c.args.t.now c.loop-next.invariant

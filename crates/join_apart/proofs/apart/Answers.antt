@@ -14,7 +14,7 @@ returns-then-places_apart c l l' q q' =
     let once = (c.places_apart.ensures l l' q q').yes c.if-places_apart.true in
     c.moves_free.ensures l l' q q' ∙ apart_yes n (recorded_calls l ++ recorded_calls l') (both_listed l l') (omega arith) once
 
-pub returns : goal.returns
-returns c l l' q q' =
+pub returns-else-places_apart : goal.returns-else-places_apart
+returns-else-places_apart c l l' q q' =
     let n = c.args.n in
-    apart_no n (recorded_calls l ++ recorded_calls l') (both_listed l l') ((c.places_apart.ensures l l' q q').no c.if-places_apart.false)
+    c.if-places_apart.false ∙ apart_no n (recorded_calls l ++ recorded_calls l') (both_listed l l') ((c.places_apart.ensures l l' q q').no c.if-places_apart.false)

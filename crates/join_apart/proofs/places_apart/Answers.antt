@@ -1,10 +1,12 @@
+use mathlib.Core.Path.{sym, subst}
+use Rattle.memory_counting.specs.Counts.{Decides}
 use mathlib.Core.List.{◌++◌}
 use native.Mathlib.Omega.{arith}
 use Prim.Native.Nat.{ℕ}
 use lib.ListN.{length-replicate}
 use Rattle.model_sheet.specs.Sheet.{recorded_calls}
 use Rattle.check_bit_marks.proofs.Marking.{marks_clear}
-use Rattle.join_apart.specs.Marking.{PLACE_MARKS}
+use Rattle.join_apart.specs.Marking.{PLACE_MARKS, Once}
 use Rattle.join_apart.proofs.Marked.{room_of, edits_on, edits_no, once_decided}
 use Rattle.join_apart.proofs.places_apart.Goals as goal
 
@@ -22,8 +24,9 @@ returns-then-mark_list c l l' q q' =
     let marked = edits_on n (recorded_calls l) (recorded_calls l') one c.if-mark_list.true two in
     once_decided n (recorded_calls l ++ recorded_calls l') (marks_clear PLACE_MARKS) marked
 
-pub returns : goal.returns
-returns c l l' q q' =
+pub returns-else-mark_list : goal.returns-else-mark_list
+returns-else-mark_list c l l' q q' =
     let n = c.args.n in
     let marked = edits_no n (recorded_calls l) (recorded_calls l') (c.mark_list.ensures l q) {m₂ = λ b. 0} c.if-mark_list.false in
-    once_decided n (recorded_calls l ++ recorded_calls l') (marks_clear PLACE_MARKS) marked
+    subst (λ b. Decides b (Once n (recorded_calls l ++ recorded_calls l'))) (sym c.if-mark_list.false)
+    (once_decided n (recorded_calls l ++ recorded_calls l') (marks_clear PLACE_MARKS) marked)

@@ -1,18 +1,17 @@
-use mathlib.Core.Path.{subst}
-use Rattle.model_sheet.specs.Sheet.{MOST_RECORDS}
+use mathlib.Core.Path.{sym, subst}
 use Rattle.model_join.proofs.Lists.{list_long, list_read, list_broken}
-use Rattle.sheet_records.specs.Found.{Counts}
+use Rattle.join_lists.specs.Judged.{JudgesList}
 use native.Mathlib.Omega.{arith}
 use Rattle.join_lists.proofs.judge_list.Goals as goal
 
 pub returns-then-s-gt-MOST_BYTES : goal.returns-then-s-gt-MOST_BYTES
 returns-then-s-gt-MOST_BYTES c = list_long _ c.if-s-gt-MOST_BYTES.true
 
-pub returns-in-Records : goal.returns-in-Records
-returns-in-Records c =
-    let d = (subst (Counts _ MOST_RECORDS) c.in-Records.is c.count_records.ensures).counted in
+pub returns : goal.returns
+returns c =
+    let d = c.in_ok-records.ensures.counted in
     let few = d.few in
     record { counted = d; is = list_read _ c.if-s-gt-MOST_BYTES.false d.are (omega (arith, d.count)) }
 
-pub returns-in-Broken : goal.returns-in-Broken
-returns-in-Broken c = list_broken _ (subst (Counts _ MOST_RECORDS) c.in-Broken.is c.count_records.ensures)
+pub returns-in_err-records : goal.returns-in_err-records
+returns-in_err-records c = subst (JudgesList _) (sym c.from_residual.ensures) (list_broken _ c.in_err-records.ensures)

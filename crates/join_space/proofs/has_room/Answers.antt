@@ -5,15 +5,15 @@ use Rattle.join_space.proofs.Room.{no_chunks, no_pieces, no_bytes, left_over}
 use Rattle.join_space.proofs.has_room.Goals as goal
 
 pub returns-then-n-most_chunks : goal.returns-then-n-most_chunks
-returns-then-n-most_chunks c = no_chunks c.args.chunks.now c.args.pieces.now c.args.store.now c.args.n (omega (arith, c.if-n-most_chunks.true))
+returns-then-n-most_chunks c = no_chunks c.args.desk.chunks.now c.args.desk.pieces.now c.args.desk.store.now c.args.n (omega (arith, c.if-n-most_chunks.true))
 
 pub returns-then-n-most_pieces : goal.returns-then-n-most_pieces
-returns-then-n-most_pieces c = no_pieces c.args.chunks.now c.args.pieces.now c.args.store.now c.args.n (omega (arith, c.if-n-most_pieces.true))
+returns-then-n-most_pieces c = no_pieces c.args.desk.chunks.now c.args.desk.pieces.now c.args.desk.store.now c.args.n (omega (arith, c.if-n-most_pieces.true))
 
 pub returns-then-n-most_bytes : goal.returns-then-n-most_bytes
-returns-then-n-most_bytes c = no_bytes c.args.chunks.now c.args.pieces.now c.args.store.now c.args.n (omega (arith, c.if-n-most_bytes.true))
+returns-then-n-most_bytes c = no_bytes c.args.desk.chunks.now c.args.desk.pieces.now c.args.desk.store.now c.args.n (omega (arith, c.if-n-most_bytes.true))
 
 pub returns : goal.returns
 returns c =
-    left_over c.args.chunks.now c.args.pieces.now c.args.store.now c.args.n
+    left_over c.args.desk.chunks.now c.args.desk.pieces.now c.args.desk.store.now c.args.n
     (omega (arith, c.if-n-most_chunks.false)) (omega (arith, c.if-n-most_pieces.false)) (omega (arith, c.if-n-most_bytes.false)) refl refl refl c.keeps.ensures

@@ -5,14 +5,8 @@ use Rattle.memory_table.specs.declared.Row.{Row}
 use Rattle.memory_list.proofs.Insert.{start_f, next_f, room_i, room_q, linked_in}
 use Rattle.memory_list.proofs.link_in.Goals as goal
 
-pub overflow_add-n : goal.overflow_add-n
-overflow_add-n c = omega (arith, ap start_f c.get_row-z.ensures, c.requires.t_in_bounds)
-
 pub get_row-c-requires : goal.get_row-c-requires
 get_row-c-requires c = room_i c.args.t.now c.args.i c.requires.linked c.requires.placed
-
-pub put_row-requires : goal.put_row-requires
-put_row-requires c = omega (arith, ap start_f c.get_row-z.ensures, c.requires.t_in_bounds)
 
 pub put_row-requires-2 : goal.put_row-requires-2
 put_row-requires-2 c = omega (arith, room_i c.args.t.now c.args.i c.requires.linked c.requires.placed, c.put_row.auto.t)
@@ -22,12 +16,6 @@ get_row-d-requires c = omega (arith, room_q c.args.t.now c.args.i c.get_row-c.re
 
 pub put_row-requires-3 : goal.put_row-requires-3
 put_row-requires-3 c = omega (arith, room_q c.args.t.now c.args.i c.get_row-c.result.next c.requires.linked c.requires.placed (ap next_f c.get_row-c.ensures), c.put_row-2.auto.t, c.put_row.auto.t)
-
-pub get_row-y-requires : goal.get_row-y-requires
-get_row-y-requires c = omega (arith, room_i c.args.t.now c.args.i c.requires.linked c.requires.placed, c.put_row-3.auto.t, c.put_row-2.auto.t, c.put_row.auto.t)
-
-pub put_row-requires-4 : goal.put_row-requires-4
-put_row-requires-4 c = omega (arith, room_i c.args.t.now c.args.i c.requires.linked c.requires.placed, c.put_row-3.auto.t, c.put_row-2.auto.t, c.put_row.auto.t)
 
 pub returns : goal.returns
 returns c =

@@ -1,28 +1,5 @@
-use mathlib.Core.Path.{ap}
-use native.Mathlib.Omega.{arith}
-use Rattle.memory_list.proofs.Insert.{next_f, prev_f}
 use Rattle.memory_list.proofs.Move.{relinked}
 use Rattle.memory_list.proofs.relink.Goals as goal
-
-pub join-requires : goal.join-requires
-join-requires c =
-    omega (
-      arith,
-      ap prev_f c.get_row-f.ensures,
-      ap next_f c.get_row-l.ensures,
-      c.requires.in_p,
-      c.requires.in_r,
-    )
-
-pub join-requires-2 : goal.join-requires-2
-join-requires-2 c =
-    omega (
-      arith,
-      ap prev_f c.get_row-m.ensures,
-      c.requires.in_m,
-      c.requires.in_f,
-      c.join.auto.t,
-    )
 
 pub returns : goal.returns
 returns c =

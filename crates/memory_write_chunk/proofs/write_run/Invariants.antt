@@ -1,10 +1,5 @@
--- `write_chunk::write_run` meets its contract.
-use Prim.Native.Nat.{◌-◌, ◌≤◌}
 use Rattle.memory_texts.proofs.Loops.{texts, Turn}
 use Rattle.memory_write_chunk.proofs.write_run.Given as goal
 
 abbrev pub invariant-loop-i : goal.invariant-loop-i
-invariant-loop-i l = (l.i ≤ l.count) × Turn l.initial.out l.place (texts l.pieces l.store l.first) l.i l.out l.o
-
-abbrev pub decreases-loop-i : goal.decreases-loop-i
-decreases-loop-i l = l.count - l.i
+invariant-loop-i l = Turn l.initial.out l.place (texts l.pieces l.store l.first) l.i l.out l.o

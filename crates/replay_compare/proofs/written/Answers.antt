@@ -1,23 +1,12 @@
-use mathlib.Core.Path.{sym}
-use native.Mathlib.Omega.{arith}
-use Prim.Native.Nat.{◌-◌}
-use lib.ListN.{length, take, drop, length-drop}
-use lib.Seq.{length-take-le, take_all}
-use Rattle.replay_compare.proofs.Tests.{written_short, written_front, written_decides}
+use Rattle.std.specs.Prelude.{Some, None}
+use Rattle.std.proofs.lemmas.Slice.Eq.{strip_prefix_is}
+use Rattle.std.proofs.lemmas.Bool.Decides.{Decides-eqb}
 use Rattle.memory_counting.proofs.Sums.{is_no}
+use Rattle.replay_compare.proofs.Tests.{written_decides}
 use Rattle.replay_compare.proofs.written.Goals as goal
 
-pub returns-then-out-n : goal.returns-then-out-n
-returns-then-out-n c = is_no (written_short _ _ c.if-out-n.true)
+pub returns-in-Some : goal.returns-in-Some
+returns-in-Some c = written_decides _ _ _ (strip_prefix_is Decides-eqb c.args.out.now c.args.bytes.now (Some c.in-Some.rest) c.in-Some.ensures.cases) c.untouched.ensures
 
-pub slice_bounds-same-end : goal.slice_bounds-same-end
-slice_bounds-same-end c = sym (length-take-le _ _ (omega (arith, c.if-out-n.false)))
-
-pub returns-then-same : goal.returns-then-same
-returns-then-same c =
-    let n = length c.args.bytes.now in
-    written_decides c.args.out.now c.args.bytes.now (take (length c.args.out.now - n) (drop n c.args.out.now)) (c.same.ensures.yes c.if-same.true)
-    (take_all (length c.args.out.now - n) (drop n c.args.out.now) (simp length-drop (omega arith))) c.untouched.ensures
-
-pub returns : goal.returns
-returns c = is_no (λ w. c.same.ensures.no c.if-same.false (written_front _ _ w))
+pub returns-in-None : goal.returns-in-None
+returns-in-None c = is_no (λ w. strip_prefix_is Decides-eqb c.args.out.now c.args.bytes.now None c.in-None.ensures.cases _ w.out_is)

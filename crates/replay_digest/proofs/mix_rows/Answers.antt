@@ -2,7 +2,7 @@ use Rattle.replay_digest.proofs.Walks.{rows_none, rows_done, rows_row, rows_more
 use Rattle.memory_fragments.proofs.Output.{ready}
 use Rattle.memory_table.specs.declared.Row.{Row}
 use native.Mathlib.Omega.{arith}
-use Prim.Native.Nat.{◌+◌, ◌-◌}
+use Prim.Native.Nat.{◌+◌}
 use mathlib.Core.Path.{ap}
 use Rattle.replay_digest.proofs.mix_rows.Goals as goal
 
@@ -17,14 +17,6 @@ loop-section-init c = rows_none _ _ _ (ap (λ (r : Row). r.start + 2) c.get_row-
 
 pub section_row-r-requires : goal.section_row-r-requires
 section_row-r-requires c = rows_row c.loop-section.invariant c.requires.readable.linked c.loop-section-test.true
-
-pub overflow_add-section : goal.overflow_add-section
-overflow_add-section c =
-    let n = (ready _ _ _ _ c.requires).narrow.0 in
-    omega (arith, n, c.loop-section-test.true, c.loop-section.invariant.stop_is)
-
-pub loop-section-smaller : goal.loop-section-smaller
-loop-section-smaller c = omega (arith, c.loop-section-test.true)
 
 pub loop-section-preserved : goal.loop-section-preserved
 loop-section-preserved c =

@@ -1,11 +1,9 @@
 -- `has_changed::has_changed` meets its contract.
-use lib.ListN.{length}
-use Rattle.memory_fragments.specs.Sections.{rest}
-use Rattle.report_has_changed.proofs.Compare.{Comparing}
+use mathlib.Core.Path.{◌≡◌}
+use Rattle.utf8.specs.Chars.{concat}
+use Rattle.model.specs.Text.{same}
+use Rattle.memory_fragments.specs.Sections.{all_texts}
 use Rattle.report_has_changed.proofs.has_changed.Given as goal
 
-abbrev pub invariant-loop-c : goal.invariant-loop-c
-invariant-loop-c l = Comparing l.source l.chunks l.pieces l.store l.stop l.c.section l.c.row l.c.item l.o
-
-abbrev pub decreases-loop-c : goal.decreases-loop-c
-decreases-loop-c l = length (rest l.source l.chunks l.pieces l.store l.c.section l.c.item)
+abbrev pub invariant-loop-t : goal.invariant-loop-t
+invariant-loop-t l = same l.desk.source.now (concat (all_texts l.desk)) ≡ same l.left (concat l.t-iterator)

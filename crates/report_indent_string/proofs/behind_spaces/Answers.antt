@@ -1,5 +1,4 @@
 use mathlib.Core.Path.{refl}
-use Prim.Native.Nat.{◌-◌}
 use native.Mathlib.Omega.{arith}
 use Rattle.report_indent_string.proofs.Tallies.{spacing_met, spacing_more, spacing_done}
 use Rattle.report_indent_string.proofs.behind_spaces.Goals as goal

@@ -1,4 +1,3 @@
-use Prim.Native.Nat.{◌-◌}
 use native.Mathlib.Omega.{arith}
 use Rattle.report_indent_string.proofs.Tallies.{tallied_none, tallied_end, tallied_less, tallied_more, guessed_tab, guessed_spaces}
 use Rattle.report_indent_string.proofs.guess_indentor.Goals as goal

@@ -1,11 +1,10 @@
 -- `indent_string::indentor_len` meets its contract.
-use mathlib.Core.Path.{ap, sym}
-use lib.ListN.{length}
-use Rattle.report_indent_string.proofs.Tallies.{tab_text, spaces_length}
+use mathlib.Core.Path.{sym}
+use Rattle.report_indent_string.proofs.Tallies.{tab_text, spaces_text, text_length}
 use Rattle.report_indent_string.proofs.indentor_len.Goals as goal
 
-pub returns-then-g : goal.returns-then-g
-returns-then-g c = sym (ap length (tab_text c.args.g c.if-g.true))
+pub returns-in-Tab : goal.returns-in-Tab
+returns-in-Tab c = sym (text_length c.args.g 1 _ (tab_text c.args.g c.in-Tab.is))
 
-pub returns : goal.returns
-returns c = sym (spaces_length c.args.g c.if-g.false)
+pub returns-in-Spaces : goal.returns-in-Spaces
+returns-in-Spaces c = sym (text_length c.args.g c.in-Spaces.n _ (spaces_text c.args.g _ _ c.in-Spaces.is))

@@ -1,5 +1,5 @@
 use mathlib.Core.Path.{refl}
-use Prim.Native.Nat.{◌+◌, ◌-◌}
+use Prim.Native.Nat.{◌+◌}
 use native.Mathlib.Omega.{arith}
 use Rattle.report_indent_string.proofs.Tallies.{seeking_from, seeking_block}
 use Rattle.report_indent_string.proofs.past_blocks.Goals as goal

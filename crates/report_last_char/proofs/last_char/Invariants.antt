@@ -2,8 +2,5 @@
 use Rattle.report_last_char.proofs.Backwards.{Seeking}
 use Rattle.report_last_char.proofs.last_char.Given as goal
 
-abbrev pub invariant-loop-left : goal.invariant-loop-left
-invariant-loop-left l = Seeking l.source l.chunks l.pieces l.store l.left l.row
-
-abbrev pub decreases-loop-left : goal.decreases-loop-left
-decreases-loop-left l = l.left
+abbrev pub invariant-loop-section : goal.invariant-loop-section
+invariant-loop-section l = Seeking l.desk.source.now l.desk.chunks.now l.desk.pieces.now l.desk.store.now l.section l.row

@@ -1,9 +1,13 @@
 -- `last_byte` meets its contract.
-use Rattle.model.proofs.LineCount.{last_empty, last_get}
+use mathlib.Core.Path.{ap, ◌∙◌}
+use Prim.Native.Nat.{ℕ}
+use Rattle.std.specs.Option.{unwrap_or}
+use Rattle.std.specs.Prelude.{Option}
+use Rattle.report_line_count.proofs.Lines.{last_or}
 use Rattle.report_line_count.proofs.last_byte.Goals as goal
 
-pub returns-then-t-eq0 : goal.returns-then-t-eq0
-returns-then-t-eq0 c = last_empty _ c.args.t.now c.if-t-eq0.true
-
 pub returns : goal.returns
-returns c = last_get _ c.args.t.now c.if-t-eq0.false
+returns c =
+    c.unwrap_or.ensures
+    ∙ ap (λ (o : Option ℕ). unwrap_or o c.args.before) (c.copied.ensures ∙ c.last.ensures.value)
+    ∙ last_or c.args.before c.args.t.now

@@ -1,19 +1,16 @@
 use mathlib.Core.Path.{◌≡◌, refl, sym, ap, ◌∙◌}
-use mathlib.Core.Bool.{Bool, true, ◌&&◌, cond}
-use Prim.Native.Nat.{ℕ, ◌+◌, ◌-◌}
+use mathlib.Core.Bool.{Bool, not, ◌&&◌}
+use Prim.Native.Nat.{◌+◌}
 use native.Mathlib.Omega.{arith}
 use lib.ListN.{drop}
-use Rattle.utf8.specs.Rfc3629.{utf8, decode_at}
+use Rattle.utf8.specs.Rfc3629.{decode_at}
 use Rattle.utf8.specs.Chars.{code}
 use Rattle.utf8.specs.WhiteSpace.{white_space}
 use Rattle.utf8.proofs.Texts.{turn}
-use Rattle.utf8.specs.declared.Decoded.TheVariants.{Char, Invalid, End}
-use Rattle.model.specs.Text.{Text, all}
+use Rattle.utf8.specs.declared.Decoded.TheVariants.{Char}
+use Rattle.model.specs.Text.{all}
 use Rattle.report_measures.proofs.ByCharacters.{white, white_step, left_none, filled_is}
 use Rattle.report_measures.proofs.filled.Goals as goal
-
-none_left : (t : Text) (i : ℕ) → utf8 t ≡ true → white (drop i t) ≡ white t → white (drop i t) ≡ true → 0 ≡ Rattle.report_measures.specs.Measures.filled_of t
-none_left t i u e h = sym (filled_is t u ∙ ap (λ (b : Bool). cond b 0 1) (sym e ∙ h))
 
 pub loop-code-init : goal.loop-code-init
 loop-code-init c = (omega arith, c.requires, refl)
@@ -27,7 +24,7 @@ returns-then-not-is_white_space c =
     c.args.t.now)) = let t = c.args.t.now in
     sym c.loop-code.invariant.2 ∙ white_step t c.loop-code.i _ _ c.loop-code.invariant.1 (char) ∙ ap (λ (b : Bool). b && white (drop (c.loop-code.i + c.in-Char.width) t)) (sym c.is_white_space.ensures) in
     let t = c.args.t.now in
-    sym (filled_is t c.requires ∙ ap (λ (b : Bool). cond b 0 1)
+    sym (filled_is t c.requires ∙ ap not
     (step ∙ ap (λ (b : Bool). b && white (drop
     (c.loop-code.i + c.in-Char.width) t))
     c.if-not-is_white_space.true))
@@ -61,14 +58,8 @@ loop-code-preserved c =
           c.if-not-is_white_space.false),
     )
 
-pub returns-in-Invalid : goal.returns-in-Invalid
-returns-in-Invalid c =
+pub returns : goal.returns
+returns c =
     let t = c.args.t.now in
-    let e = left_none t c.loop-code.i Invalid c.loop-code.invariant.0 c.loop-code.invariant.1 (sym c.decode.ensures ∙ c.in-Invalid.is) (λ v w q. let z : ◌≡◌ {A = ℕ} 0 1 = cc in omega arith) in
-    none_left t c.loop-code.i c.requires c.loop-code.invariant.2 (ap (all (λ x. white_space (code x))) e)
-
-pub returns-in-End : goal.returns-in-End
-returns-in-End c =
-    let t = c.args.t.now in
-    let e = left_none t c.loop-code.i End c.loop-code.invariant.0 c.loop-code.invariant.1 (sym c.decode.ensures ∙ c.in-End.is) (λ v w q. let z : ◌≡◌ {A = ℕ} 0 1 = cc in omega arith) in
-    none_left t c.loop-code.i c.requires c.loop-code.invariant.2 (ap (all (λ x. white_space (code x))) e)
+    let e = left_none t c.loop-code.i c.decode.result c.loop-code.invariant.0 c.loop-code.invariant.1 (sym c.decode.ensures) c.in_default.not-Char in
+    sym (filled_is t c.requires ∙ ap not (sym c.loop-code.invariant.2 ∙ ap (all (λ x. white_space (code x))) e))

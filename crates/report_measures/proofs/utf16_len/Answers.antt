@@ -1,10 +1,9 @@
 use mathlib.Core.Path.{◌≡◌, sym, ap, ◌∙◌}
-use Prim.Native.Nat.{ℕ, ◌-◌}
 use native.Mathlib.Omega.{arith}
 use Rattle.utf8.specs.Rfc3629.{decode_at}
 use Rattle.utf8.specs.Chars.{utf16_width}
 use Rattle.utf8.proofs.Texts.{turn}
-use Rattle.utf8.specs.declared.Decoded.TheVariants.{Char, Invalid, End}
+use Rattle.utf8.specs.declared.Decoded.TheVariants.{Char}
 use Rattle.model.specs.Text.{sum}
 use Rattle.report_measures.proofs.ByCharacters.{utf16_le, utf16_step, left_none}
 use Rattle.report_measures.proofs.utf16_len.Goals as goal
@@ -47,14 +46,7 @@ loop-code-preserved c =
     let u = turn t c.loop-code.i _ _ (char) in
     (u.1, sym u.2 ∙ c.loop-code.invariant.1, omega (arith, c.units-n.ensures, c.loop-code.invariant.2, utf16_step t c.loop-code.i _ _ c.loop-code.invariant.1 (char)))
 
-pub returns-in-Invalid : goal.returns-in-Invalid
-returns-in-Invalid c =
-    let t = c.args.t.now in
-    let e = left_none t c.loop-code.i Invalid c.loop-code.invariant.0 c.loop-code.invariant.1 (sym c.decode.ensures ∙ c.in-Invalid.is) (λ v w q. let z : ◌≡◌ {A = ℕ} 0 1 = cc in omega arith) in
-    omega (arith, c.loop-code.invariant.2, ap (sum utf16_width) e)
-
-pub returns-in-End : goal.returns-in-End
-returns-in-End c =
-    let t = c.args.t.now in
-    let e = left_none t c.loop-code.i End c.loop-code.invariant.0 c.loop-code.invariant.1 (sym c.decode.ensures ∙ c.in-End.is) (λ v w q. let z : ◌≡◌ {A = ℕ} 0 1 = cc in omega arith) in
+pub returns : goal.returns
+returns c =
+    let e = left_none c.args.t.now c.loop-code.i c.decode.result c.loop-code.invariant.0 c.loop-code.invariant.1 (sym c.decode.ensures) c.in_default.not-Char in
     omega (arith, c.loop-code.invariant.2, ap (sum utf16_width) e)

@@ -3,4 +3,4 @@ use Rattle.report_output.proofs.Writing.{told_len}
 use Rattle.report_output.proofs.len.Goals as goal
 
 pub returns : goal.returns
-returns c = told_len _ _ c.chunks_total-value.ensures
+returns c = told_len _ _ c.chunks_total.ensures

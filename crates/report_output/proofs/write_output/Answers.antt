@@ -1,5 +1,5 @@
 use mathlib.Core.Path.{ap}
-use Prim.Native.Nat.{◌+◌, ◌-◌}
+use Prim.Native.Nat.{◌+◌}
 use native.Mathlib.Omega.{arith}
 use Rattle.memory_table.specs.declared.Row.{Row}
 use Rattle.memory_fragments.proofs.Output.{ready}
@@ -22,19 +22,6 @@ pub write_chunk-o-requires : goal.write_chunk-o-requires
 write_chunk-o-requires c =
     let k = sectioning_requires c.loop-section.invariant c.requires.well_formed
     c.loop-section-test.true _ c.section_row-r.ensures in record { entry_in = k.0; span_in = k.1; row_in_bounds = k.2 }
-
-pub overflow_add-section : goal.overflow_add-section
-overflow_add-section c =
-    let n = (ready _ _ _ _ c.requires.well_formed).narrow.0 in
-    omega (
-      arith,
-      n,
-      c.loop-section-test.true,
-      c.loop-section.invariant.stop_is,
-    )
-
-pub loop-section-smaller : goal.loop-section-smaller
-loop-section-smaller c = omega (arith, c.loop-section-test.true)
 
 pub loop-section-preserved : goal.loop-section-preserved
 loop-section-preserved c =

@@ -1,5 +1,4 @@
 use mathlib.Core.Path.{sym, ap, ◌∙◌}
-use Prim.Native.Nat.{◌-◌}
 use native.Mathlib.Omega.{arith}
 use Rattle.memory_table.specs.declared.Row.{Row}
 use Rattle.report_slice.proofs.Seek.{seek_none, seek_done, seek_row, seek_found, seek_stop, seek_more}
@@ -26,12 +25,6 @@ returns-then-contains_end c =
     c.loop-k-test.true _ c.get_row-r.ensures
     (sym c.misses_start.ensures ∙ c.if-not-misses_start.false)
     (sym c.contains_end.ensures ∙ c.if-contains_end.true)
-
-pub overflow_add-k : goal.overflow_add-k
-overflow_add-k c = omega (arith, c.loop-k-test.true)
-
-pub loop-k-smaller : goal.loop-k-smaller
-loop-k-smaller c = omega (arith, c.loop-k-test.true)
 
 pub loop-k-preserved : goal.loop-k-preserved
 loop-k-preserved c =

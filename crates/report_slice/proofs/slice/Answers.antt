@@ -12,30 +12,27 @@ boundary-requires c = c.requires.desk.formed.source
 
 pub returns-then-not-boundary : goal.returns-then-not-boundary
 returns-then-not-boundary c =
-    told_3_start _ _ _ _ _ c.args.end _ c.args.has_end
+    told_3_start _ _ _ _ _ 0 _ c.args.end
     (sym c.boundary.ensures ∙ c.if-not-boundary.true)
 
-pub boundary-requires-then-has_end : goal.boundary-requires-then-has_end
+pub overflow_cast-desk : goal.overflow_cast-desk
+overflow_cast-desk c = omega (arith, short_source c.requires)
+
+pub returns-in_default : goal.returns-in_default
+returns-in_default c =
+    told_all _ _ _ _ _ 0 _ _ _ _ _ c.in_default.is
+    (sym c.boundary.ensures ∙ c.if-not-boundary.false) c.slice_to.ensures
+
+pub boundary-requires-2 : goal.boundary-requires-2
 unfolding magic_string_of
-boundary-requires-then-has_end c = c.requires.desk.formed.source
+boundary-requires-2 c = c.requires.desk.formed.source
 
 pub returns-then-not-boundary-2 : goal.returns-then-not-boundary-2
 returns-then-not-boundary-2 c =
-    told_3_end _ _ _ _ _ _ _ c.args.has_end c.if-has_end.true (sym c.boundary.ensures
-    ∙ c.if-not-boundary.false)
-    (sym c.boundary-then-has_end.ensures ∙ c.if-not-boundary-2.true)
-
-pub returns-then-has_end : goal.returns-then-has_end
-returns-then-has_end c =
-    told_end _ _ _ _ _ _ _ c.args.has_end _ _ _ c.if-has_end.true
-    (sym c.boundary.ensures
-    ∙ c.if-not-boundary.false)
-    (sym c.boundary-then-has_end.ensures ∙ c.if-not-boundary-2.false) c.slice_to.ensures
-
-pub overflow_cast-source : goal.overflow_cast-source
-overflow_cast-source c = omega (arith, short_source c.requires)
+    told_3_end _ _ _ _ _ c.in-Some.end _ _ c.in-Some.is (sym c.boundary.ensures ∙ c.if-not-boundary.false)
+    (sym c.boundary-2.ensures ∙ c.if-not-boundary-2.true)
 
 pub returns : goal.returns
 returns c =
-    told_all _ _ _ _ _ c.args.end _ c.args.has_end _ _ _ c.if-has_end.false
-    (sym c.boundary.ensures ∙ c.if-not-boundary.false) c.slice_to-2.ensures
+    told_end _ _ _ _ _ c.in-Some.end _ _ _ _ _ c.in-Some.is (sym c.boundary.ensures ∙ c.if-not-boundary.false)
+    (sym c.boundary-2.ensures ∙ c.if-not-boundary-2.false) c.slice_to-2.ensures

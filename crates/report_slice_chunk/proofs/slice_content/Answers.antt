@@ -10,15 +10,14 @@ pub content-t-requires : goal.content-t-requires
 content-t-requires c = record { ordered = c.requires.span_in.ordered; inside = c.requires.span_in.inside; replacement = c.requires.replacement_in }
 
 pub part-requires : goal.part-requires
-part-requires c = omega (arith, c.less-to.ensures)
+part-requires c = omega (arith, c.saturating_sub-to.ensures)
 
 pub returns-then-contains_end : goal.returns-then-contains_end
 returns-then-contains_end c =
     let a = c.args in
     c.part.ensures
     ∙ ap (λ (n : ℕ). part a.from n c.content-t.result.now)
-    (c.less-to.ensures ∙ ap (λ (n : ℕ). length c.content-t.result.now - n)
-    c.less.ensures)
+    c.saturating_sub-to.ensures
     ∙ ap (λ (t : Text). part a.from (length t - (a.row.end - a.end)) t) c.content-t.ensures
     ∙ rw (sym c.contains_end.ensures ∙ c.if-contains_end.true) refl
 

@@ -1,5 +1,4 @@
 use mathlib.Core.Path.{sym, ap, ◌∙◌}
-use Prim.Native.Nat.{◌-◌}
 use native.Mathlib.Omega.{arith}
 use Rattle.memory_table.specs.declared.Row.{Row}
 use Rattle.report_slice_walk.proofs.Slicing.{slicing_none, slicing_small, slicing_done, slicing_row, slicing_refused, slicing_requires, slicing_next_small, slicing_last}
@@ -50,12 +49,6 @@ returns-then-contains_end c =
     (sym c.ends_inside.ensures ∙ c.if-ends_inside.false)
     c.chunk_slice-o.ensures c.chunk_slice-o.auto.out
     (sym c.contains_end.ensures ∙ c.if-contains_end.true)
-
-pub overflow_add-k : goal.overflow_add-k
-overflow_add-k c = omega (arith, c.loop-k-test.true)
-
-pub loop-k-smaller : goal.loop-k-smaller
-loop-k-smaller c = omega (arith, c.loop-k-test.true)
 
 pub loop-k-preserved : goal.loop-k-preserved
 loop-k-preserved c =

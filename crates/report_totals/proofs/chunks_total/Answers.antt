@@ -1,22 +1,10 @@
 -- `totals::chunks_total` meets its contract.
-use mathlib.Core.Path.{refl, ap}
-use native.Mathlib.Omega.{arith}
-use Rattle.memory_table.specs.declared.Row.{Row}
-use Rattle.memory_fragments.proofs.Output.{ready}
-use Rattle.memory_fragments.proofs.Sections.{on_chunks}
-use Rattle.report_totals.proofs.Counting.{chunks_is}
+use mathlib.Core.Path.{ap, ◌∙◌}
+use Rattle.model.specs.Text.{sum}
+use Rattle.memory.specs.Layout.{magic_string_of}
+use Rattle.report_measures.specs.Measures.{measure_of}
 use Rattle.report_totals.proofs.chunks_total.Goals as goal
 
-pub get_row-z-requires : goal.get_row-z-requires
-get_row-z-requires c = omega (arith, c.requires.readable.linked.room)
-
-pub overflow_add-z : goal.overflow_add-z
-overflow_add-z c = omega (arith, (ready _ _ _ _ c.requires).narrow.0, ap (λ (r : Row). r.start) c.get_row-z.ensures)
-
-pub total-requires : goal.total-requires
-total-requires c = let e = ap (λ (r : Row). r.start) c.get_row-z.ensures in record { well_formed = c.requires; on = on_chunks _ _ c.requires.readable.linked (ap (λ (r : Row). r.next) c.get_row-z.ensures); item_value = (refl, omega arith, omega (arith, e)) }
-
 pub returns : goal.returns
-returns c =
-    let e = ap (λ (r : Row). r.start) c.get_row-z.ensures in
-    chunks_is c.args.m c.args.source.now c.args.chunks.now c.args.pieces.now c.args.store.now _ _ c.requires c.total.ensures (omega (arith, e))
+unfolding magic_string_of
+returns c = record { total = c.total.ensures ∙ ap (sum (measure_of c.args.m)) c.of_chunks.ensures.texts }

@@ -1,59 +1,32 @@
-use mathlib.Core.Path.{subst}
-use Rattle.sheet_records.specs.Found.{Found, Taken}
-use Prim.Native.Nat.{◌-◌}
 use native.Mathlib.Omega.{arith}
-use Rattle.sheet_records.proofs.Walk.{walk_start, walk_turn, walk_end, walk_bad, walk_full}
+use Rattle.sheet_records.proofs.Walk.{Walked, walk_start, walk_turn, walk_end, walk_bad, walk_full}
+use Rattle.sheet_records.proofs.Steps.{step_first, step_record, step_bad, step_end}
 use Rattle.sheet_records.proofs.count_records.Goals as goal
 
-pub loop-at-init : goal.loop-at-init
-loop-at-init c = (walk_start c.args.s.now, omega arith)
+pub loop-entry-init : goal.loop-entry-init
+loop-entry-init c =
+    let first = step_first (λ at. Walked c.args.s.now at 0 0) c.into_iter-entry-iterator.ensures.into_iter_gives c.new-entry-items.ensures (walk_start c.args.s.now) in
+    (first.0, first.1, omega arith)
+
+pub returns-in_default : goal.returns-in_default
+returns-in_default c =
+    let (here, walked, few) = c.loop-entry.invariant in
+    let bad = step_bad c.loop-entry.entry-iterator c.next.new.self here c.in-Some.ensures.steps c.in_default.is in
+    λ l q. walk_bad walked bad.0 bad.1 l q
 
 pub returns-then-count-most : goal.returns-then-count-most
 returns-then-count-most c =
-    let here : Taken c.args.s.now c.loop-at.at c.in-Record.kind c.in-Record.a c.in-Record.b c.in-Record.c
-    c.in-Record.text_at c.in-Record.next = subst (Found c.args.s.now c.loop-at.at) c.in-Record.is
-    c.read_at.ensures in
-    walk_full (walk_turn c.loop-at.invariant.0 (here))
-    c.args.most (omega (arith, c.if-count-most.true))
+    let (here, walked, few) = c.loop-entry.invariant in
+    let one = step_record c.loop-entry.entry-iterator c.next.new.self here c.in-Some.ensures.steps c.in-Ok.is in
+    walk_full (walk_turn walked one.0) c.args.most (omega (arith, c.if-count-most.true))
 
-pub overflow_sub-text : goal.overflow_sub-text
-overflow_sub-text c =
-    let here : Taken c.args.s.now c.loop-at.at c.in-Record.kind c.in-Record.a c.in-Record.b c.in-Record.c
-    c.in-Record.text_at c.in-Record.next = subst (Found c.args.s.now c.loop-at.at) c.in-Record.is
-    c.read_at.ensures in
-    let g = here in omega (arith, g.ends)
-
-pub overflow_add-text : goal.overflow_add-text
-overflow_add-text c =
-    let here : Taken c.args.s.now c.loop-at.at c.in-Record.kind c.in-Record.a c.in-Record.b c.in-Record.c
-    c.in-Record.text_at c.in-Record.next = subst (Found c.args.s.now c.loop-at.at) c.in-Record.is
-    c.read_at.ensures in
-    let g = here in
-    omega (arith, g.ends, g.starts, g.there, c.loop-at.invariant.0.less)
-
-pub loop-at-smaller : goal.loop-at-smaller
-loop-at-smaller c =
-    let here : Taken c.args.s.now c.loop-at.at c.in-Record.kind c.in-Record.a c.in-Record.b c.in-Record.c
-    c.in-Record.text_at c.in-Record.next = subst (Found c.args.s.now c.loop-at.at) c.in-Record.is
-    c.read_at.ensures in
-    let g = here in omega (arith, g.starts, g.ends, g.there)
-
-pub loop-at-preserved : goal.loop-at-preserved
-loop-at-preserved c =
-    let here : Taken c.args.s.now c.loop-at.at c.in-Record.kind c.in-Record.a c.in-Record.b c.in-Record.c
-    c.in-Record.text_at c.in-Record.next = subst (Found c.args.s.now c.loop-at.at) c.in-Record.is
-    c.read_at.ensures in
-    (walk_turn c.loop-at.invariant.0 (here), omega arith)
-
-pub returns-in-Bad : goal.returns-in-Bad
-returns-in-Bad c =
-    let f = subst (Found c.args.s.now c.loop-at.at) c.in-Bad.is
-    c.read_at.ensures in λ l q. walk_bad c.loop-at.invariant.0 f.0 f.1 l q
-
-pub returns-in-End : goal.returns-in-End
-returns-in-End c =
-    let f = subst (Found c.args.s.now c.loop-at.at) c.in-End.is
-    c.read_at.ensures in absurd (omega arith)
+pub loop-entry-preserved : goal.loop-entry-preserved
+loop-entry-preserved c =
+    let (here, walked, few) = c.loop-entry.invariant in
+    let one = step_record c.loop-entry.entry-iterator c.next.new.self here c.in-Some.ensures.steps c.in-Ok.is in
+    (one.1, walk_turn walked one.0, omega (arith, few, c.if-count-most.false))
 
 pub returns : goal.returns
-returns c = walk_end c.loop-at.invariant.0 c.args.most c.loop-at.invariant.1 (omega arith)
+returns c =
+    let (here, walked, few) = c.loop-entry.invariant in
+    walk_end walked c.args.most few (step_end c.loop-entry.entry-iterator c.next.new.self here c.in-None.ensures.steps)

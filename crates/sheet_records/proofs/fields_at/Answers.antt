@@ -3,17 +3,22 @@ use native.Mathlib.Omega.{arith}
 use Rattle.sheet_records.proofs.Finding.{stands_room, taken_fields}
 use Rattle.sheet_records.proofs.fields_at.Goals as goal
 
-pub position-a-requires : goal.position-a-requires
-position-a-requires c = let h = stands_room c.requires in omega (arith, c.requires.there)
+pub position-requires : goal.position-requires
+position-requires c = let h = stands_room c.requires in omega (arith, c.requires.there, h.room, c.positions-p.ensures)
 
-pub position-b-requires : goal.position-b-requires
-position-b-requires c = let h = stands_room c.requires in omega (arith, c.requires.there)
+pub position-requires-2 : goal.position-requires-2
+position-requires-2 c = let h = stands_room c.requires in omega (arith, c.requires.there, h.room, c.positions-p.ensures)
 
-pub position-c-requires : goal.position-c-requires
-position-c-requires c = let h = stands_room c.requires in omega (arith, c.requires.there)
+pub position-requires-3 : goal.position-requires-3
+position-requires-3 c = let h = stands_room c.requires in omega (arith, c.requires.there, h.room, c.positions-p.ensures)
+
+pub slice_bounds-result-count : goal.slice_bounds-result-count
+slice_bounds-result-count c = let h = stands_room c.requires in omega (arith, h.room, c.positions-p.ensures)
+
+pub slice_bounds-result-start : goal.slice_bounds-result-start
+slice_bounds-result-start c = let h = stands_room c.requires in omega (arith, c.requires.there, h.room, c.positions-p.ensures)
 
 pub returns : goal.returns
 returns c =
-    let h = c.requires in
-    taken_fields h c.positions_of-p.result c.position-a.result c.position-b.result c.position-c.result
-    c.positions_of-p.ensures.0 c.position-a.ensures c.position-b.ensures c.position-c.ensures
+    taken_fields c.requires c.positions-p.result c.position.result c.position-2.result c.position-3.result
+    c.positions-p.ensures.0 c.position.ensures c.position-2.ensures c.position-3.ensures

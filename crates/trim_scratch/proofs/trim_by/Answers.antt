@@ -1,4 +1,4 @@
-use mathlib.Core.Path.{◌∙◌}
+use Rattle.trim_text.specs.Patterns.{pattern_number}
 use Rattle.edit_room_above.proofs.Finishing.{formed_usable}
 use Rattle.trim_steps.proofs.Both.{trimmed_readable}
 use Rattle.trim_scratch.proofs.Call.{loaded_ready, trim_ran}
@@ -10,17 +10,8 @@ trim_steps-requires c = loaded_ready c.requires.well_formed c.requires.scratch c
 pub finish-requires : goal.finish-requires
 finish-requires c = record { readable = trimmed_readable c.trim_steps.ensures; usable = formed_usable c.requires.well_formed }
 
-pub shape_of-t : goal.shape_of-t
-shape_of-t c = c.trim_steps.auto.t ∙ c.load.auto.t
-
-pub shape_of-p : goal.shape_of-p
-shape_of-p c = c.trim_steps.auto.p ∙ c.load.auto.p
-
-pub shape_of-s : goal.shape_of-s
-shape_of-s c = c.trim_steps.auto.s ∙ c.load.auto.s
-
 pub returns : goal.returns
 returns c = (
-  trim_ran {both = c.args.both} {front = c.args.front} {pattern = c.args.pattern} c.requires.well_formed c.requires.scratch c.load.ensures c.trim_steps.ensures c.finish.ensures.0,
+  trim_ran {both = c.args.both} {front = c.args.front} {pattern = (pattern_number c.args.pattern)} c.requires.well_formed c.requires.scratch c.load.ensures c.trim_steps.ensures c.finish.ensures.0,
   c.finish.ensures.1,
 )

@@ -1,17 +1,14 @@
-use Rattle.trim_text.proofs.Sides.{start_none, start_more, start_stop, start_all, start_whole}
+use Rattle.trim_text.specs.Patterns.{pattern_number}
+use Rattle.trim_text.proofs.Sides.{start_more, start_stop, start_over}
 use Rattle.utf8.proofs.Texts.{turn}
 use native.Mathlib.Omega.{arith}
-use Prim.Native.Nat.{◌-◌}
 use mathlib.Core.Path.{sym, ◌∙◌}
 use Rattle.trim_text.proofs.trim_start_len.Goals as goal
-
-pub loop-code-init : goal.loop-code-init
-loop-code-init c = start_none _ _ c.requires
 
 pub returns-then-not-is_match : goal.returns-then-not-is_match
 returns-then-not-is_match c =
     let e = sym c.decode.ensures ∙ c.in-Char.is in
-    (c.loop-code.invariant.inside, start_stop c.args.pattern c.args.text.now c.loop-code.i c.loop-code.invariant _ _ e (sym c.is_match.ensures ∙ c.if-not-is_match.true))
+    (c.loop-code.invariant.inside, start_stop (pattern_number c.args.pattern) c.args.text.now c.loop-code.i c.loop-code.invariant _ _ e (sym c.is_match.ensures ∙ c.if-not-is_match.true))
 
 pub overflow_add-i : goal.overflow_add-i
 overflow_add-i c =
@@ -27,10 +24,7 @@ loop-code-smaller c =
 pub loop-code-preserved : goal.loop-code-preserved
 loop-code-preserved c =
     let e = sym c.decode.ensures ∙ c.in-Char.is in
-    start_more c.args.pattern c.args.text.now c.loop-code.i c.loop-code.invariant _ _ e (sym c.is_match.ensures ∙ c.if-not-is_match.false)
+    start_more (pattern_number c.args.pattern) c.args.text.now c.loop-code.i c.loop-code.invariant _ _ e (sym c.is_match.ensures ∙ c.if-not-is_match.false)
 
-pub returns-in-Invalid : goal.returns-in-Invalid
-returns-in-Invalid c = absurd (start_whole c.args.pattern c.args.text.now c.loop-code.i c.loop-code.invariant (sym c.decode.ensures ∙ c.in-Invalid.is))
-
-pub returns-in-End : goal.returns-in-End
-returns-in-End c = (c.loop-code.invariant.inside, start_all c.args.pattern c.args.text.now c.loop-code.i c.loop-code.invariant (sym c.decode.ensures ∙ c.in-End.is))
+pub returns : goal.returns
+returns c = (c.loop-code.invariant.inside, start_over (pattern_number c.args.pattern) c.args.text.now c.loop-code.i c.loop-code.invariant _ c.decode.ensures c.in_default.not-Char)

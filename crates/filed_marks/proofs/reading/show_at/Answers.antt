@@ -11,7 +11,7 @@ place_of-p-requires c = behind_lent c.args.used c.args.i c.args.bytes.now c.requ
 pub returns-then-out-n : goal.returns-then-out-n
 returns-then-out-n c =
     shown_short c.args.used c.args.i c.args.bytes.now c.place_of-p.result.at c.place_of-p.result.next c.place_of-p.ensures c.args.marked c.size_of-n.result c.size_of-n.ensures
-    c.args.out.now (omega (arith, c.if-out-n.true)) c.refused.ensures
+    c.args.out.now (omega (arith, c.if-out-n.true)) (refl, refl)
 
 pub overflow_cast-result : goal.overflow_cast-result
 overflow_cast-result c =

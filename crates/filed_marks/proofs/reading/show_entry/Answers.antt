@@ -1,31 +1,29 @@
 -- `filed_marks::reading::show_entry` meets its contract.
-use Prim.Native.Nat.{◌-◌}
-use mathlib.Core.Path.{refl, ◌∙◌}
+use mathlib.Core.Path.{refl, sym, subst}
 use native.Mathlib.Omega.{arith}
-use Rattle.filed_marks.proofs.OnRecord.{on_none, on_taken, judged, Numbered, numbered}
+use Rattle.filed_taken.proofs.Says.{said}
+use Rattle.filed_marks.specs.Readings.{ShownAt}
+use Rattle.filed_marks.proofs.OnRecord.{on_none, on_taken, judged}
 use Rattle.filed_marks.proofs.Shown.{behind_held, bytes_of, shown_none, shown_entry}
 use Rattle.filed_marks.proofs.reading.show_entry.Goals as goal
 
 pub returns-in_default : goal.returns-in_default
-returns-in_default c = on_none c.record_taken.ensures c.in_default.is c.refused.ensures refl
-
-pub returns-then-number-ne0 : goal.returns-then-number-ne0
-returns-then-number-ne0 c =
-    on_taken c.record_taken.ensures c.in-Record.is
-    (λ h l q. shown_none c.args.marked c.args.k (judged c.args.k h c.no_such_call-number.ensures l q) (λ z. omega (arith, z, c.if-number-ne0.true)) c.refused-then-number-ne0.ensures)
-
-pub overflow_sub-wide : goal.overflow_sub-wide
-overflow_sub-wide c =
-    let in-record : Numbered c.args.words.now c.args.bytes.now c.in-Record.size c.args.k = numbered c.args.source.now c.args.words.now c.args.bytes.now c.args.k c.record_taken.ensures c.in-Record.is c.no_such_call-number.ensures c.if-number-ne0.false in
-    omega (arith, (in-record).first, c.wide.ensures.0)
+returns-in_default c = on_none c.in_default.ensures (said c.from.ensures) refl
 
 pub show_at-requires : goal.show_at-requires
 show_at-requires c =
-    let in-record : Numbered c.args.words.now c.args.bytes.now c.in-Record.size c.args.k = numbered c.args.source.now c.args.words.now c.args.bytes.now c.args.k c.record_taken.ensures c.in-Record.is c.no_such_call-number.ensures c.if-number-ne0.false in
-    let x = in-record in record { bytes_len = omega (arith, x.holds.bytes); used_bound = (omega (arith, x.holds.room), omega (arith, x.first, x.last, x.holds.few, c.wide.ensures.0)); behind = behind_held x.holds (c.wide.result - 1) (omega (arith, x.first, x.last, c.wide.ensures.0)) }
+    let h = c.in-Some.ensures.holds in
+    let i = c.in-Ok.ensures.2 in
+    record { bytes_len = omega (arith, h.bytes); used_bound = (omega (arith, h.room), omega (arith, i, h.few)); behind = behind_held h c.in-Ok.i i }
+
+pub returns-in-Err : goal.returns-in-Err
+returns-in-Err c =
+    on_taken c.in-Some.ensures
+    (λ h l q. shown_none c.args.marked c.args.k (judged c.args.k h c.in-Err.ensures.0 l q) (λ z. omega (arith, z, c.in-Err.ensures.1)) (said c.from-in-Err.ensures))
 
 pub returns : goal.returns
 returns c =
-    on_taken c.record_taken.ensures c.in-Record.is
-    (λ h l q. shown_entry h (bytes_of c.args.bytes.now (λ i. omega (arith, c.type_inv.bytes i))) c.args.k q (judged c.args.k h c.no_such_call-number.ensures l q ∙ c.if-number-ne0.false)
-    (omega (arith, c.wide.ensures.0)) c.show_at.ensures refl)
+    on_taken c.in-Some.ensures
+    (λ h l q. shown_entry h (bytes_of c.args.bytes.now (λ i. omega (arith, c.type_inv.bytes i))) c.args.k q (judged c.args.k h c.in-Ok.ensures.0 l q)
+    (omega (arith, c.in-Ok.ensures.1))
+    (subst (ShownAt c.args.marked c.in-Some.beside.size.used c.in-Ok.i c.args.bytes.now c.args.out.now c.show_at.new.out) (sym c.from-2.ensures) c.show_at.ensures) refl)

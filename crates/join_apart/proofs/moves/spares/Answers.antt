@@ -1,56 +1,39 @@
-use mathlib.Core.Path.{refl, sym, subst, ◌∙◌}
-use Prim.Native.Nat.{◌-◌}
-use native.Mathlib.Omega.{arith}
-use lib.ListN.{take, drop}
-use Rattle.model_sheet.specs.Record as model
-use Rattle.sheet_records.specs.Found.{Found, Taken}
-use mathlib.Core.Bool.{true}
-use Rattle.model.specs.Call.{relocate}
-use Rattle.join_apart.specs.Marking.{call}
-use Rattle.join_apart.proofs.Upto.{upto_start, upto_bad, upto_end, upto_here}
+use mathlib.Core.Path.{refl, sym, ◌∙◌}
+use Rattle.model_sheet.specs.Sheet.{call_of}
+use Rattle.sheet_records.specs.Found.{recorded}
+use Rattle.sheet_records.proofs.Steps.{step_first, step_record, step_bad, step_end}
+use Rattle.join_apart.specs.Moves.{edit_of}
 use Rattle.join_apart.proofs.Walks.{spare_on, spare_stop}
 use Rattle.join_apart.proofs.moves.spares.Invariants.{Spared}
+use Rattle.join_apart.proofs.Upto.{Walking, walking_start, upto_bad, upto_end, upto_here}
 use Rattle.join_apart.proofs.moves.spares.Goals as goal
 
-pub loop-at-init : goal.loop-at-init
-loop-at-init c l q = upto_start (Spared (relocate c.args.a c.args.b c.args.c)) refl q
+pub loop-entry-init : goal.loop-entry-init
+loop-entry-init c =
+    step_first (Walking (Spared (edit_of c.args.moved)) c.args.records.now) c.into_iter-entry-iterator.ensures.into_iter_gives c.new-entry-items.ensures
+    (walking_start (Spared (edit_of c.args.moved)) refl)
 
-pub loop-at-smaller : goal.loop-at-smaller
-loop-at-smaller c =
-    let here : Taken c.args.records.now c.loop-at.at c.in-Record.kind c.in-Record.from c.in-Record.to c.in-Record.third c.in-Record.text_at c.in-Record.next = let bytes = c.args.records.now in
-    subst (Found bytes c.loop-at.at) c.in-Record.is c.read_at.ensures in
-    let g = here in omega (arith, g.starts, g.ends, g.there)
+pub returns-in_default : goal.returns-in_default
+returns-in_default c l q =
+    let (here, upto) = c.loop-entry.invariant in
+    let bad = step_bad c.loop-entry.entry-iterator c.next.new.self here c.in-Some.ensures.steps c.in_default.is in
+    upto_bad (Spared (edit_of c.args.moved)) (upto l q) bad.0 bad.1
 
-pub loop-at-preserved : goal.loop-at-preserved
-loop-at-preserved c l q =
-    let here : Taken c.args.records.now c.loop-at.at c.in-Record.kind c.in-Record.from c.in-Record.to c.in-Record.third c.in-Record.text_at c.in-Record.next = let bytes = c.args.records.now in
-    subst (Found bytes c.loop-at.at) c.in-Record.is c.read_at.ensures in
-    let x = relocate c.args.a c.args.b c.args.c in
-    let text = take (c.in-Record.next - c.in-Record.text_at) (drop c.in-Record.text_at c.args.records.now) in
-    let e = call c.in-Record.kind c.in-Record.from c.in-Record.to c.in-Record.third text in
-    let between = upto_here (Spared x) (c.loop-at.invariant l q) (here) in
-    spare_on x e between (sym (c.spares_record.ensures text) ∙ c.if-spares_record.true)
+pub returns-then-not-spares_record : goal.returns-then-not-spares_record
+returns-then-not-spares_record c l q =
+    let (here, upto) = c.loop-entry.invariant in
+    let one = step_record c.loop-entry.entry-iterator c.next.new.self here c.in-Some.ensures.steps c.in-Ok.is in
+    let x = edit_of c.args.moved in
+    spare_stop x (call_of (recorded c.in-Ok.entry)) (upto_here (Spared x) (upto l q) one.0) (sym c.spares_record.ensures ∙ c.if-not-spares_record.true)
 
-pub returns-else-spares_record : goal.returns-else-spares_record
-returns-else-spares_record c l q =
-    let here : Taken c.args.records.now c.loop-at.at c.in-Record.kind c.in-Record.from c.in-Record.to c.in-Record.third c.in-Record.text_at c.in-Record.next = let bytes = c.args.records.now in
-    subst (Found bytes c.loop-at.at) c.in-Record.is c.read_at.ensures in
-    let x = relocate c.args.a c.args.b c.args.c in
-    let text = take (c.in-Record.next - c.in-Record.text_at) (drop c.in-Record.text_at c.args.records.now) in
-    let e = call c.in-Record.kind c.in-Record.from c.in-Record.to c.in-Record.third text in
-    let between = upto_here (Spared x) (c.loop-at.invariant l q) (here) in
-    spare_stop x e between (sym (c.spares_record.ensures text) ∙ c.if-spares_record.false)
-
-pub returns-in-Bad : goal.returns-in-Bad
-returns-in-Bad c l q =
-    let f = subst (Found c.args.records.now c.loop-at.at) c.in-Bad.is c.read_at.ensures in
-    upto_bad (Spared (relocate c.args.a c.args.b c.args.c)) (c.loop-at.invariant l q) f.0 f.1
-
-pub returns-in-End : goal.returns-in-End
-returns-in-End c l q =
-    let bytes = c.args.records.now in
-    let f = subst (Found bytes c.loop-at.at) c.in-End.is c.read_at.ensures in
-    absurd (omega arith)
+pub loop-entry-preserved : goal.loop-entry-preserved
+loop-entry-preserved c =
+    let (here, upto) = c.loop-entry.invariant in
+    let one = step_record c.loop-entry.entry-iterator c.next.new.self here c.in-Some.ensures.steps c.in-Ok.is in
+    let x = edit_of c.args.moved in
+    (one.1, λ l q. spare_on x (call_of (recorded c.in-Ok.entry)) (upto_here (Spared x) (upto l q) one.0) (sym c.spares_record.ensures ∙ c.if-not-spares_record.false))
 
 pub returns : goal.returns
-returns c l q = sym (upto_end (Spared (relocate c.args.a c.args.b c.args.c)) (c.loop-at.invariant l q) (omega arith))
+returns c l q =
+    let (here, upto) = c.loop-entry.invariant in
+    sym (upto_end (Spared (edit_of c.args.moved)) (upto l q) (step_end c.loop-entry.entry-iterator c.next.new.self here c.in-None.ensures.steps))

@@ -1,6 +1,5 @@
-use mathlib.Core.Path.{subst}
-use Rattle.model_sheet.specs.Sheet.{MOST_RECORDS}
-use Rattle.sheet_records.specs.Found.{Counts}
+use mathlib.Core.Path.{sym, subst}
+use Rattle.sheet_records.specs.SheetFound.{JudgesSheet}
 use Rattle.sheet_records.proofs.Judging.{too_long, too_short, other_version, cut_off, broken, is_sheet}
 use Rattle.sheet_records.proofs.sheet.judge_sheet.Goals as goal
 
@@ -16,14 +15,11 @@ returns-then-s-ne-VERSION c = other_version _ c.if-s-ne-VERSION.true
 pub returns-then-len-behind : goal.returns-then-len-behind
 returns-then-len-behind c = cut_off _ _ c.u16_at-source_n.ensures.0 c.if-len-behind.true
 
-pub returns-in-Records : goal.returns-in-Records
-returns-in-Records c =
-    let counted = subst (Counts _ MOST_RECORDS) c.in-Records.is c.count_records.ensures in
+pub returns-in_err-records : goal.returns-in_err-records
+returns-in_err-records c = subst (JudgesSheet _) (sym c.from_residual.ensures) (broken _ _ c.u16_at-source_n.ensures.0 c.in_err-records.ensures)
+
+pub returns : goal.returns
+returns c =
     is_sheet _ _ c.u16_at-source_n.ensures.0
     c.if-len-gt-MOST_BYTES.false c.if-s-ne-VERSION.false
-    c.if-len-behind.false counted.counted
-
-pub returns-in-Broken : goal.returns-in-Broken
-returns-in-Broken c =
-    let counted = subst (Counts _ MOST_RECORDS) c.in-Broken.is c.count_records.ensures in
-    broken _ _ c.u16_at-source_n.ensures.0 counted
+    c.if-len-behind.false c.in_ok-records.ensures.counted

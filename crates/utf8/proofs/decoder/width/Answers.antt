@@ -4,7 +4,7 @@ use mathlib.Core.Bool.{Bool, true, cond, ◌&&◌}
 use Prim.Native.Nat.{ℕ, zero, suc, ◌-◌, ◌<◌}
 use native.Mathlib.Omega.{arith}
 use native.Mathlib.Decide.{dec_lt}
-use lib.Count.{count_leading_zeros, leading_le}
+use lib.Count.{count_leading_zeros}
 use lib.Dec.{ltb, eqb}
 use borrow.Author.Tests.{lt-ltb, le-ltb, eqb-true}
 use Rattle.utf8.proofs.Sequences.{both}
@@ -39,20 +39,11 @@ all_right = refl
 counted : (a n : ℕ) → a < 256 → right a ≡ eqb (ones a) n → ones a ≡ n
 counted a n h e = eqb-true (ones a) n (sym e ∙ at right 256 a all_right h)
 
-pub overflow_sub-result : goal.overflow_sub-result
-overflow_sub-result c = leading_le 8 _
-
-pub overflow_add-result : goal.overflow_add-result
-overflow_add-result c = omega (arith, leading_le 8 (255 - c.args.a))
-
-pub overflow_cast-result : goal.overflow_cast-result
-overflow_cast-result c = omega (arith, leading_le 8 (255 - c.args.a))
-
 pub returns : goal.returns
 unfolding right
 returns c =
     let a = c.args.a in
-    let h = c.requires in
+    let h = c.ranges.a.fits in
     record {
       one = λ k. omega (arith, counted a 0 h (simp (lt-ltb a 0x80 k)));
       two = λ j k. omega (arith, counted a 2 h (simp (le-ltb a 0x80 (omega arith), le-ltb a 0xC0 j, lt-ltb a 0xE0 k)));

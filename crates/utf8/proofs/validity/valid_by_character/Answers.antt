@@ -1,12 +1,9 @@
-use mathlib.Core.Path.{refl, sym, ap, ◌∙◌}
+use mathlib.Core.Path.{sym, ap, ◌∙◌}
 use native.Mathlib.Omega.{arith}
 use lib.ListN.{drop_of_length-le}
 use Rattle.utf8.specs.Rfc3629.{utf8}
 use Rattle.utf8.proofs.Texts.{turn, stops, invalid_below, end_past, utf8_nil}
 use Rattle.utf8.proofs.validity.valid_by_character.Goals as goal
-
-pub loop-width-init : goal.loop-width-init
-loop-width-init c = (omega arith, refl)
 
 pub overflow_add-i : goal.overflow_add-i
 overflow_add-i c =

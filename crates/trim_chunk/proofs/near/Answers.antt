@@ -1,7 +1,0 @@
-use mathlib.Core.Path.{◌∙◌}
-use Rattle.memory_table.specs.Order.{entry_of}
-use Rattle.trim_chunk.proofs.Runs.{near_side}
-use Rattle.trim_chunk.proofs.near.Goals as goal
-
-pub returns : goal.returns
-returns c = c.side.ensures ∙ near_side c.args.front (entry_of c.args.r)
