@@ -7,13 +7,13 @@ use borrow.Author.Tests.{lt-leb, le-ltb}
 use Prim.Native.Nat.{ℕ, suc, ◌+◌, ◌-◌, ◌≤◌, ◌<◌}
 use native.Mathlib.Omega.{arith}
 use native.Mathlib.Numerals.{add-one}
-use lib.Dec.{leb}
+use lib.Dec.{eqb, leb}
 use lib.ListN.{length, get_or, take, drop}
 use lib.Seq.{drop-cons, take-length}
-use Rattle.model.specs.Text.{Text}
+use Rattle.model.specs.Text.{Text, LF, CR}
 use Rattle.model.proofs.Lists.{no_tf}
 use Rattle.model.specs.Indent.{excluded, Starts, then_start}
-use Rattle.indent_mark.specs.Bytes.{begins_line, mark_past, starts_from, part}
+use Rattle.indent_mark.specs.Bytes.{mark_on, begins_line, mark_past, starts_from, part}
 use Rattle.indent_line_starts.specs.Next.{StartAt}
 
 -- ---- `is_excluded`: a pair that does not hold i is passed over
@@ -83,3 +83,13 @@ seek_more text exclude mark at end m i r m' s h k b t n =
 pub seek_all : (text exclude : List ℕ) (mark : Bool) (at end : ℕ) (m : Bool) (i : ℕ) → Seeking text exclude mark at end m i → end ≤ i → starts_from exclude mark at (part text at end) ≡ record { mark = m; starts = [] }
 unfolding starts_from
 seek_all text exclude mark at end m i s h = let n : end - i ≡ 0 = omega arith in s.left ∙ ap (λ (j : ℕ). starts_from exclude m i (take j (drop i text))) n
+
+-- ---- `mark_past_byte`: where the mark is not set, a line feed alone sets it
+
+pub mark_clear : (m : Bool) (b : ℕ) → m ≡ false → mark_on m b ≡ eqb b LF
+mark_clear m b e = ap (λ (x : Bool). mark_on x b) e ∙ go (eqb b LF) (eqb b CR)
+  where
+    go : (x y : Bool) → cond x true (y && false) ≡ x
+    go true y = refl
+    go false true = refl
+    go false false = refl

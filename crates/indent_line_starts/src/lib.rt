@@ -46,7 +46,7 @@ fn begins(b: u8, exclude: &[u32], i: u32, mark: bool) -> bool
 fn mark_past_byte(b: u8, exclude: &[u32], i: u32, mark: bool) -> bool
     ensures { result ≡ mark_past exclude.now mark i b }
 {
-    mark || (b == b'\n' && !is_excluded(exclude, i))
+    mark || (indent_mark::mark_on(mark, b) && !is_excluded(exclude, i))
 }
 
 // The next line start of the text from `at` on, below `end`.
