@@ -1,2 +1,3 @@
 pub mod Deque
+pub mod Numbers
 pub mod Run

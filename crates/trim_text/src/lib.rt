@@ -1,7 +1,7 @@
 // trim.rs on one text: `trim_start_pattern` and `trim_end_pattern`, as the part of the text that stays.
 #![tactic(auto)]
 
-ghost use Rattle.std.specs.Prelude.{◌≡◌, true, ◌+◌, ◌^◌, ◌≤◌, ◌<◌, length, take, drop};
+ghost use Rattle.std.specs.Prelude.{◌≡◌, true, ◌+◌, ◌^◌, ◌≤◌, ◌<◌, min, length, take, drop};
 ghost use Rattle.utf8.specs.Rfc3629.{utf8, decode_at, code_of};
 ghost use Rattle.model.specs.Trim.{matches, trim_start_pattern, trim_end_pattern};
 ghost use Rattle.trim_text.specs.Patterns.{pattern_number, PatternOf};
@@ -16,6 +16,19 @@ pub enum Pattern {
     WhiteSpace = 0,
     // A carriage return or a line feed.
     LineEnds = 1,
+}
+
+impl Pattern {
+    // What the model takes any number for: 0 is white space, every other one line ends (proofs/Numbers.antt). `try_from` refuses those above 1.
+    pub fn of(number: u32) -> Pattern
+        ensures { pattern_number result ≡ min number 1 }
+    {
+        if number == 0 {
+            Pattern::WhiteSpace
+        } else {
+            Pattern::LineEnds
+        }
+    }
 }
 
 // The number is no pattern's.
