@@ -1,3 +1,4 @@
+pub mod Numbers
 pub mod RunEnds
 pub mod Runs
 pub mod Plain

@@ -34,7 +34,7 @@ abbrev pub with_sides : Bool → Chunk → List Text → List Text → Option Te
 with_sides front c n f e k = record { goes_on = k; chunk = record { span = c.span; frozen = c.frozen; texts = sides front n f e } }
 
 -- the turn over what is left of the pieces on the near side (n), of the content s (t) and of the pieces on the far side (f)
-turn : Bool → Chunk → List Text → Text → Text → List Text → Trimmed
+pub turn : Bool → Chunk → List Text → Text → Text → List Text → Trimmed
 turn front c n s t f =
     let e : Option Text = c.texts.edited_content in
     elim (is_nil n) [
@@ -51,7 +51,7 @@ turn front c n s t f =
       ]
     ]
 
-chunk_turn : (front : Bool) (p : ℕ) (source : Text) (c : Chunk)
+pub chunk_turn : (front : Bool) (p : ℕ) (source : Text) (c : Chunk)
     → trim_chunk front p source c
     ≡ turn front c (trim_deque front p (near front c.texts)) (content source c) (trim_text front p (content source c)) (trim_deque front p (far front c.texts))
 unfolding trim_chunk_start trim_chunk_end turn

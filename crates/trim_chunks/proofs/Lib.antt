@@ -1,3 +1,4 @@
 pub mod Apart
+pub mod Numbers
 pub mod Sums
 pub mod Walk

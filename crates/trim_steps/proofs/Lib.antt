@@ -1,4 +1,5 @@
 pub mod Apart
 pub mod Both
 pub mod Model
+pub mod Numbers
 pub mod Side
