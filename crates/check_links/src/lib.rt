@@ -80,7 +80,7 @@ fn step(source: &[u8], t: &[u32], n: u32, link: Link, side: Side, marks: &mut [u
     requires source_in_bounds { (length source.now ≤ length marks.old * 64) × (length marks.old < 0x400_0000_0000_0000) }
     ensures { Stepped source.now t.now n (word_of link) (bit_at marks.old) side (bit_at marks.new) result }
 {
-    let i = check_row::linked_row(t, n, link, side.row)?;
+    let i = check_row::linked_row(t, n, link.word(), side.row)?;
     if !check_row::proper(source, t, i, side.from, side.to) {
         return None;
     }
@@ -109,7 +109,7 @@ fn ended(t: &[u32], link: Link, near: Side, far: Side, marks: &mut [u64]) -> boo
     requires from_le_to_2 { (far.from ≤ far.to) × (far.to ≤ length marks.old * 64) }
     ensures { Decides result (Ended t.now (word_of link) (bit_at marks.old) near far) }
 {
-    check_row::edge(t, link, near.row, far.row)
+    check_row::edge(t, link.word(), near.row, far.row)
         && mark_pending(near, marks)
         && mark_rest(far, near.left - near.pending(), marks)
 }
@@ -168,8 +168,8 @@ fn alone(t: &[u32], n: u32) -> bool
     ensures { Decides result (Alone t.now n) }
 {
     check_row::span_empty(t, n)
-        && check_row::edge(t, Link::Next, memory_layout::LIST_END, 1)
-        && check_row::edge(t, Link::Next, 1, memory_layout::LIST_END)
+        && check_row::edge(t, memory_layout::NEXT, memory_layout::LIST_END, 1)
+        && check_row::edge(t, memory_layout::NEXT, 1, memory_layout::LIST_END)
 }
 
 // Whether the chunks 1 to n stand in one list and cover the source. Only where a chunk was moved are marks needed.

@@ -17,8 +17,8 @@ pub enum Link {
 
 impl Link {
     // The word of a row that has it.
-    fn word(self) -> usize
-        ensures { result ≡ word_of self }
+    pub fn word(self) -> usize
+        ensures { (result ≡ word_of self) × (result ≤ 5) }
     {
         match self {
             Link::Next => memory_layout::NEXT,
@@ -37,24 +37,24 @@ impl Link {
     }
 }
 
-// Whether row a is linked to row b, and b back to a.
-pub fn edge(t: &[u32], link: Link, a: u32, b: u32) -> bool
-    requires { (a * ROW + ROW ≤ length t.now) × (b * ROW + ROW ≤ length t.now) }
-    ensures { Decides result (Joint t.now (word_of link) a b) }
+// Whether word k of row a leads to row b, and the other word of b back to a: that of word k is word 5 - k.
+pub fn edge(t: &[u32], k: usize, a: u32, b: u32) -> bool
+    requires { (a * ROW + ROW ≤ length t.now) × (b * ROW + ROW ≤ length t.now) × (k ≤ 5) }
+    ensures { Decides result (Joint t.now k a b) }
 {
-    check_spans::word(t, a, link.word()) == b && check_spans::word(t, b, link.back().word()) == a
+    check_spans::word(t, a, k) == b && check_spans::word(t, b, 5 - k) == a
 }
 
-// The row to which row a is linked, if it is one of the rows 1 to n and linked back to a.
-pub fn linked_row(t: &[u32], n: u32, link: Link, a: u32) -> Option<u32>
-    requires { (n * ROW + ROW ≤ length t.now) × (a ≤ n) }
-    ensures { LinkedRow t.now n (word_of link) a result }
+// The row to which word k of row a leads, if it is one of the rows 1 to n and its other word leads back to a.
+pub fn linked_row(t: &[u32], n: u32, k: usize, a: u32) -> Option<u32>
+    requires { (n * ROW + ROW ≤ length t.now) × (a ≤ n) × (k ≤ 5) }
+    ensures { LinkedRow t.now n k a result }
 {
-    let x = check_spans::word(t, a, link.word());
+    let x = check_spans::word(t, a, k);
     if x == memory_layout::LIST_END || x > n {
         return None;
     }
-    if check_spans::word(t, x, link.back().word()) != a {
+    if check_spans::word(t, x, 5 - k) != a {
         return None;
     }
     Some(x)
