@@ -15,16 +15,16 @@ use memory_table::Row;
 
 // Where a replacement was laid, and the byte behind it.
 #[derive(Clone, Copy)]
-struct Spot {
-    at: u32,
-    byte: usize,
+pub struct Spot {
+    pub at: u32,
+    pub byte: usize,
 }
 
 // A row laid, and the places behind its texts and its pieces.
 #[derive(Clone, Copy)]
-struct Laid {
-    row: Row,
-    behind: Places,
+pub struct Laid {
+    pub row: Row,
+    pub behind: Places,
 }
 
 // A replacement, put into the store at a byte.
