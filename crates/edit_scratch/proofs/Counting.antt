@@ -1,6 +1,6 @@
 -- The counts that `keeps` makes, and the limits.
 use mathlib.Core.Path.{◌≡◌, refl, sym, ap, ◌∙◌, subst}
-use mathlib.Core.Bool.{true, false, ◌&&◌}
+use mathlib.Core.Bool.{Bool, true, false, ◌&&◌}
 use mathlib.Core.List.{List, [], ◌∷◌, ◌++◌, map, map-append}
 use Prim.Native.Nat.{ℕ, suc, ◌+◌, ◌≤◌, ◌<◌, min}
 use native.Mathlib.Omega.{arith}
@@ -24,6 +24,7 @@ use Rattle.model.proofs.Lists.{no_tf, first_of, sum_snoc}
 use Rattle.memory_texts.proofs.Texts.{run_length}
 use Rattle.edit_rebuild.specs.Lay.{own}
 use Rattle.edit_rebuild.specs.Rebuilt.{Rebuilt, Finished}
+use Rattle.edit_scratch.specs.Written.{Written}
 
 -- ── a run ──
 -- the bytes of the first i texts of a run
@@ -143,3 +144,11 @@ finish_breaks {t' = t'} {p'} {s'} e =
       cuts = λ f. no_tf (sym f ∙ e);
       no_cuts = λ _. refl;
     }
+
+-- the same, by whether the desk was written
+module _ {t p s t₀ p₀ s₀ t' p' s' : List ℕ} {b : Bool} {r c : ℕ} (w : Written t p s t₀ p₀ s₀ t' p' s' b) where
+  pub finish_written : b ≡ true → Finished t p s t₀ p₀ s₀ t' p' s' r c r c
+  finish_written e = finish_fits (sym w.keeps ∙ e) w.lengths (w.rebuilt e)
+
+  pub finish_unwritten : b ≡ false → Finished t p s t₀ p₀ s₀ t' p' s' r c 13 0
+  finish_unwritten e = let a = w.same e in rw (a.chunks, a.pieces, a.store) (finish_breaks (sym w.keeps ∙ e))

@@ -11,6 +11,7 @@ ghost use Rattle.memory.specs.Layout.{run_of, chunk_of, magic_string_of};
 ghost use Rattle.memory.specs.WellFormed.{limits_by, RunIn, EntryIn, Readable, Sized};
 ghost use Rattle.edit_rebuild.specs.Rebuilt.{Finished};
 ghost use Rattle.edit_scratch.specs.Loaded.{Loaded};
+ghost use Rattle.edit_scratch.specs.Written.{Written};
 
 use memory::Steps;
 use memory_layout::refusal::Refusal;
@@ -111,6 +112,35 @@ pub fn keeps(
     c.pieces <= most_pieces && c.bytes <= most_bytes
 }
 
+// Whether the desk of the scratch tables keeps the limits of the lent tables. If so it is written into these; else nothing is.
+pub fn written(
+    t: &[u32],
+    p: &[u32],
+    s: &[u8],
+    chunks: &mut [u32],
+    pieces: &mut [u32],
+    store: &mut [u8],
+) -> bool
+    requires readable { Readable t.now p.now s.now }
+    requires sized { Sized chunks.old pieces.old store.old }
+    ensures { Written t.now p.now s.now chunks.old pieces.old store.old
+        chunks.new pieces.new store.new result }
+{
+    let most = (chunks.len() / memory_layout::ROW - 1) as u32;
+    if !keeps(
+        t,
+        p,
+        s,
+        most,
+        pieces.len() / memory_layout::PIECE_ROOM,
+        store.len(),
+    ) {
+        return false;
+    }
+    edit_rebuild::rebuild(t, p, s, chunks, pieces, store);
+    true
+}
+
 // The end of such a call: the desk of the scratch tables written into the lent tables, with the number and the cuts of the steps; or 13, and nothing written, so that no cut remains.
 pub fn finish(
     t: &[u32],
@@ -126,16 +156,7 @@ pub fn finish(
     ensures { Finished t.now p.now s.now chunks.old pieces.old store.old
         chunks.new pieces.new store.new (number_of steps.status) steps.cuts (number_of result.status) result.cuts }
 {
-    let most = (chunks.len() / memory_layout::ROW - 1) as u32;
-    if keeps(
-        t,
-        p,
-        s,
-        most,
-        pieces.len() / memory_layout::PIECE_ROOM,
-        store.len(),
-    ) {
-        edit_rebuild::rebuild(t, p, s, chunks, pieces, store);
+    if written(t, p, s, chunks, pieces, store) {
         return steps;
     }
     Steps {
