@@ -1,5 +1,6 @@
 -- Tables behind a call can be counted anew, and what lies below `byte` bounds the bytes of all texts.
 use mathlib.Core.Path.{◌≡◌, sym, ap, ◌∙◌, subst}
+use mathlib.Core.Bool.{Bool}
 use mathlib.Core.List.{List, [], ◌++◌}
 use Prim.Native.Nat.{ℕ, ◌*◌, ◌≤◌}
 use native.Mathlib.Omega.{arith}
@@ -14,6 +15,8 @@ use Rattle.memory_used.specs.declared.Used.{Used}
 use Rattle.memory_used.specs.Above.{Above}
 use Rattle.memory_counting.proofs.Bytes.{bytes_fit}
 use Rattle.edit_rebuild.specs.Rebuilt.{Finished}
+use Rattle.edit_scratch.specs.Written.{Written}
+use Rattle.edit_scratch.proofs.Counting.{finish_written, finish_unwritten}
 use Rattle.edit_scratch.proofs.Tables.{within_any}
 use Rattle.edit_room_above.specs.Live.{Usable}
 use Rattle.edit_room_above.proofs.Bounds.{read_below}
@@ -37,6 +40,9 @@ finished_usable {t} {p} {s} {t2} {p2} {s2} {t'} {p'} {s'} u f =
     (λ e.
     let a = (f.breaks e).1 in
     rw (a.chunks, a.pieces, a.store) u)
+
+pub written_usable : {t p s t2 p2 s2 t' p' s' : List ℕ} {b : Bool} → Usable t p s → Written t2 p2 s2 t p s t' p' s' b → Usable t' p' s'
+written_usable {b = b} u w = bool-elim b (λ e. finished_usable u (finish_written {r = 0} {c = 0} w e)) (λ e. finished_usable u (finish_unwritten {r = 0} {c = 0} w e))
 
 -- texts lie apart below the byte, so they have no more bytes than lie there
 pub bytes_below : {t p s : List ℕ} {l : Used} → Disjoint t p → Above t p s l → byte_count (magic_string_of [] t p s) ≤ l.byte
