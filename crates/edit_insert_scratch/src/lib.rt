@@ -131,7 +131,7 @@ fn insert_by(
     edit_room_above::finish(t, p, s, chunks, pieces, store, steps)
 }
 
-// The same with scratch tables of its own.
+// The same with scratch tables of its own. Where no cut comes first, a text longer than the store is refused before these are made.
 pub fn insert_scratch(
     source: &[u8],
     chunks: &mut [u32],
@@ -146,6 +146,13 @@ pub fn insert_scratch(
         chunks.new pieces.new store.new (number_of result.status) result.cuts
         × Above chunks.new pieces.new store.new result.used }
 {
+    if edit_insert_side::cut_count(spot) == 0 && text.len() > memory_layout::STORE_LEN {
+        let refused = Steps {
+            status: Err(Refusal::Limit),
+            cuts: 0,
+        };
+        return edit_room_above::counted(chunks, pieces, store, refused);
+    }
     let mut t = [0u32; memory_layout::SCRATCH_LEN];
     let mut p = [0u32; memory_layout::INSERT_PIECES_LEN];
     let mut s = [0u8; memory_layout::INSERT_STORE_LEN];

@@ -167,6 +167,14 @@ module _ {spot : Spot} {front : Bool} {text source t p s t₀ p₀ s₀ t1 p1 s1
       ran_finished w h (record { readable = g.readable; result = loaded_steps e q' ∙ g.result; cuts = omega (arith, g.cuts, loaded_count w f.scratch d) }) (may_write_0 e i)
       (subst (λ (n : ℕ). Finished t2 p2 s2 t p s t' p' s' n c r' c') z y)
 
+-- a text longer than the store, where no cut comes first
+pub whole_long : (spot : Spot) (front : Bool) (text : List ℕ) {source t p s : List ℕ} → WellFormed source t p s → length (cuts_at spot) ≡ 0 → full.most_bytes < length text
+    → InsertRan spot front text source t p s t p s 13 0
+whole_long (At q left) front text w n l e h y i = absurd (omega (arith, n))
+whole_long (Whole outro) front text {source} {t} {p} {s} w n l e h y i =
+    let m = magic_string_of source t p s in
+    ran_past_limits e source t p s w h (ap (λ (x : Result). within full x.desk) (y m) ∙ past_bytes (adding (Whole outro) front text m).desk (omega (arith, piece_big (Whole outro) front text m)))
+
 -- what the loaded rows and the lent tables give the piece
 pub loaded_small : {source t p s t₀ p₀ s₀ t1 p1 s1 : List ℕ} → WellFormed source t p s → LongScratch t₀ p₀ s₀ → Loaded t p s t₀ p₀ s₀ t1 p1 s1 → DeskSmall t1 p s
 loaded_small {source} {p = p} {s = s} {t1 = t1} w f d = desk_small source t1 p s (ap (within full) (loaded_desk w f.scratch d) ∙ desk_full w)
