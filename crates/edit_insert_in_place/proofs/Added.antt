@@ -290,14 +290,14 @@ side_few : (outro : Bool) (p s : List ℕ) (e : Entry) (n : ℕ) → length (run
 side_few true p s e n h = omega (arith, run_length p s e.outro.0 e.outro.1)
 side_few false p s e n h = omega (arith, run_length p s e.intro.0 e.intro.1)
 
-whole_ready : (outro : Bool) (t P S text : List ℕ) (l : Used) → TopReady t P S text l
+pub whole_ready : (outro : Bool) (t P S text : List ℕ) (l : Used) → TopReady t P S text l
     → TextRoom (side outro (entry_at t 0)) text P S l.row l.byte × RunIn (take (l.row * 2) P) (take l.byte S) (side outro (entry_at t 0))
 unfolding magic_string_of
 whole_ready outro t P S text l k =
     let h = side_in outro (entry_at t 0) k.readable.desk in
     (room_of t P S text l (side outro (entry_at t 0)) k h (side_few outro (take (l.row * 2) P) (take l.byte S) (entry_at t 0) l.pieces (omega (arith, k.pieces))), h)
 
-found_ready : (outro : Bool) (f : Entry → Bool) (t P S text : List ℕ) (i : ℕ) (l : Used) → First f t i → TopReady t P S text l
+pub found_ready : (outro : Bool) (f : Entry → Bool) (t P S text : List ℕ) (i : ℕ) (l : Used) → First f t i → TopReady t P S text l
     → TextRoom (side outro (entry_at t i)) text P S l.row l.byte × RunIn (take (l.row * 2) P) (take l.byte S) (side outro (entry_at t i))
 unfolding magic_string_of
 found_ready outro f t P S text i l w k =

@@ -170,7 +170,7 @@ module _ (outro front : Bool) (text p s y z t t' : List ℕ) (i : ℕ) (run : Pl
       ∙ same_around (chunks_front p s y z front_in) (lift_piece p s y z front text run outro (row_at t i) tx (first_of mid)) (chunks_front p s y z (rest_of mid)))
 
 -- ── the two ends of the search ──
-inserted_found : (left front : Bool) (q : ℕ) (text p s t t' p' s' : List ℕ) (i : ℕ) → Readable t p s → First (meets (key_of left) q) t i
+pub inserted_found : (left front : Bool) (q : ℕ) (text p s t t' p' s' : List ℕ) (i : ℕ) → Readable t p s → First (meets (key_of left) q) t i
     → PieceAdded left front text p s t t' p' s' i → length t' ≡ length t → (source : List ℕ) → Did (insert_step q text left front) source t p s t' p' s' 0 0
 inserted_found left front q text p s t t' p' s' i h w d len source =
     let l = d.longer in
@@ -190,7 +190,7 @@ inserted_found left front q text p s t t' p' s' i h w d len source =
       cuts = same_count left front text p s y z t t' i d.run w.us w.bs w.place h d.put len tx ri;
     })
 
-whole_added : (outro front : Bool) (text p s t t' p' s' : List ℕ) → Readable t p s → PieceAdded outro front text p s t t' p' s' 0 → length t' ≡ length t
+pub whole_added : (outro front : Bool) (text p s t t' p' s' : List ℕ) → Readable t p s → PieceAdded outro front text p s t t' p' s' 0 → length t' ≡ length t
     → (source : List ℕ) → Did (λ m. ok (whole_add outro front text m)) source t p s t' p' s' 0 0
 whole_added outro front text p s t t' p' s' h d len source =
     let l = d.longer in
@@ -206,7 +206,7 @@ whole_added outro front text p s t t' p' s' h d len source =
       cuts = omega (arith, k.count);
     })
 
-inserted_whole : (left front : Bool) (q : ℕ) (text p s t t' p' s' : List ℕ) → Readable t p s → Each (λ x. meets (key_of left) q (entry_at t x) ≡ false) (order t)
+pub inserted_whole : (left front : Bool) (q : ℕ) (text p s t t' p' s' : List ℕ) → Readable t p s → Each (λ x. meets (key_of left) q (entry_at t x) ≡ false) (order t)
     → PieceAdded (not left) front text p s t t' p' s' 0 → length t' ≡ length t → (source : List ℕ) → Did (insert_step q text left front) source t p s t' p' s' 0 0
 inserted_whole left front q text p s t t' p' s' h n d len source =
     let g = whole_added (not left) front text p s t t' p' s' h d len source in
@@ -224,18 +224,18 @@ side_small : (outro : Bool) {p s : List ℕ} (e : Entry) → EntrySmall p s e �
 side_small true e h = h.outro
 side_small false e h = h.intro
 
-whole_run : (outro : Bool) (t p s : List ℕ) → Readable t p s → DeskSmall t p s → RunIn p s (side outro (entry_at t 0)) × RunSmall p s (side outro (entry_at t 0))
+pub whole_run : (outro : Bool) (t p s : List ℕ) → Readable t p s → DeskSmall t p s → RunIn p s (side outro (entry_at t 0)) × RunSmall p s (side outro (entry_at t 0))
 whole_run outro t p s h k = (side_in outro (entry_at t 0) h.desk, side_small outro (entry_at t 0) k.desk)
 
 module _ (f : Entry → Bool) (t p s : List ℕ) (i : ℕ) (w : First f t i) where
-  found_run : (outro : Bool) → Readable t p s → DeskSmall t p s → RunIn p s (side outro (entry_at t i)) × RunSmall p s (side outro (entry_at t i))
+  pub found_run : (outro : Bool) → Readable t p s → DeskSmall t p s → RunIn p s (side outro (entry_at t i)) × RunSmall p s (side outro (entry_at t i))
   found_run outro h k =
       let e = entries_at t w.us i w.bs w.place in (
         side_in outro (entry_at t i) (first_of (all_back (EntryIn p s) (map (entry_at t) w.us) (entry_at t i ∷ map (entry_at t) w.bs) (subst (All (EntryIn p s)) e h.chunks))).runs,
         side_small outro (entry_at t i) (first_of (all_back (EntrySmall p s) (map (entry_at t) w.us) (entry_at t i ∷ map (entry_at t) w.bs) (subst (All (EntrySmall p s)) e k.chunks))),
       )
 
-  found_row : Linked t → i * ROW + ROW ≤ length t
+  pub found_row : Linked t → i * ROW + ROW ≤ length t
   found_row l = omega (arith, l.room, (inside_at t w.us i w.bs l w.place).1)
 
 -- ── the row that the piece goes to ──

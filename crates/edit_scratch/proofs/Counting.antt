@@ -105,7 +105,7 @@ module _ {t p s : List ℕ} {pieces bytes : ℕ} (c : CountOf t p s pieces bytes
   unfolding magic_string_of
   pieces_all = c.pieces_are
 
-  bytes_all : bytes ≡ min (byte_count (magic_string_of [] t p s)) BYTES_PAST
+  pub bytes_all : bytes ≡ min (byte_count (magic_string_of [] t p s)) BYTES_PAST
   unfolding magic_string_of replacement_of
   bytes_all = c.bytes_are ∙ ap (λ (x : ℕ). min x BYTES_PAST) (omega arith)
 
