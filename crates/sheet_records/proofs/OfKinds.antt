@@ -1,10 +1,12 @@
--- What the number of a kind has.
-use Prim.Native.Nat.{◌<◌}
-use mathlib.Core.Path.{◌≡◌, refl}
+-- What the number of a kind has, and a number that is no kind's.
+use Prim.Native.Nat.{ℕ, ◌<◌}
+use mathlib.Core.Path.{◌≡◌, refl, ap}
 use mathlib.Core.Bool.{true, false}
 use mathlib.Core.Logic.{◌⊎◌, inl, inr}
 use native.Mathlib.Omega.{arith}
+use borrow.Author.Tests.{ne_eqb}
 use Rattle.model_sheet.specs.Record.{positions, carries}
+use Rattle.model_sheet.specs.Sheet.{inserts_left}
 use Rattle.sheet_records.specs.declared.kinds.Kind.{Kind}
 use Rattle.sheet_records.specs.declared.kinds.Kind.TheVariants.{Remove, Update, Reset, AppendLeft, AppendRight, PrependLeft, PrependRight, Relocate}
 use Rattle.sheet_records.specs.Kinds.{code}
@@ -95,3 +97,10 @@ not_relocate AppendRight h e = absurd (omega arith)
 not_relocate PrependLeft h e = absurd (omega arith)
 not_relocate PrependRight h e = absurd (omega arith)
 not_relocate Relocate h e = h refl
+
+-- a number without positions is no kind's
+pub none_is : (q : Kind) (k : ℕ) → positions k ≡ 0 → k ≡ code q → ⊥
+none_is q k h e = omega (arith, h, some_positions q, ap positions e)
+
+pub none_left : (k : ℕ) → positions k ≡ 0 → false ≡ inserts_left k
+none_left k h = rw (ne_eqb k 4 (none_is AppendLeft k h), ne_eqb k 6 (none_is PrependLeft k h))

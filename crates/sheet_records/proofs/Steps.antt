@@ -26,7 +26,7 @@ module _ (x y : Records) {s : List ℕ} (here : walk_bytes x ≡ s) where
   pub step_bad : {o : Result Record BadRecord} {b : BadRecord} → Gives x (Some o) y → o ≡ Err b → (walk_at x < length s) × (next_record (drop (walk_at x) s) ≡ none)
   step_bad {o} {b} g e =
       let h : Gives x (Some (Err b)) y = subst (λ z. Gives x (Some z) y) e g in
-      subst (λ l. (walk_at x < length l) × (next_record (drop (walk_at x) l) ≡ none)) here h
+      subst (λ l. (walk_at x < length l) × (next_record (drop (walk_at x) l) ≡ none)) here (h.0, h.1)
 
   -- the end
   pub step_end : Gives x None y → length s ≤ walk_at x

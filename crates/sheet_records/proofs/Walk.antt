@@ -50,12 +50,15 @@ records_taken {s} {at} {r} {next} g =
     records_some (drop at s) r h.0 ∙ ap (λ x. map (λ l. r ∷ l) (records x)) h.1
 
 -- ── where a record stands, the reader finds one ──
+pub not_bad : {X : Type 0} (r : List ℕ) (at : ℕ) → Next r at → at < length r → next_record (drop at r) ≡ none → X
+not_bad r at x h e = let here = x.are in let nothing = records_bad r at h e in let z : ◌≡◌ {A = ℕ} 0 1 = cc in absurd (omega arith)
+
+pub not_end : {X : Type 0} (r : List ℕ) (at : ℕ) → Next r at → length r ≤ at → X
+not_end r at x h = let here = x.are in let nothing = records_past r at h in let z : ◌≡◌ {A = ℕ} 0 1 = cc in absurd (omega arith)
+
+-- neither, whichever it is that gives none
 pub not_none : {X : Type 0} (r : List ℕ) (at : ℕ) → Next r at → next_record (drop at r) ≡ none → X
-not_none r at x e = go (dec_lt at (length r))
-  where
-    go : {X : Type 0} → Dec (at < length r) → X
-    go (yes h) = let here = x.are in let nothing = records_bad r at h e in let z : ◌≡◌ {A = ℕ} 0 1 = cc in absurd (omega arith)
-    go (no h) = let here = x.are in let past = records_past r at (omega arith) in let z : ◌≡◌ {A = ℕ} 0 1 = cc in absurd (omega arith)
+not_none r at x e = elim (dec_lt at (length r)) [ yes h ↦ not_bad r at x h e | no h ↦ not_end r at x (omega arith) ]
 
 -- its own bytes, and the place behind them
 pub taken_one : {s : List ℕ} {at : ℕ} {r : Recorded} {next : ℕ} → Taken s at r next

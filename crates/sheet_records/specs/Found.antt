@@ -41,7 +41,8 @@ walk_at x = x.at
 abbrev pub Gives : Records → Option (Result Record BadRecord) → Records → Type 0
 Gives x None y = length (walk_bytes x) ≤ walk_at x
 Gives x (Some (Ok e)) y = Taken (walk_bytes x) (walk_at x) (recorded e) (walk_at y) × (walk_bytes y ≡ walk_bytes x)
-Gives x (Some (Err b)) y = (walk_at x < length (walk_bytes x)) × (next_record (drop (walk_at x) (walk_bytes x)) ≡ none)
+Gives x (Some (Err b)) y =
+    (walk_at x < length (walk_bytes x)) × (next_record (drop (walk_at x) (walk_bytes x)) ≡ none) × (length (walk_bytes y) ≤ walk_at y)
 
 -- records stand from a place on, at least one
 pub record Next (r : List ℕ) (at : ℕ) : Type 0 where

@@ -5,6 +5,7 @@ ghost use Rattle.std.specs.Prelude.{◌≡◌, ◌+◌, ◌-◌, ◌*◌, ◌≤
 ghost use Rattle.std.specs.Iterator.{at_most};
 ghost use Rattle.model_sheet.specs.BigEndian.{number};
 ghost use Rattle.model_sheet.specs.Record.{numbers};
+ghost use Rattle.model_sheet.specs.Sheet.{inserts_left};
 ghost use Rattle.sheet_records.specs.Kinds.{code};
 ghost use Rattle.sheet_records.specs.Found.{Stands, Found, Taken, recorded, walk_bytes, walk_at, Gives, Counts};
 
@@ -23,6 +24,16 @@ pub struct Record<'a> {
     pub c: u32,
     pub text: &'a [u8],
     pub next: usize,
+}
+
+// Of an insertion whose kind has this byte: left of its position, or right of it. A byte that is no kind's inserts right.
+pub fn inserts_left(kind: u8) -> bool
+    ensures { result ≡ inserts_left kind }
+{
+    match Kind::try_from(kind) {
+        Ok(known) => known.inserts_left(),
+        Err(_) => false,
+    }
 }
 
 // The number of 16 bits at a place.
