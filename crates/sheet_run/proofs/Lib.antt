@@ -2,4 +2,3 @@ mod CallOf
 pub mod Running
 mod Ran
 pub mod Codes
-pub mod NoKind

@@ -4,10 +4,11 @@ ghost use Rattle.memory_used.specs.Above.{Desk, Leaves};
 ghost use Rattle.sheet_records.specs.Found.{recorded};
 
 use memory_used::{Outcome, Used};
-use sheet_records::Record;
 use sheet_records::kinds::Kind;
+use sheet_records::{Record, inserts_left};
 
-// Makes the call of a record with these fields on a desk. A byte that is no kind's inserts, as `call_of` has it.
+// Makes the call of a record with these fields on a desk. Four kinds are one insertion: left of its position or right, and at the front of the piece list or the back. A byte
+// that is no kind's inserts too, as `call_of` has it.
 pub fn core_call(
     source: &[u8],
     chunks: &mut [u32],
@@ -32,23 +33,33 @@ pub fn core_call(
             store,
             a,
             text,
-            false,
+            inserts_left(kind),
             kind >= 6,
             used,
         );
     };
-    let r = Record {
-        kind: known,
-        a,
-        b,
-        c,
-        text,
-        next: 0,
-    };
-    record_call(source, chunks, pieces, store, r, used)
+    match known {
+        Kind::Remove => edit_remove::remove(source, chunks, pieces, store, a, b, used),
+        Kind::Update => edit_update::update_with(
+            source, chunks, pieces, store, a, b, text, true, used,
+        ),
+        Kind::Reset => edit_reset::reset(source, chunks, pieces, store, a, b, used),
+        Kind::Relocate => edit_relocate::relocate(source, chunks, pieces, store, a, b, c, used),
+        _ => edit_insert::insert(
+            source,
+            chunks,
+            pieces,
+            store,
+            a,
+            text,
+            known.inserts_left(),
+            known.inserts_front(),
+            used,
+        ),
+    }
 }
 
-// Makes the call of a record on a desk. Four kinds are one insertion: left of its position or right, and at the front of the piece list or the back.
+// Makes the call of a record on a desk.
 pub fn record_call(
     source: &[u8],
     chunks: &mut [u32],
@@ -61,25 +72,16 @@ pub fn record_call(
     ensures { Leaves (call_of (recorded r.entry))
         source.now chunks.old pieces.old store.old chunks.new pieces.new store.new result }
 {
-    match r.kind {
-        Kind::Remove => edit_remove::remove(source, chunks, pieces, store, r.a, r.b, used),
-        Kind::Update => edit_update::update_with(
-            source, chunks, pieces, store, r.a, r.b, r.text, true, used,
-        ),
-        Kind::Reset => edit_reset::reset(source, chunks, pieces, store, r.a, r.b, used),
-        Kind::Relocate => edit_relocate::relocate(
-            source, chunks, pieces, store, r.a, r.b, r.c, used,
-        ),
-        _ => edit_insert::insert(
-            source,
-            chunks,
-            pieces,
-            store,
-            r.a,
-            r.text,
-            r.kind.inserts_left(),
-            r.kind.inserts_front(),
-            used,
-        ),
-    }
+    core_call(
+        source,
+        chunks,
+        pieces,
+        store,
+        r.kind.code(),
+        r.a,
+        r.b,
+        r.c,
+        r.text,
+        used,
+    )
 }
