@@ -6,7 +6,7 @@ use mathlib.Core.Option.{Option, none, some}
 use Prim.Native.Nat.{ℕ, zero, suc, ◌+◌, ◌*◌, ◌-◌, ◌≤◌}
 use native.Mathlib.Omega.{arith}
 use native.Mathlib.Nat.{mul-le-mul}
-use lib.ListN.{length, take, drop, length-take, length-drop}
+use lib.ListN.{length, take, drop, length-take, length-drop, take-append-drop}
 use Rattle.utf8.specs.Chars.{All, nil, cons, concat}
 use Rattle.utf8.proofs.CharLaws.{concat_append}
 use Rattle.memory_table.specs.Order.{Entry, entry_at, entries, Linked}
@@ -22,7 +22,7 @@ use Rattle.memory.specs.WellFormed.{RunIn, ReplacementIn, WellFormed}
 use Rattle.memory.proofs.Desks.{no_run, desk_full, within_keeps}
 use Rattle.memory_texts.specs.Texts.{SpanIn}
 use Rattle.memory_texts.proofs.Texts.{concat_cons, concat_nil, run_piece}
-use Rattle.memory_fragments.specs.Sections.{head_of, tail_part_of, section, sections, fragments_of, fragments_all, Shown, Ready}
+use Rattle.memory_fragments.specs.Sections.{head_of, tail_part_of, section, sections, fragments_of, fragments_all, Shown, Ready, rest}
 use Rattle.memory_fragments.proofs.Sections.{sections_are, each_section}
 use Rattle.memory_fragments.specs.Output.{most_output}
 
@@ -172,3 +172,19 @@ chunks_bound source t p s w =
     ∙ sum_append length h (F (entries t ++ z))
     ∙ ap (λ (k : ℕ). sum length h + k) (ap (sum length) (all_append source p s (entries t) z) ∙ sum_append length (F (entries t)) (F z)) in
     omega (arith, output_bound source t p s w)
+
+-- from any place on
+sum_drop : (f : Text → ℕ) (i : ℕ) (ts : List Text) → sum f (drop i ts) ≤ sum f ts
+sum_drop f zero ts = omega arith
+sum_drop f (suc i) [] = omega arith
+sum_drop f (suc i) (t ∷ ts) = omega (arith, sum_drop f i ts)
+
+pub rest_short : (source t p s : List ℕ) → WellFormed source t p s → (g item : ℕ) → sum length (rest source t p s g item) ≤ most_output
+unfolding rest
+rest_short source t p s w g item =
+    let all = fragments_all source p s (sections t) in
+    let front = fragments_all source p s (take g (sections t)) in
+    let back = fragments_all source p s (drop g (sections t)) in
+    let e : all ≡ front ++ back = ap (fragments_all source p s) (sym (take-append-drop g (sections t))) ∙ all_append source p s (take g (sections t)) (drop g (sections t)) in
+    let q : sum length all ≡ sum length front + sum length back = ap (sum length) e ∙ sum_append length front back in
+    omega (arith, sum_drop length item back, output_bound source t p s w)

@@ -256,3 +256,8 @@ on_chunks t row l e = record {
   inside = omega arith;
   item_in = omega arith;
 }
+
+pub on_tail : (t : List ℕ) (g : ℕ) → g ≡ count_of t + 1 → On t g 0 0
+on_tail t g e =
+    let q : g ≡ suc (count_of t) = omega (arith, e) in
+    record { row_is = λ h. sym (row_last t) ∙ ap (row_no t) (sym q); inside = omega (arith, e); item_in = omega arith }

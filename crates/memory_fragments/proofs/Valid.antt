@@ -19,7 +19,7 @@ use Rattle.memory.specs.Layout.{tabulate, run_of, chunk_of, magic_string_of, rep
 use Rattle.memory.specs.WellFormed.{WellFormed}
 use Rattle.memory.proofs.Desks.{all_tabulate}
 use Rattle.memory_texts.proofs.Texts.{run_tabulate}
-use Rattle.memory_fragments.specs.Sections.{section, sections, fragments_of, fragments_all, size, up_to}
+use Rattle.memory_fragments.specs.Sections.{section, sections, fragments_of, fragments_all, size, up_to, rest}
 use Rattle.memory_fragments.proofs.Sections.{size_is, each_section}
 use Rattle.memory_fragments.specs.Output.{most_output}
 use Rattle.memory_fragments.proofs.Output.{all_both}
@@ -78,6 +78,10 @@ unfolding up_to
 up_to_valid source t p s w stop g item =
     let P : Entry → Type 0 = λ (e : Entry). All Valid (fragments_of source p s e) in
     all_drop item (all_fragments source p s (drop g (tabulate (section t) stop)) (all_drop g (all_tabulate {P = P} (section t) stop (λ k _. section_valid source t p s w k))))
+
+pub rest_valid : (source t p s : List ℕ) → WellFormed source t p s → (g item : ℕ) → All Valid (rest source t p s g item)
+unfolding rest up_to
+rest_valid source t p s w g item = up_to_valid source t p s w (suc (suc (count_of t))) g item
 
 all_get_d : {A : Type 0} {P : A → Type 0} (xs : List A) (k : ℕ) (d : A) → All P xs → k < length xs → P (get_or xs k d)
 all_get_d [] k d nil h = absurd (omega arith)

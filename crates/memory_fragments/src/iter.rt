@@ -74,6 +74,7 @@ impl<'a> Fragments<'a> {
         requires ends { first.section ≡ count_of desk.chunks.now + 2 → first.item ≡ 0 }
         ensures texts { result ≡ texts_from desk.entry first }
         ensures valid { All Valid result }
+        ensures short { sum length result ≤ most_output }
     {
         let z = memory_table::get_row(desk.chunks, 0);
         Fragments {
@@ -95,7 +96,8 @@ impl<'a> Iterator for Fragments<'a> {
         if self.at.section == self.stop {
             return None;
         }
-        let text = fragment(self.desk, self.at);
+        let desk = self.desk;
+        let text = fragment(desk.source, desk.chunks, desk.pieces, desk.store, self.at);
         self.at = next(self.desk.chunks, self.at);
         Some(text)
     }

@@ -12,7 +12,6 @@ mod iter;
 
 pub use iter::Fragments;
 use memory_table::Row;
-use memory_view::DeskView;
 
 // A place among the fragments: the section's number (0 for the head), its row (0 for head and tail), and the fragment's number in it.
 #[derive(Clone, Copy)]
@@ -79,18 +78,24 @@ pub fn fragment_of<'a>(
 }
 
 // The fragment at a place.
-fn fragment<'a>(desk: DeskView<'a>, c: Cursor) -> &'a [u8]
-    requires ready { Ready desk.source.now desk.chunks.now desk.pieces.now desk.store.now }
-    requires on { On desk.chunks.now c.section c.row c.item }
-    requires section_bound { c.section < count_of desk.chunks.now + 2 }
-    ensures { result.now ≡ get_or (fragments_of desk.entry.source.now desk.entry.pieces.now desk.entry.store.now (section desk.entry.chunks.now c.section)) c.item [] }
+pub fn fragment<'a>(
+    source: &'a [u8],
+    chunks: &[u32],
+    pieces: &[u32],
+    store: &'a [u8],
+    c: Cursor,
+) -> &'a [u8]
+    requires ready { Ready source.now chunks.now pieces.now store.now }
+    requires on { On chunks.now c.section c.row c.item }
+    requires section_bound { c.section < count_of chunks.now + 2 }
+    ensures { result.now ≡ get_or (fragments_of source.now pieces.now store.now (section chunks.now c.section)) c.item [] }
 {
-    let r = section_row(desk.chunks, c.section, c.row);
-    fragment_of(desk.source, desk.pieces, desk.store, r, c.item)
+    let r = section_row(chunks, c.section, c.row);
+    fragment_of(source, pieces, store, r, c.item)
 }
 
 // The place behind it.
-fn next(chunks: &[u32], c: Cursor) -> Cursor
+pub fn next(chunks: &[u32], c: Cursor) -> Cursor
     requires linked { Linked chunks.now }
     requires narrow { Narrow chunks.now }
     requires on { On chunks.now c.section c.row c.item }

@@ -1,7 +1,7 @@
 -- Laws of what `Frozen` in specs/ defines: what a search along the list tells, and the same of the desk.
 use mathlib.Core.Path.{◌≡◌, refl, sym, ap, ◌∙◌}
 use mathlib.Core.Bool.{Bool, true, false, ◌&&◌, ◌||◌, and-false}
-use mathlib.Core.List.{List, [], ◌∷◌, map}
+use mathlib.Core.List.{List, [], ◌∷◌, ◌++◌, map}
 use Prim.Native.Nat.{ℕ, ◌≤◌, ◌<◌}
 use Rattle.std.specs.List.{list_any}
 use Rattle.memory_table.specs.Ring.{Each}
@@ -9,9 +9,11 @@ use Rattle.memory_table.specs.Order.{Entry, count_of, entry_at, entries, order, 
 use Rattle.model.specs.Text.{any}
 use Rattle.model.specs.Chunk.{Chunk}
 use Rattle.model.specs.Frozen.{starts_within, has_frozen, any_frozen}
+use Rattle.model.proofs.Lists.{or_right}
 use Rattle.memory.specs.Layout.{chunk_of, magic_string_of}
 use Rattle.memory.proofs.Desks.{chunks_of}
 use Rattle.memory_list.specs.Changes.{entry_starts_in}
+use Rattle.memory_list.specs.Find.{First}
 use Rattle.memory_frozen.specs.Frozen.{refuses, frozen_in_rows, Unmarked}
 
 -- ── a search along the list ──
@@ -20,11 +22,18 @@ any_list f [] = refl
 any_list f (x ∷ xs) = ap (λ (b : Bool). f x || b) (any_list f xs)
 
 module _ (f : Entry → Bool) (g : ℕ → Entry) where
+  any_at : (us : List ℕ) (i : ℕ) (bs : List ℕ) → f (g i) ≡ true → any f (map g (us ++ i ∷ bs)) ≡ true
+  any_at [] i bs h = rw h
+  any_at (u ∷ us) i bs h = or_right (f (g u)) _ (any_at us i bs h)
+
   any_none : (us : List ℕ) → Each (λ x. f (g x) ≡ false) us → any f (map g us) ≡ false
   any_none [] h = refl
   any_none (u ∷ us) h = rw h.0 (any_none us h.1)
 
 module _ (f : Entry → Bool) (t : List ℕ) where
+  pub any_found : (i : ℕ) → First f t i → any f (entries t) ≡ true
+  any_found i h = rw h.place (any_at f (entry_at t) h.us i h.bs h.here)
+
   pub any_passed : Each (λ x. f (entry_at t x) ≡ false) (order t) → any f (entries t) ≡ false
   any_passed h = any_none f (entry_at t) (order t) h
 

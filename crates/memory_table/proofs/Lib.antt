@@ -1,4 +1,5 @@
 pub mod Order
+pub mod Pieces
 pub mod Ring
 pub mod Table
 pub mod Words

@@ -131,3 +131,8 @@ module _ (d : List ℕ) (a : ℕ) (xs : List ℕ) (h : a ≤ length d) where
   pub drop_at_over : drop a (over d a xs) ≡ xs ++ drop (a + length xs) d
   unfolding over
   drop_at_over = drop_at (take a d) (xs ++ drop (a + length xs) d) a (simp length-take (omega arith))
+
+-- one element
+pub set_over : (d : List ℕ) (i x : ℕ) → i < length d → set d i x ≡ over d i (x ∷ [])
+unfolding over
+set_over d i x h = rw (← append_assoc) (sets-eq (x ∷ []) d i (omega arith))
