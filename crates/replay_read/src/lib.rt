@@ -3,7 +3,8 @@
 
 pub mod names;
 
-ghost use Rattle.std.specs.Prelude.{◌≤◌, length, IfSome};
+ghost use Rattle.std.specs.Prelude.{◌≡◌, ◌<◌, ◌≤◌, length, IfSome};
+ghost use Rattle.std.specs.Char.{digit_value};
 
 // The first place of the byte b in s from `from` on, or s's length.
 pub fn find(s: &[u8], from: usize, b: u8) -> usize
@@ -22,7 +23,9 @@ pub fn column(line: &[u8], k: usize) -> &[u8] {
 }
 
 // The value of a hexadecimal digit.
-fn digit(b: u8) -> Option<u8> {
+fn digit(b: u8) -> Option<u8>
+    ensures { IfSome result (λ d. (d < 16) × (d ≡ digit_value b)) }
+{
     match b {
         b'0'..=b'9' => Some(b - b'0'),
         b'a'..=b'f' => Some(b - b'a' + 10),

@@ -5,7 +5,8 @@
 // character begins. At the end it writes every code that is white space.
 #![tactic(auto)]
 
-ghost use Rattle.std.specs.Prelude.{◌≡◌, true, ◌≤◌, length};
+ghost use Rattle.std.specs.Prelude.{◌≡◌, true, ◌<◌, ◌≤◌, length, IfSome};
+ghost use Rattle.std.specs.Char.{digit_value};
 ghost use Rattle.utf8.specs.Rfc3629.{utf8};
 
 use std::io;
@@ -25,7 +26,9 @@ fn print_place<W: Write>(out: &mut W, p: usize) -> io::Result<()> {
 }
 
 // The value of a hexadecimal digit.
-fn digit(b: u8) -> Option<u8> {
+fn digit(b: u8) -> Option<u8>
+    ensures { IfSome result (λ d. (d < 16) × (d ≡ digit_value b)) }
+{
     match b {
         b'0'..=b'9' => Some(b - b'0'),
         b'A'..=b'F' => Some(b - b'A' + 10),
