@@ -3,7 +3,7 @@
 
 pub mod names;
 
-ghost use Rattle.std.specs.Prelude.{◌≡◌, ◌<◌, ◌≤◌, length, IfSome};
+ghost use Rattle.std.specs.Prelude.{◌≡◌, ◌<◌, ◌≤◌, length, get_or, IfSome};
 ghost use Rattle.std.specs.Char.{digit_value};
 
 // The first place of the byte b in s from `from` on, or s's length.
@@ -140,6 +140,8 @@ pub fn text(s: &[u8], out: &mut [u8]) -> Option<usize>
 }
 
 // Word i, or 0 where there is none.
-pub fn word(words: &[u32], i: usize) -> u32 {
+pub fn word(words: &[u32], i: usize) -> u32
+    ensures { result ≡ get_or words.now i 0 }
+{
     words.get(i).copied().unwrap_or(0)
 }

@@ -1,5 +1,7 @@
 // The kinds of record: the exported calls, and one that damages a table.
 // Their names, and how many numbers each has.
+ghost use Rattle.std.specs.Prelude.{◌≡◌, IfSome};
+ghost use Rattle.replay_read.specs.Names.{name_of};
 
 #[derive(Clone, Copy, PartialEq, Eq)]
 pub enum Kind {
@@ -68,7 +70,9 @@ pub const KINDS: [Kind; 29] = [
 ];
 
 impl Kind {
-    pub fn name(self) -> &'static str {
+    pub fn name(self) -> &'static str
+        ensures { result.now ≡ name_of self }
+    {
         match self {
             Kind::Open => "open",
             Kind::Remove => "remove",
@@ -103,7 +107,9 @@ impl Kind {
     }
 
     // The kind with this name.
-    pub fn named(name: &[u8]) -> Option<Kind> {
+    pub fn named(name: &[u8]) -> Option<Kind>
+        ensures { IfSome result (λ kind. name_of kind ≡ name.now) }
+    {
         KINDS
             .iter()
             .copied()

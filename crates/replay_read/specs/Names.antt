@@ -1,0 +1,35 @@
+-- The names of the kinds.
+use Rattle.std.specs.Prelude.{ℕ, List, codes}
+use Rattle.replay_read.specs.declared.names.Kind.{Kind}
+use Rattle.replay_read.specs.declared.names.Kind.TheVariants.{Open, Remove, Reset, Relocate, AppendLeft, AppendRight, PrependLeft, PrependRight, Append, Prepend, UpdateWith, Trim, TrimStart, TrimEnd, TrimLines, IndentWith, Slice, ToString, LastLine, GetIndentString, Len, LenUtf16, LineCount, IsEmpty, HasChanged, IsRangeWithinEditedChunk, LastChar, WellFormed, SetWord}
+
+abbrev pub name_of : Kind → List ℕ
+name_of Open = codes "open"
+name_of Remove = codes "remove"
+name_of Reset = codes "reset"
+name_of Relocate = codes "relocate"
+name_of AppendLeft = codes "append_left"
+name_of AppendRight = codes "append_right"
+name_of PrependLeft = codes "prepend_left"
+name_of PrependRight = codes "prepend_right"
+name_of Append = codes "append"
+name_of Prepend = codes "prepend"
+name_of UpdateWith = codes "update_with"
+name_of Trim = codes "trim"
+name_of TrimStart = codes "trim_start"
+name_of TrimEnd = codes "trim_end"
+name_of TrimLines = codes "trim_lines"
+name_of IndentWith = codes "indent_with"
+name_of Slice = codes "slice"
+name_of ToString = codes "to_string"
+name_of LastLine = codes "last_line"
+name_of GetIndentString = codes "get_indent_string"
+name_of Len = codes "len"
+name_of LenUtf16 = codes "len_utf16"
+name_of LineCount = codes "line_count"
+name_of IsEmpty = codes "is_empty"
+name_of HasChanged = codes "has_changed"
+name_of IsRangeWithinEditedChunk = codes "is_range_within_edited_chunk"
+name_of LastChar = codes "last_char"
+name_of WellFormed = codes "well_formed"
+name_of SetWord = codes "set_word"
