@@ -2,9 +2,10 @@
 use mathlib.Core.Path.{◌≡◌, refl, ap, ap₂, sym, ◌∙◌}
 use mathlib.Core.Bool.{Bool}
 use mathlib.Core.List.{List, [], ◌∷◌, ◌++◌}
-use Prim.Native.Nat.{ℕ, zero, suc, ◌-◌}
+use Prim.Native.Nat.{ℕ, zero, suc, ◌-◌, ◌<◌}
 use native.Mathlib.Omega.{arith}
 use native.Mathlib.Decide.{ℕ_discrete}
+use native.Mathlib.Nat.{le_of_suc-le-suc}
 use borrow.Author.Tests.{eq-eqb, ne_eqb}
 use lib.Dec.{eqb}
 use lib.ListN.{length, get_or, drop, replicate, length-append}
@@ -19,6 +20,11 @@ use Rattle.replay_compare.specs.Compare.{filled, Written}
 pub filled_is : (n : ℕ) → replicate n 0xA5 ≡ filled n
 filled_is zero = refl
 filled_is (suc n) = ap (λ (l : List ℕ). 0xA5 ∷ l) (filled_is n)
+
+pub filled_at : (n i : ℕ) → i < n → get_or (filled n) i 0 ≡ 0xA5
+filled_at zero i h = absurd (omega arith)
+filled_at (suc n) zero h = refl
+filled_at (suc n) (suc i) h = filled_at n i (le_of_suc-le-suc h)
 
 pub filled_test : (s : List ℕ) → Decides (list_all (λ x. eqb x 0xA5) s) (s ≡ filled (length s))
 filled_test [] = is_yes refl
