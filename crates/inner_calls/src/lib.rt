@@ -239,7 +239,7 @@ pub fn inner_open(source: &[u8], chunks: &mut [u32], pieces: &mut [u32], store: 
     Answer::from(open::open_with(source, chunks, pieces, store))
 }
 
-// Makes the calls of a list on a desk in tables of any size: 2 where there is none. A call is six words: its kind (1 to 15, as in crates/replay_read/src/names.rt),
+// Makes the calls of a list on a desk in tables of any size: 2 where there is none. A call is six words: its kind (1 to 15, remove to indent_with: its place in `KINDS` of crates/replay_read/src/names.rt),
 // its numbers, and where its text lies among the texts. The value is how many calls were made; `numbers` has their numbers,
 // and from bit 8 on their cuts.
 pub fn inner_paper(

@@ -20,7 +20,7 @@ pub extern "C" fn inner_open(
     inner_calls::inner_open(source, chunks, pieces, store)
 }
 
-// Makes the calls of a list on a desk in tables of any size: 2 where there is none. A call is six words: its kind (1 to 15, as in crates/replay_read/src/names.rt),
+// Makes the calls of a list on a desk in tables of any size: 2 where there is none. A call is six words: its kind (1 to 15, remove to indent_with: its place in `KINDS` of crates/replay_read/src/names.rt),
 // its numbers, and where its text lies among the texts. The value is how many calls were made; `numbers` has their numbers,
 // and from bit 8 on their cuts.
 #[unsafe(no_mangle)]
