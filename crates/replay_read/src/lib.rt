@@ -98,15 +98,23 @@ fn repeat(out: &mut [u8], at: usize, end: usize, count: u32) -> Option<usize>
     requires end_in_bounds { end ≤ length out.old }
     ensures { IfSome result (λ to. to ≤ length out.new) }
 {
-    let mut to = end;
-    for _ in 1..count {
-        if out.len() - to < end - at {
-            return None;
-        }
-        out.copy_within(at..end, to);
-        to += end - at;
+    if at == end {
+        return Some(end);
     }
-    Some(to)
+    let size = (end - at).checked_mul(count.max(1) as usize)?;
+    if out.len() - at < size {
+        return None;
+    }
+    let stop = at + size;
+    let mut to = end;
+    // Each turn copies all that stands there, so that few turns are made.
+    while to < stop {
+        let n = (to - at).min(stop - to);
+        let (front, back) = out.split_at_mut(to);
+        back[..n].copy_from_slice(&front[at..at + n]);
+        to += n;
+    }
+    Some(stop)
 }
 
 // A part of a text: hexadecimal, and behind "*" how many times it stands there.

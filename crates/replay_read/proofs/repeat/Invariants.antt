@@ -1,5 +1,8 @@
-use Rattle.std.proofs.Common.{◌≤◌, length}
+use Rattle.std.proofs.Common.{◌-◌, ◌<◌, ◌≤◌, length}
 use Rattle.replay_read.proofs.repeat.Given as goal
 
-abbrev pub invariant-loop : goal.invariant-loop
-invariant-loop l = (l.end ≤ l.to) × (l.to ≤ length l.out)
+abbrev pub invariant-loop-to : goal.invariant-loop-to
+invariant-loop-to l = (l.at < l.to) × (l.stop ≤ length l.out)
+
+abbrev pub decreases-loop-to : goal.decreases-loop-to
+decreases-loop-to l = l.stop - l.to
