@@ -73,5 +73,6 @@ pub fn copy_rows(p: &mut [u32], at: u32, n: u32, to: usize)
     }
     let from = at as usize * memory_layout::PIECE;
     let count = n as usize * memory_layout::PIECE;
-    p.copy_within(from..from + count, to * memory_layout::PIECE);
+    let (rows, above) = p.split_at_mut(to * memory_layout::PIECE);
+    memory_texts::put(above, &rows[from..from + count]);
 }

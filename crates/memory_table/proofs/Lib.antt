@@ -1,3 +1,4 @@
+pub mod Copying
 pub mod Order
 pub mod Pieces
 pub mod Ring

@@ -1,12 +1,22 @@
 // Tables in lent words: rows of a chunk table and of a piece table, read and written by value.
 #![tactic(auto)]
 
-ghost use Rattle.std.specs.Prelude.{◌≡◌, ◌+◌, ◌*◌, ◌≤◌, length};
+ghost use Rattle.std.specs.Prelude.{◌≡◌, ◌++◌, ◌+◌, ◌*◌, ◌≤◌, length, drop};
 ghost use Rattle.memory_layout.specs.Layout.{ROW, PIECE};
 ghost use Rattle.memory_table.specs.Table.{row_at, Put};
 ghost use Rattle.memory_table.specs.Pieces.{piece_at, with_piece};
 ghost use Rattle.memory_table.specs.Order.{entry_of};
 ghost use Rattle.memory_table.specs.Sides.{side as side_of, with_side};
+
+// Copies `items` to the front of `out`, one by one: `copy_from_slice` would have the archives need memmove, and a row that is written so is slow to read back.
+pub fn put<T: Copy>(out: &mut [T], items: &[T])
+    requires { length items.now ≤ length out.old }
+    ensures { out.new ≡ items.now ++ drop (length items.now) out.old }
+{
+    for i in 0..items.len() {
+        out[i] = items[i];
+    }
+}
 
 #[derive(Clone, Copy)]
 pub struct Row {
@@ -50,10 +60,11 @@ pub fn put_row(t: &mut [u32], i: u32, r: Row)
     ensures { Put t.old t.new i r }
 {
     let b = i as usize * memory_layout::ROW;
-    t[b..b + memory_layout::ROW].copy_from_slice(&[
+    let words = [
         r.start, r.end, r.next, r.prev, r.intro_at, r.intro_n, r.outro_at, r.outro_n, r.text_at,
         r.text_n, r.frozen, r.spare,
-    ]);
+    ];
+    put(&mut t[b..b + memory_layout::ROW], &words);
 }
 
 // A piece's place and length in the store.

@@ -15,7 +15,7 @@ pub fn put<T: Copy>(out: &mut [T], items: &[T])
     requires { length items.now ≤ length out.old }
     ensures { out.new ≡ items.now ++ drop (length items.now) out.old }
 {
-    out[..items.len()].copy_from_slice(items);
+    memory_table::put(out, items);
 }
 
 // The text that a row of the piece table names: a part of the store.
