@@ -27,14 +27,16 @@ pub fn put_entry(words: &mut [u32], bytes: &mut [u8], size: Size, call: &[u8], a
     words[memory_layout::RECORD_USED] = (used + call.len()) as u32;
 }
 
-// Moves the bytes from `next` up to `end` down to `at`.
+// Moves the bytes from `next` up to `end` down to `at`, one by one: `copy_within` would have the archives need memmove.
 fn close_gap(bytes: &mut [u8], at: usize, next: usize, end: usize)
     requires at_lt_next { at < next }
     requires next_le_end { next ≤ end }
     requires end_in_bounds { end ≤ length bytes.old }
     ensures { Closed at next end bytes.old bytes.new }
 {
-    bytes.copy_within(next..end, at);
+    for i in 0..end - next {
+        bytes[at + i] = bytes[next + i];
+    }
 }
 
 // Takes out the call behind the first i, and its marks, and says how many bytes the other calls have.
