@@ -13,10 +13,8 @@ use Rattle.model_sheet.specs.Sheet.{inserts_left, inserts_front, call_of}
 use Rattle.model_join.specs.Tests.{left_zone, right_zone, is_move, free_of}
 use Rattle.join_apart.specs.Kinds.{is_range}
 use Rattle.join_apart.specs.Places.{stretch, place_of, fits_in}
-
--- the call of a record with these fields
-abbrev pub call : ℕ → ℕ → ℕ → ℕ → Text → Edit
-call kind a b c t = call_of (record { kind = kind; a = a; b = b; c = c; text = t })
+use Rattle.join_apart.specs.Marking.{Fits}
+pub use Rattle.join_apart.specs.Marking.{call}
 
 -- ── tests made one after the other ──
 pub tests_third : {u v w x y z : Bool} → u ≡ x → v ≡ y → w ≡ z → u ≡ true → v ≡ true → w ≡ x && (y && (z && true))
@@ -53,6 +51,10 @@ right_stretch n p h =
       | yes l ↦ rw (lt-ltb p n l) (ap (λ (y : ℕ). (p + 1, y)) (omega arith))
       | no l ↦ rw (le-ltb p n (omega arith)) (ap (λ (x : ℕ). (x, 1)) (omega arith))
     ]
+
+-- none of the kinds 1 to 3
+pub no_range : (k : ℕ) → (k ≡ 1 → ⊥) → (k ≡ 2 → ⊥) → (k ≡ 3 → ⊥) → false ≡ is_range k
+no_range k h i j = rw (ne_eqb k 1 h, ne_eqb k 2 i, ne_eqb k 3 j)
 
 module _ (k a b c : ℕ) (t : Text) where
   -- a kind with a range: what the three calls have in common
@@ -130,6 +132,24 @@ module _ (k a b c : ℕ) (t : Text) where
 
     pub range_wide : is_range k ≡ true → fits_in n (call k a b c t) ≡ true → a < b
     range_wide h f = ltb-true a b (and_left (ltb a b) (leb a n && (leb b n && true)) (sym (range_fits h) ∙ f))
+
+-- what fits with one text fits with any
+module _ (k a b c n : ℕ) where
+  fits_any : (t t' : Text) → fits_in n (call k a b c t) ≡ fits_in n (call k a b c t')
+  unfolding call_of fits_in
+  fits_any t t' = go (eqb k 1) (eqb k 2) (eqb k 3) (eqb k 8)
+    where
+      go : (u v w x : Bool)
+          → fits_in n (cond u (remove a b) (cond v (update_with a b t true) (cond w (reset a b) (cond x (relocate a b c) (insert a t (inserts_left k) (inserts_front k))))))
+          ≡ fits_in n (cond u (remove a b) (cond v (update_with a b t' true) (cond w (reset a b) (cond x (relocate a b c) (insert a t' (inserts_left k) (inserts_front k))))))
+      go true v w x = refl
+      go false true w x = refl
+      go false false true x = refl
+      go false false false true = refl
+      go false false false false = refl
+
+  pub fits_all : {r : Bool} (t : Text) → r ≡ fits_in n (call k a b c t) → Fits n k a b c r
+  fits_all t e t' = e ∙ fits_any t t'
 
 -- ── what a move spares ──
 module _ (k from to third : ℕ) (t : Text) where

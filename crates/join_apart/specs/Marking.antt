@@ -1,7 +1,7 @@
 -- What marking the places of records promises.
 use Rattle.std.specs.Prelude.{ℕ, ◌+◌, ◌*◌, ◌≤◌, ◌<◌, ◌≡◌, Bool, true, List, ◌++◌, length}
 use Rattle.std.proofs.Math.Option.{some}
-use Rattle.model.specs.Text.{all}
+use Rattle.model.specs.Text.{Text, all}
 use Rattle.model.specs.Call.{Edit}
 use Rattle.model_sheet.specs.Record.{Recorded, records}
 use Rattle.model_sheet.specs.Sheet.{call_of, recorded_calls}
@@ -23,12 +23,16 @@ pub record Room (n : ℕ) (words : List ℕ) : Type 0 where
   pub places : n + 3 ≤ length words * 64
   pub small : length words < 0x400_0000_0000_0000
 
--- whether a record fits, and the stretch of its places
-abbrev pub Fits : ℕ → Recorded → Bool → Type 0
-Fits n e r = r ≡ fits_in n (call_of e)
+-- the call of a record with these fields. Its places, width and positions are the same with any text
+abbrev pub call : ℕ → ℕ → ℕ → ℕ → Text → Edit
+call kind a b c t = call_of (record { kind = kind; a = a; b = b; c = c; text = t })
 
-abbrev pub Takes : ℕ → Recorded → Stretch → Type 0
-Takes n e r = (r.at, r.n) ≡ place_of n (call_of e)
+-- whether a record with these fields fits, and the stretch of its places
+abbrev pub Fits : ℕ → ℕ → ℕ → ℕ → ℕ → Bool → Type 0
+Fits n kind a b c r = (t : Text) → r ≡ fits_in n (call kind a b c t)
+
+abbrev pub Takes : ℕ → ℕ → ℕ → ℕ → ℕ → Stretch → Type 0
+Takes n kind a b c r = (t : Text) → (r.at, r.n) ≡ place_of n (call kind a b c t)
 
 -- true exactly if edits fit and take no place twice, nor one that is marked; their places are marked then
 abbrev pub EditsMarked : Bool → ℕ → List ℕ → List Edit → List ℕ → Type 0

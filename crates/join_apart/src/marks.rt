@@ -10,8 +10,9 @@ fn mark_record(marks: &mut [u64], n: usize, r: Record) -> bool
     requires { Room n marks.old }
     ensures { RecordMarked result n (recorded r.entry) marks.old marks.new }
 {
-    if fits(n, r) {
-        let s = takes(n, r);
+    let kind = r.kind.code();
+    if fits(n, kind, r.a, r.b, r.c) {
+        let s = takes(n, kind, r.a, r.b, r.c);
         return check_bit_marks::mark_range(marks, s.at, s.n);
     }
     false

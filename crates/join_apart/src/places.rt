@@ -2,11 +2,10 @@
 ghost use Rattle.std.specs.Prelude.{◌≡◌, true, ◌≤◌, leb};
 ghost use Rattle.memory_layout.specs.Layout.{SOURCE_BYTES};
 ghost use Rattle.sheet_records.specs.Kinds.{code};
-ghost use Rattle.sheet_records.specs.Found.{recorded};
 ghost use Rattle.join_apart.specs.Kinds.{is_range};
 ghost use Rattle.join_apart.specs.Marking.{Fits, Takes};
 
-use sheet_records::Record;
+use sheet_records::inserts_left;
 use sheet_records::kinds::Kind;
 
 // A stretch of places.
@@ -17,10 +16,20 @@ pub struct Stretch {
 }
 
 // Whether records of this kind have a range.
-fn has_range(kind: Kind) -> bool
-    ensures { result ≡ is_range (code kind) }
+fn known_has_range(known: Kind) -> bool
+    ensures { result ≡ is_range (code known) }
 {
-    matches!(kind, Kind::Remove | Kind::Update | Kind::Reset)
+    matches!(known, Kind::Remove | Kind::Update | Kind::Reset)
+}
+
+// The same of the byte of a kind. A byte that is no kind's has none.
+fn has_range(kind: u8) -> bool
+    ensures { result ≡ is_range kind }
+{
+    match Kind::try_from(kind) {
+        Ok(known) => known_has_range(known),
+        Err(_) => false,
+    }
 }
 
 // Whether a position lies in a source of n bytes, its end among them.
@@ -30,36 +39,36 @@ fn within(p: u32, n: usize) -> bool
     p as usize <= n
 }
 
-// Whether the width and the positions of a record are right.
-pub fn fits(n: usize, r: Record) -> bool
-    ensures { Fits n (recorded r.entry) result }
+// Whether the width and the positions of a record are right. A byte that is no kind's stands for an insertion to the right.
+pub fn fits(n: usize, kind: u8, a: u32, b: u32, c: u32) -> bool
+    ensures { Fits n kind a b c result }
 {
-    if has_range(r.kind) {
-        return r.a < r.b && within(r.b, n);
+    if has_range(kind) {
+        return a < b && within(b, n);
     }
-    if let Kind::Relocate = r.kind {
-        return within(r.a, n) && (within(r.b, n) && within(r.c, n));
+    if kind == Kind::Relocate.code() {
+        return within(a, n) && (within(b, n) && within(c, n));
     }
-    within(r.a, n)
+    within(a, n)
 }
 
 // The places of a record that fits.
-pub fn takes(n: usize, r: Record) -> Stretch
+pub fn takes(n: usize, kind: u8, a: u32, b: u32, c: u32) -> Stretch
     requires n_bound { n ≤ SOURCE_BYTES }
-    requires fits { Fits n (recorded r) true }
-    ensures { Takes n (recorded r.entry) result }
+    requires fits { Fits n kind a b c true }
+    ensures { Takes n kind a b c result }
 {
-    let from = r.a as usize;
-    if has_range(r.kind) {
+    let from = a as usize;
+    if has_range(kind) {
         return Stretch {
             at: from + 1,
-            n: r.b as usize - from,
+            n: b as usize - from,
         };
     }
-    if let Kind::Relocate = r.kind {
+    if kind == Kind::Relocate.code() {
         return Stretch { at: n + 2, n: 1 };
     }
-    if r.kind.inserts_left() {
+    if inserts_left(kind) {
         return Stretch { at: from, n: 1 };
     }
     Stretch { at: from + 1, n: 1 }
