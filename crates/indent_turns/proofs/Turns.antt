@@ -38,7 +38,7 @@ use Rattle.memory_layout.specs.Layout.{ROW, PIECE_ROWS, STORE_LEN}
 
 -- ---- in the head or the tail
 
-module _ {outro : Bool} {indentor pieces store : List ℕ} {Short : Type 0} {Next : List ℕ → List ℕ → List ℕ → Bool → ℕ → Type 0} {at : TextAt} {mark : Bool} {t p s : List ℕ}
+module _ {outro : Bool} {indentor pieces store : List ℕ} {Short : Type 0} {Next : List ℕ → List ℕ → List ℕ → Bool → ℕ → Type 0} {at : TextAt Part} {mark : Bool} {t p s : List ℕ}
     (h : RunAt outro indentor pieces store Short Next at mark t p s) where
   ready : RunReady pieces store at.row at.n h.p₀ h.s₀ at.top h.byte₀
   ready = own_run_ready outro indentor h.mark₀ pieces store t h.p₀ h.s₀ at.top h.byte₀ h.own (at.row, at.n) h.run_is
@@ -98,7 +98,7 @@ module _ {outro : Bool} {indentor pieces store : List ℕ} {Short : Type 0} {Nex
 
 -- ---- among the chunks
 
-module _ {indentor exclude source pieces store t₀ : List ℕ} {at : TextAt} {mark : Bool} {t p s : List ℕ} (h : ChunksAt indentor exclude source pieces store t₀ at mark t p s) where
+module _ {indentor exclude source pieces store t₀ : List ℕ} {at : TextAt Part} {mark : Bool} {t p s : List ℕ} (h : ChunksAt indentor exclude source pieces store t₀ at mark t p s) where
   pub chunk_room : ROW ≤ length t
   chunk_room = omega (arith, h.walk.linked.room)
 
@@ -159,11 +159,11 @@ module _ {indentor exclude source pieces store t₀ : List ℕ} {at : TextAt} {m
 
 -- ---- the start
 
-pub head_begins : (indentor exclude source t pieces store p s : List ℕ) → StepsReady source t pieces store p s → (at : TextAt)
+pub head_begins : (indentor exclude source t pieces store p s : List ℕ) → StepsReady source t pieces store p s → (at : TextAt Part)
     → at ≡ run_from Head (side false (entry_at t 0)) PIECE_ROWS STORE_LEN → Walking indentor exclude source pieces store t at true t p s
 head_begins indentor exclude source t pieces store p s w at ea =
     let own : OwnReady false pieces store t p s PIECE_ROWS STORE_LEN = head_ready indentor exclude source t pieces store p s w in
-    subst (λ (a : TextAt). Walking indentor exclude source pieces store t a true t p s) (sym ea)
+    subst (λ (a : TextAt Part). Walking indentor exclude source pieces store t a true t p s) (sym ea)
     (inl (record {
       part = refl;
       run =
@@ -187,7 +187,7 @@ head_begins indentor exclude source t pieces store p s w at ea =
     }))
 
 -- the chunks begin
-pub chunks_begin : {indentor exclude source pieces store t₀ : List ℕ} {at : TextAt} {mark : Bool} {t p s : List ℕ} (h : HeadAt indentor exclude source pieces store t₀ at mark t p s)
+pub chunks_begin : {indentor exclude source pieces store t₀ : List ℕ} {at : TextAt Part} {mark : Bool} {t p s : List ℕ} (h : HeadAt indentor exclude source pieces store t₀ at mark t p s)
     → at.i ≡ at.n → {t' : List ℕ} → RunEnded false at.top t t' → ChunksAt indentor exclude source pieces store t₀ (chunks_from (row_at t' 0) (at.top + at.n) at.byte) mark t' p s
 chunks_begin {indentor = indentor} {exclude = exclude} {at = at} {mark = mark} {p = p} {s = s} h e {t'} x =
     let g = run_finishes h.run e x in
@@ -210,7 +210,7 @@ pub no_chunk : {part : Part} → (part ≡ Head) ⊎ (part ≡ Tail) → part �
 no_chunk (inl e) k = cc (e, k)
 no_chunk (inr e) k = cc (e, k)
 
-module _ {indentor exclude source pieces store t₀ : List ℕ} {at : TextAt} {mark : Bool} {t p s : List ℕ} where
+module _ {indentor exclude source pieces store t₀ : List ℕ} {at : TextAt Part} {mark : Bool} {t p s : List ℕ} where
   inside : Walking indentor exclude source pieces store t₀ at mark t p s → (at.i ≡ at.n → ⊥) → at.i < at.n
   inside (inl h) ne = omega (arith, h.run.inside, ne)
   inside (inr (inl h)) ne = omega (arith, h.inside, ne)
@@ -233,14 +233,14 @@ module _ {indentor exclude source pieces store t₀ : List ℕ} {at : TextAt} {m
 
 module _ {indentor exclude source pieces store t₀ : List ℕ} where
   -- the place by another name
-  named : {at at' : TextAt} {mark : Bool} {t p s : List ℕ} → at' ≡ at → Walking indentor exclude source pieces store t₀ at mark t p s → Walking indentor exclude source pieces store t₀ at' mark t p s
-  named {mark = mark} {t} {p} {s} e w = subst (λ (a : TextAt). Walking indentor exclude source pieces store t₀ a mark t p s) (sym e) w
+  named : {at at' : TextAt Part} {mark : Bool} {t p s : List ℕ} → at' ≡ at → Walking indentor exclude source pieces store t₀ at mark t p s → Walking indentor exclude source pieces store t₀ at' mark t p s
+  named {mark = mark} {t} {p} {s} e w = subst (λ (a : TextAt Part). Walking indentor exclude source pieces store t₀ a mark t p s) (sym e) w
 
   -- 13 ends the walk
   stopped : (e : Refusal) (t p s : List ℕ) → code e ≡ 13 → Ends indentor exclude source pieces store t₀ → IndentSteps indentor exclude source t₀ pieces store t p s (code e)
   stopped e t p s z d = subst (IndentSteps indentor exclude source t₀ pieces store t p s) (sym z) (d t p s)
 
-  module _ {at : TextAt} {mark : Bool} {t p s : List ℕ} where
+  module _ {at : TextAt Part} {mark : Bool} {t p s : List ℕ} where
     next_piece : Walking indentor exclude source pieces store t₀ at mark t p s → at.i < at.n → (at.part ≡ Chunks → ⊥) → {p' s' : List ℕ} {x : Texted} → PieceDone indentor pieces store at mark p s p' s' x
         → Walking indentor exclude source pieces store t₀ x.at x.mark t p' s'
     next_piece (inl h) g np d = named d.at_is (inl (record { part = h.part; run = run_goes_on h.run g d }))
@@ -265,7 +265,7 @@ module _ {indentor exclude source pieces store t₀ : List ℕ} where
     chunks_stop (inr (inl h)) g e t' p' s' d = chunk_stops h g t' p' s' d
     chunks_stop (inr (inr h)) g e t' p' s' d = cc (h.part, e)
 
-    next_part : Walking indentor exclude source pieces store t₀ at mark t p s → at.i ≡ at.n → {t' : List ℕ} {at' : TextAt} → PartTurned at t t' (Some at')
+    next_part : Walking indentor exclude source pieces store t₀ at mark t p s → at.i ≡ at.n → {t' : List ℕ} {at' : TextAt Part} → PartTurned at t t' (Some at')
         → Walking indentor exclude source pieces store t₀ at' mark t' p s
     next_part (inl h) e x = let y = x.chunks h.part in named (same_Some _ _ y.1) (inr (inl (chunks_begin h e y.0)))
     next_part (inr (inl h)) e {t'} {at'} x =
@@ -279,7 +279,7 @@ module _ {indentor exclude source pieces store t₀ : List ℕ} where
     last_part (inr (inr h)) e x = run_finishes h.run e (x.end h.part).0
 
     -- a part that begins is not long
-    part_less : Walking indentor exclude source pieces store t₀ at mark t p s → at.i ≡ at.n → {t' : List ℕ} {at' : TextAt} → PartTurned at t t' (Some at') → left at' < left at
+    part_less : Walking indentor exclude source pieces store t₀ at mark t p s → at.i ≡ at.n → {t' : List ℕ} {at' : TextAt Part} → PartTurned at t t' (Some at') → left at' < left at
     part_less (inl h) e x =
         let y = x.chunks h.part in
         let g = chunks_begin h e y.0 in
@@ -287,8 +287,8 @@ module _ {indentor exclude source pieces store t₀ : List ℕ} where
     part_less (inr (inl h)) e x = let y = x.tail h.part in omega (arith, ap parts_left h.part, ap left (same_Some _ _ y.1), (tail_begins h e).run.few)
     part_less (inr (inr h)) e x = let y = (x.end h.part).1 in cc y
 
-module _ {indentor exclude source pieces store : List ℕ} {at : TextAt} {mark : Bool} {t p s : List ℕ} (w : TurnReady indentor exclude source pieces store at mark t p s) where
-  pub turned_part : at.i ≡ at.n → {t' : List ℕ} {at' : TextAt} → PartTurned at t t' (Some at') → Turned indentor exclude source pieces store at mark t p s (Ok (Some (record { at = at'; mark = mark }))) t' p s
+module _ {indentor exclude source pieces store : List ℕ} {at : TextAt Part} {mark : Bool} {t p s : List ℕ} (w : TurnReady indentor exclude source pieces store at mark t p s) where
+  pub turned_part : at.i ≡ at.n → {t' : List ℕ} {at' : TextAt Part} → PartTurned at t t' (Some at') → Turned indentor exclude source pieces store at mark t p s (Ok (Some (record { at = at'; mark = mark }))) t' p s
   turned_part e x = record { next = λ t₀ h. next_part h e x; less = part_less w.walking e x }
 
   pub turned_last : at.i ≡ at.n → {t' : List ℕ} → PartTurned at t t' None → Turned indentor exclude source pieces store at mark t p s (Ok None) t' p s

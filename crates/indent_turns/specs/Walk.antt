@@ -24,13 +24,14 @@ use Rattle.memory_layout.specs.Layout.{ROW, PIECES_LEN}
 
 -- ---- places
 
-abbrev pub onward_at : TextAt → ℕ → ℕ → ℕ → Option ℕ → TextAt
+abbrev pub onward_at : TextAt Part → ℕ → ℕ → ℕ → Option ℕ → TextAt Part
 onward_at at row top byte laid = record { part = at.part; row = row; n = at.n; i = at.i + 1; top = top; byte = byte; laid = laid }
 
-abbrev pub run_from : Part → Place → ℕ → ℕ → TextAt
+-- the part may be named in any way
+abbrev pub run_from : {P : Type 0} → P → Place → ℕ → ℕ → TextAt P
 run_from part q top byte = record { part = part; row = q.0; n = q.1; i = 0; top = top; byte = byte; laid = None }
 
-abbrev pub chunks_from : Row → ℕ → ℕ → TextAt
+abbrev pub chunks_from : Row → ℕ → ℕ → TextAt Part
 chunks_from z top byte = record { part = Chunks; row = z.next; n = z.start; i = 0; top = top; byte = byte; laid = None }
 
 -- how much is left, for the end of the walk
@@ -39,7 +40,7 @@ parts_left Head = 3
 parts_left Chunks = 2
 parts_left Tail = 1
 
-abbrev pub left : TextAt → ℕ
+abbrev pub left : TextAt Part → ℕ
 left at = parts_left at.part * PIECES_LEN + (at.n - at.i)
 
 -- ---- what the turns do
@@ -48,11 +49,11 @@ pub record RunEnded (outro : Bool) (top : ℕ) (t t' : List ℕ) : Type 0 where
   pub put : Put t t' 0 (moved outro top (row_at t 0))
   pub len : length t' ≡ length t
 
-pub record PieceReady (pieces store p s : List ℕ) (at : TextAt) : Type 0 where
+pub record PieceReady (pieces store p s : List ℕ) (at : TextAt Part) : Type 0 where
   pub inside : at.i < at.n
   pub text : TextReady pieces store p s (at.row + at.i) (at.top + at.i) at.byte
 
-pub record PieceDone (indentor pieces store : List ℕ) (at : TextAt) (mark : Bool) (p s p' s' : List ℕ) (x : Texted) : Type 0 where
+pub record PieceDone (indentor pieces store : List ℕ) (at : TextAt Part) (mark : Bool) (p s p' s' : List ℕ) (x : Texted) : Type 0 where
   pub text : PieceIndented (indent_frag indentor mark (bytes_at store (piece_at pieces (at.row + at.i)))).text p s at.byte (at.top + at.i) p' s' x.at.byte
   pub mark_is : x.mark ≡ mark_behind mark (bytes_at store (piece_at pieces (at.row + at.i)))
   pub at_is : x.at ≡ onward_at at at.row at.top x.at.byte at.laid
@@ -60,30 +61,30 @@ pub record PieceDone (indentor pieces store : List ℕ) (at : TextAt) (mark : Bo
   pub bytes : length s' ≡ length s
 
 -- the piece is written; or 13, where it does not fit
-abbrev pub PieceTurned : List ℕ → List ℕ → List ℕ → TextAt → Bool → List ℕ → List ℕ → List ℕ → List ℕ → Result Texted Refusal → Type 0
+abbrev pub PieceTurned : List ℕ → List ℕ → List ℕ → TextAt Part → Bool → List ℕ → List ℕ → List ℕ → List ℕ → Result Texted Refusal → Type 0
 PieceTurned indentor pieces store at mark p s p' s' r =
     MatchResult r (PieceDone indentor pieces store at mark p s p' s')
     (λ e. (code e ≡ 13) × (length s < at.byte + length (indent_frag indentor mark (bytes_at store (piece_at pieces (at.row + at.i)))).text))
 
-pub record ChunkReady (indentor source store t p s : List ℕ) (at : TextAt) : Type 0 where
+pub record ChunkReady (indentor source store t p s : List ℕ) (at : TextAt Part) : Type 0 where
   pub inside : at.i < at.n
   pub room : at.row * ROW + ROW ≤ length t
   pub row : RowReady indentor source store t p s at.row at.top at.byte at.laid
 
-pub record ChunkDone (indentor exclude source : List ℕ) (at : TextAt) (mark : Bool) (t p s t' p' s' : List ℕ) (x : Texted) : Type 0 where
+pub record ChunkDone (indentor exclude source : List ℕ) (at : TextAt Part) (mark : Bool) (t p s t' p' s' : List ℕ) (x : Texted) : Type 0 where
   pub row : RowIndented indentor exclude source t p s at.row mark at.top at.byte t' p' s' x.mark x.at.top x.at.byte x.at.laid
   pub at_is : x.at ≡ onward_at at (row_at t at.row).next x.at.top x.at.byte x.at.laid
 
 -- the chunk is indented; or 13, where the chunks pass a limit
-abbrev pub ChunkTurned : List ℕ → List ℕ → List ℕ → TextAt → Bool → List ℕ → List ℕ → List ℕ → List ℕ → List ℕ → List ℕ → Result Texted Refusal → Type 0
+abbrev pub ChunkTurned : List ℕ → List ℕ → List ℕ → TextAt Part → Bool → List ℕ → List ℕ → List ℕ → List ℕ → List ℕ → List ℕ → Result Texted Refusal → Type 0
 ChunkTurned indentor exclude source at mark t p s t' p' s' r =
     MatchResult r (ChunkDone indentor exclude source at mark t p s t' p' s') (λ e. (code e ≡ 13) × RowDone indentor exclude source t p s at.row mark at.top at.byte t' p' s' None)
 
-pub record PartReady (t : List ℕ) (at : TextAt) : Type 0 where
+pub record PartReady (t : List ℕ) (at : TextAt Part) : Type 0 where
   pub room : ROW ≤ length t
   pub narrow : at.part ≡ Head → at.top + at.n < 4294967296
 
-pub record PartTurned (at : TextAt) (t t' : List ℕ) (r : Option TextAt) : Type 0 where
+pub record PartTurned (at : TextAt Part) (t t' : List ℕ) (r : Option (TextAt Part)) : Type 0 where
   pub chunks : at.part ≡ Head → RunEnded false at.top t t' × (r ≡ Some (chunks_from (row_at t' 0) (at.top + at.n) at.byte))
   pub tail : at.part ≡ Chunks → (t' ≡ t) × (r ≡ Some (run_from Tail (side true (entry_at t 0)) at.top at.byte))
   pub end : at.part ≡ Tail → RunEnded true at.top t t' × (r ≡ None)
@@ -92,7 +93,7 @@ pub record PartTurned (at : TextAt) (t t' : List ℕ) (r : Option TextAt) : Type
 
 -- in the head or the tail: some of its pieces are written. Short is what follows where they are too long, Next what follows where they fit and row 0 names them
 pub record RunAt (outro : Bool) (indentor pieces store : List ℕ) (Short : Type 0) (Next : List ℕ → List ℕ → List ℕ → Bool → ℕ → Type 0)
-    (at : TextAt) (mark : Bool) (t p s : List ℕ) : Type 0 where
+    (at : TextAt Part) (mark : Bool) (t p s : List ℕ) : Type 0 where
   pub few : at.n ≤ 4000
   pub p₀ : List ℕ
   pub s₀ : List ℕ
@@ -115,11 +116,11 @@ pub record RestFrom (indentor exclude source pieces store t₀ : List ℕ) (top 
 abbrev pub Ends : List ℕ → List ℕ → List ℕ → List ℕ → List ℕ → List ℕ → Type 0
 Ends indentor exclude source pieces store t₀ = (t' p' s' : List ℕ) → IndentSteps indentor exclude source t₀ pieces store t' p' s' 13
 
-pub record HeadAt (indentor exclude source pieces store t₀ : List ℕ) (at : TextAt) (mark : Bool) (t p s : List ℕ) : Type 0 where
+pub record HeadAt (indentor exclude source pieces store t₀ : List ℕ) (at : TextAt Part) (mark : Bool) (t p s : List ℕ) : Type 0 where
   pub part : at.part ≡ Head
   pub run : RunAt false indentor pieces store (Ends indentor exclude source pieces store t₀) (RestFrom indentor exclude source pieces store t₀ (at.top + at.n)) at mark t p s
 
-pub record ChunksAt (indentor exclude source pieces store t₀ : List ℕ) (at : TextAt) (mark : Bool) (t p s : List ℕ) : Type 0 where
+pub record ChunksAt (indentor exclude source pieces store t₀ : List ℕ) (at : TextAt Part) (mark : Bool) (t p s : List ℕ) : Type 0 where
   pub part : at.part ≡ Chunks
   pub t₁ : List ℕ
   pub p₁ : List ℕ
@@ -131,12 +132,12 @@ pub record ChunksAt (indentor exclude source pieces store t₀ : List ℕ) (at :
   pub inside : at.i ≤ at.n
   pub walk : WalkAt indentor exclude source store t₁ p₁ s₁ mark₁ top₁ byte₁ at.n t p s at.i at.row mark at.top at.byte at.laid
 
-pub record TailAt (indentor exclude source pieces store t₀ : List ℕ) (at : TextAt) (mark : Bool) (t p s : List ℕ) : Type 0 where
+pub record TailAt (indentor exclude source pieces store t₀ : List ℕ) (at : TextAt Part) (mark : Bool) (t p s : List ℕ) : Type 0 where
   pub part : at.part ≡ Tail
   pub run : RunAt true indentor pieces store (Ends indentor exclude source pieces store t₀)
       (λ t' p' s' mark' byte'. IndentSteps indentor exclude source t₀ pieces store t' p' s' 0) at mark t p s
 
-abbrev pub Walking : List ℕ → List ℕ → List ℕ → List ℕ → List ℕ → List ℕ → TextAt → Bool → List ℕ → List ℕ → List ℕ → Type 0
+abbrev pub Walking : List ℕ → List ℕ → List ℕ → List ℕ → List ℕ → List ℕ → TextAt Part → Bool → List ℕ → List ℕ → List ℕ → Type 0
 Walking indentor exclude source pieces store t₀ at mark t p s =
     HeadAt indentor exclude source pieces store t₀ at mark t p s
     ⊎ (ChunksAt indentor exclude source pieces store t₀ at mark t p s ⊎ TailAt indentor exclude source pieces store t₀ at mark t p s)
@@ -148,22 +149,22 @@ Onward indentor exclude source pieces store t₀ (Ok None) t p s = IndentSteps i
 Onward indentor exclude source pieces store t₀ (Err e) t p s = IndentSteps indentor exclude source t₀ pieces store t p s (code e)
 
 -- a place that a turn leads to is nearer to the end
-abbrev pub Nearer : TextAt → Result (Option Texted) Refusal → Type 0
+abbrev pub Nearer : TextAt Part → Result (Option Texted) Refusal → Type 0
 Nearer at (Ok (Some x)) = left x.at < left at
 Nearer at (Ok None) = ⊤
 Nearer at (Err e) = ⊤
 
-pub record TurnReady (indentor exclude source pieces store : List ℕ) (at : TextAt) (mark : Bool) (t p s : List ℕ) : Type 0 where
+pub record TurnReady (indentor exclude source pieces store : List ℕ) (at : TextAt Part) (mark : Bool) (t p s : List ℕ) : Type 0 where
   pub t₀ : List ℕ
   pub walking : Walking indentor exclude source pieces store t₀ at mark t p s
 
 -- a turn leads to a place on the same walk, nearer to the end, or ends it
-pub record Turned (indentor exclude source pieces store : List ℕ) (at : TextAt) (mark : Bool) (t p s : List ℕ) (r : Result (Option Texted) Refusal) (t' p' s' : List ℕ) : Type 0 where
+pub record Turned (indentor exclude source pieces store : List ℕ) (at : TextAt Part) (mark : Bool) (t p s : List ℕ) (r : Result (Option Texted) Refusal) (t' p' s' : List ℕ) : Type 0 where
   pub next : (t₀ : List ℕ) → Walking indentor exclude source pieces store t₀ at mark t p s → Onward indentor exclude source pieces store t₀ r t' p' s'
   pub less : Nearer at r
 
 -- what a turn answers, with the mark apart
-abbrev pub with_mark : Bool → Result (Option TextAt) Refusal → Result (Option Texted) Refusal
+abbrev pub with_mark : Bool → Result (Option (TextAt Part)) Refusal → Result (Option Texted) Refusal
 with_mark mark (Ok (Some at)) = Ok (Some (record { at = at; mark = mark }))
 with_mark mark (Ok None) = Ok None
 with_mark mark (Err e) = Err e

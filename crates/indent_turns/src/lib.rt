@@ -23,10 +23,10 @@ pub enum Part {
 }
 
 // A place on the walk: the part, the text in it (a lent piece row behind `row`, or the chunk row `row`), how many of n are done, the piece row and the byte behind those in use, and
-// the byte where the indentor lies, if it is laid (new texts are laid behind the lent store).
+// the byte where the indentor lies, if it is laid (new texts are laid behind the lent store). A caller with other names for the parts has its own type for these.
 #[derive(Clone, Copy)]
-pub struct TextAt {
-    pub part: Part,
+pub struct TextAt<P = Part> {
+    pub part: P,
     pub row: u32,
     pub n: u32,
     pub i: u32,
@@ -112,7 +112,7 @@ fn chunk_turn(
 }
 
 // The start of the head or the tail, as row 0 names it.
-pub fn run_begins(t: &[u32], part: Part, outro: bool, top: u32, byte: u32) -> TextAt
+pub fn run_begins<P>(t: &[u32], part: P, outro: bool, top: u32, byte: u32) -> TextAt<P>
     requires { ROW ≤ length t.now }
     ensures { result ≡ run_from part (side outro (entry_at t.now 0)) top byte }
 {

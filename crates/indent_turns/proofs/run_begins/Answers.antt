@@ -7,4 +7,4 @@ use Rattle.indent_turns.specs.Walk.{run_from}
 use Rattle.indent_turns.proofs.run_begins.Goals as goal
 
 pub returns : goal.returns
-returns c = ap (λ (x : Place). run_from c.args.part x c.args.top c.args.byte) (c.side-q.ensures ∙ ap (λ (z : Row). side c.args.outro (entry_of z)) c.get_row-z.ensures)
+returns g c = ap (λ (x : Place). run_from c.args.part x c.args.top c.args.byte) (c.side-q.ensures ∙ ap (λ (z : Row). side c.args.outro (entry_of z)) c.get_row-z.ensures)
