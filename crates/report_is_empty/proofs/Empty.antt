@@ -1,5 +1,5 @@
 -- The walk of `is_empty`: no text so far is filled.
-use mathlib.Core.Path.{◌≡◌, ap, sym, ◌∙◌}
+use mathlib.Core.Path.{◌≡◌, ap, sym, subst, ◌∙◌}
 use mathlib.Core.Bool.{Bool, true, false, ◌&&◌, not}
 use mathlib.Core.List.{List, [], ◌∷◌}
 use Prim.Native.Nat.{ℕ}
@@ -23,6 +23,10 @@ blank ts = all (λ f. is_nil (trim_white_space f)) ts
 pub record Blank (whole left : List Text) : Type 0 where
   pub valid : All Valid left
   pub same : blank left ≡ blank whole
+
+-- at first all are left
+pub blank_all : {whole left items : List Text} → left ≡ items → items ≡ whole → All Valid items → Blank whole left
+blank_all e f v = record { valid = subst (All Valid) (sym e) v; same = ap blank (e ∙ f) }
 
 blank_cons : (t : Text) (us : List Text) (b : Bool) → filled_of t ≡ b → blank (t ∷ us) ≡ (not b && blank us)
 unfolding filled_of

@@ -1,5 +1,8 @@
-use Rattle.report_is_empty.proofs.Empty.{blank_found, blank_more, blank_done}
+use Rattle.report_is_empty.proofs.Empty.{blank_all, blank_found, blank_more, blank_done}
 use Rattle.report_is_empty.proofs.is_empty.Goals as goal
+
+pub loop-t-init : goal.loop-t-init
+loop-t-init c = blank_all c.into_iter-t-iterator.ensures.into_iter_gives c.of_chunks-t-items.ensures.texts c.of_chunks-t-items.ensures.valid
 
 pub returns-then-filled : goal.returns-then-filled
 returns-then-filled c = blank_found _ _ _ _ c.loop-t.invariant c.in-Some.ensures.steps c.if-filled.ensures
