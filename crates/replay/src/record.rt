@@ -25,7 +25,7 @@ fn cut(
     let written = r.bytes;
     let from = replay_record::behind_first(named);
     let width = replay_record::width(r.room, out.len());
-    let k = replay_record::call_of(r.kind, r.room, &numbers[..named]);
+    let k = replay_record::call_of(Some(r.kind), r.room, &numbers[..named]);
     let e = r.expected;
     let o = crate::play::play(
         k,
@@ -67,7 +67,7 @@ fn record_by(
 {
     let r = replay_record::read(line, numbers, text, bytes)?;
     let k = r.text;
-    let m = replay_record::use_source(r.kind, &text[..k], source, n);
+    let m = replay_record::use_source(Some(r.kind), &text[..k], source, n);
     Some(cut(
         r,
         &source[..m],

@@ -28,7 +28,7 @@ pub fn edit(
     store: &mut [u8],
     text: &[u8],
 ) -> Option<Answer> {
-    let answer = match k.kind {
+    let answer = match k.kind? {
         Kind::Open => return open(k.a, source, chunks, pieces, store),
         Kind::Remove => {
             exported_edits::magic_string_remove(source, chunks, pieces, store, k.a, k.b)

@@ -1,5 +1,5 @@
--- The names of the kinds.
-use Rattle.std.specs.Prelude.{ℕ, List, codes}
+-- The names of the kinds, their numbers, and how many numbers their records have.
+use Rattle.std.specs.Prelude.{Bool, ℕ, ◌==◌, ltb, List, [], ◌∷◌, Option, Some, None, codes}
 use Rattle.replay_read.specs.declared.names.Kind.{Kind}
 use Rattle.replay_read.specs.declared.names.Kind.TheVariants.{Open, Remove, Reset, Relocate, AppendLeft, AppendRight, PrependLeft, PrependRight, Append, Prepend, UpdateWith, Trim, TrimStart, TrimEnd, TrimLines, IndentWith, Slice, ToString, LastLine, GetIndentString, Len, LenUtf16, LineCount, IsEmpty, HasChanged, IsRangeWithinEditedChunk, LastChar, WellFormed, SetWord}
 
@@ -33,3 +33,51 @@ name_of IsRangeWithinEditedChunk = codes "is_range_within_edited_chunk"
 name_of LastChar = codes "last_char"
 name_of WellFormed = codes "well_formed"
 name_of SetWord = codes "set_word"
+
+-- the kinds in the order of their numbers, from 0 on; 29 and all above it are the numbers of none
+abbrev pub kinds : List Kind
+kinds =
+    Open ∷ Remove ∷ Reset ∷ Relocate ∷
+    AppendLeft ∷ AppendRight ∷ PrependLeft ∷ PrependRight ∷
+    Append ∷ Prepend ∷ UpdateWith ∷
+    Trim ∷ TrimStart ∷ TrimEnd ∷ TrimLines ∷ IndentWith ∷
+    Slice ∷ ToString ∷ LastLine ∷ GetIndentString ∷
+    Len ∷ LenUtf16 ∷ LineCount ∷ IsEmpty ∷ HasChanged ∷ IsRangeWithinEditedChunk ∷
+    LastChar ∷ WellFormed ∷ SetWord ∷ []
+
+-- whether a record of this kind has n numbers
+abbrev pub has_numbers : Kind → ℕ → Bool
+has_numbers Open n = n == 1
+has_numbers Remove n = n == 2
+has_numbers Reset n = n == 2
+has_numbers Relocate n = n == 3
+has_numbers AppendLeft n = n == 1
+has_numbers AppendRight n = n == 1
+has_numbers PrependLeft n = n == 1
+has_numbers PrependRight n = n == 1
+has_numbers Append n = n == 0
+has_numbers Prepend n = n == 0
+has_numbers UpdateWith n = n == 3
+has_numbers Trim n = n == 1
+has_numbers TrimStart n = n == 1
+has_numbers TrimEnd n = n == 1
+has_numbers TrimLines n = n == 0
+has_numbers IndentWith n = ltb 0 n
+has_numbers Slice n = n == 3
+has_numbers ToString n = n == 0
+has_numbers LastLine n = n == 0
+has_numbers GetIndentString n = n == 0
+has_numbers Len n = n == 0
+has_numbers LenUtf16 n = n == 0
+has_numbers LineCount n = n == 0
+has_numbers IsEmpty n = n == 0
+has_numbers HasChanged n = n == 0
+has_numbers IsRangeWithinEditedChunk n = n == 2
+has_numbers LastChar n = n == 0
+has_numbers WellFormed n = n == 0
+has_numbers SetWord n = n == 3
+
+-- the same of what may be no kind, which has none
+abbrev pub has_numbers_if : Option Kind → ℕ → Bool
+has_numbers_if (Some kind) n = has_numbers kind n
+has_numbers_if None n = n == 0

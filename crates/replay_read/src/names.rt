@@ -1,7 +1,7 @@
 // The kinds of record: the exported calls, and one that damages a table.
-// Their names, and how many numbers each has.
-ghost use Rattle.std.specs.Prelude.{◌≡◌, IfSome};
-ghost use Rattle.replay_read.specs.Names.{name_of};
+// Their names and numbers, and how many numbers each has.
+ghost use Rattle.std.specs.Prelude.{◌≡◌, IfSome, slice_get};
+ghost use Rattle.replay_read.specs.Names.{name_of, kinds, has_numbers, has_numbers_if};
 
 #[derive(Clone, Copy, PartialEq, Eq)]
 pub enum Kind {
@@ -36,7 +36,7 @@ pub enum Kind {
     SetWord,
 }
 
-// In the order in which they are told.
+// In the order of their numbers, in which they are told.
 pub const KINDS: [Kind; 29] = [
     Kind::Open,
     Kind::Remove,
@@ -70,6 +70,13 @@ pub const KINDS: [Kind; 29] = [
 ];
 
 impl Kind {
+    // The kind with this number, its place in `KINDS`; none from 29 on.
+    pub fn of(number: u32) -> Option<Kind>
+        ensures { result ≡ slice_get kinds number }
+    {
+        KINDS.iter().copied().nth(number as usize)
+    }
+
     pub fn name(self) -> &'static str
         ensures { result.now ≡ name_of self }
     {
@@ -117,7 +124,9 @@ impl Kind {
     }
 
     // Whether a record of this kind has so many numbers.
-    pub fn takes(self, n: usize) -> bool {
+    pub fn takes(self, n: usize) -> bool
+        ensures { result ≡ has_numbers self n }
+    {
         match self {
             Kind::Open
             | Kind::AppendLeft
@@ -132,5 +141,15 @@ impl Kind {
             Kind::IndentWith => 0 < n,
             _ => n == 0,
         }
+    }
+}
+
+// The same of a number; one that is no kind's takes none.
+pub fn takes(kind: u32, n: usize) -> bool
+    ensures { result ≡ has_numbers_if (slice_get kinds kind) n }
+{
+    match Kind::of(kind) {
+        Some(kind) => kind.takes(n),
+        None => n == 0,
     }
 }

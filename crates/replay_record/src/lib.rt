@@ -1,16 +1,17 @@
 // What a line of the file says: a call, and what it should answer and leave.
 #![tactic(auto)]
 
-ghost use Rattle.std.specs.Prelude.{◌≤◌, length, IfSome};
+ghost use Rattle.std.specs.Prelude.{◌≡◌, ◌≤◌, length, IfSome};
 ghost use Rattle.replay_record.specs.Inside.{Inside};
+ghost use Rattle.replay_record.specs.Modes.{tables_of};
 
 use replay_read::names::Kind;
 use replay_read::{column, word};
 
-// What the file says of a call: its kind, its first three numbers, and how long a buffer is lent.
+// What the file says of a call: its kind, its first three numbers, and how long a buffer is lent. None is the kind of a number that no call has.
 #[derive(Clone, Copy)]
 pub struct Call {
-    pub kind: Kind,
+    pub kind: Option<Kind>,
     pub a: u32,
     pub b: u32,
     pub c: u32,
@@ -26,6 +27,19 @@ pub enum Tables {
     Digest(u32),
     // They are not looked at.
     Unseen,
+}
+
+impl Tables {
+    // What the numbers of a mode and a digest say: mode 0 is kept, 1 the digest, and every other not looked at.
+    pub fn of(mode: u32, digest: u32) -> Tables
+        ensures { result ≡ tables_of mode digest }
+    {
+        match mode {
+            0 => Tables::Kept,
+            1 => Tables::Digest(digest),
+            _ => Tables::Unseen,
+        }
+    }
 }
 
 // What the file says of an answer.
@@ -103,7 +117,7 @@ pub fn read(line: &[u8], numbers: &mut [u32], text: &mut [u8], bytes: &mut [u8])
     })
 }
 
-pub fn call_of(kind: Kind, room: u32, numbers: &[u32]) -> Call {
+pub fn call_of(kind: Option<Kind>, room: u32, numbers: &[u32]) -> Call {
     Call {
         kind,
         a: word(numbers, 0),
@@ -114,11 +128,11 @@ pub fn call_of(kind: Kind, room: u32, numbers: &[u32]) -> Call {
 }
 
 // How long the source in use is: an opening has its text as the source.
-pub fn use_source(kind: Kind, text: &[u8], source: &mut [u8], n: usize) -> usize
+pub fn use_source(kind: Option<Kind>, text: &[u8], source: &mut [u8], n: usize) -> usize
     requires { n ≤ length source.old }
     ensures { result ≤ length source.new }
 {
-    if kind != Kind::Open {
+    if kind != Some(Kind::Open) {
         return n;
     }
     if source.len() < text.len() {

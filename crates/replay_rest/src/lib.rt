@@ -15,7 +15,7 @@ fn report_text<'a>(
     store: &'a [u8],
     out: &mut [u8],
 ) -> Option<Answer> {
-    let answer = match k.kind {
+    let answer = match k.kind? {
         Kind::Slice => exported_reports::magic_string_slice(
             source, chunks, pieces, store, k.a, k.b, k.c, out,
         ),
@@ -41,7 +41,7 @@ fn report_number<'a>(
     pieces: &[u32],
     store: &'a [u8],
 ) -> Option<Answer> {
-    let answer = match k.kind {
+    let answer = match k.kind? {
         Kind::Len => exported_reports::magic_string_len(source, chunks, pieces, store),
         Kind::LenUtf16 => exported_reports::magic_string_len_utf16(source, chunks, pieces, store),
         Kind::LineCount => exported_reports::magic_string_line_count(source, chunks, pieces, store),
@@ -108,7 +108,7 @@ pub fn rest(
     exclude: &[u32],
     out: &mut [u8],
 ) -> Option<Answer> {
-    let answer = match k.kind {
+    let answer = match k.kind? {
         Kind::Trim => exported_edits::magic_string_trim(source, chunks, pieces, store, k.a),
         Kind::TrimStart => {
             exported_edits::magic_string_trim_start(source, chunks, pieces, store, k.a)

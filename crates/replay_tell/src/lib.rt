@@ -47,7 +47,7 @@ fn print_difference<W: Write>(out: &mut W, line: u32, t: Told) -> io::Result<()>
     )
 }
 
-// Counts what came of a line, nothing where it is no record, and prints it if it is not as the file has it. The one error is the writer's; the line is counted then, too.
+// Counts what came of a line, nothing where it is no record, and prints it if it is not as the file has it. A number that `Kind::of` knows no kind of, 29 or above, is told as no record. The one error is the writer's; the line is counted then, too.
 pub fn tell<W: Write>(
     out: &mut W,
     line: u32,
