@@ -10,7 +10,9 @@ use edit_insert_side::Spot;
 use memory_layout::refusal::Refusal;
 use memory_used::{Outcome, Used};
 
-// An insertion without room above: on small tables, or where the desk does not fit these, on large ones.
+// An insertion without room above: on small tables, or where the desk does not fit these, on large ones. Never inlined: a call on the lent tables themselves
+// does not pay for the frame that holds these.
+#[inline(never)]
 fn insert_anew(
     source: &[u8],
     chunks: &mut [u32],
