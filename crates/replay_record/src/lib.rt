@@ -8,6 +8,9 @@ ghost use Rattle.replay_record.specs.Modes.{tables_of};
 use replay_read::names::Kind;
 use replay_read::{column, word};
 
+#[cfg(test)]
+mod tests;
+
 // What the file says of a call: its kind, its first three numbers, and how long a buffer is lent. None is the kind of a number that no call has.
 #[derive(Clone, Copy)]
 pub struct Call {
@@ -117,7 +120,10 @@ pub fn read(line: &[u8], numbers: &mut [u32], text: &mut [u8], bytes: &mut [u8])
     })
 }
 
-pub fn call_of(kind: Option<Kind>, room: u32, numbers: &[u32]) -> Call {
+// The call of this kind. A number that is missing is 0.
+pub fn call_of(kind: Option<Kind>, room: u32, numbers: &[u32]) -> Call
+    ensures { result.kind ≡ kind }
+{
     Call {
         kind,
         a: word(numbers, 0),
