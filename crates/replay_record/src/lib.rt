@@ -1,7 +1,7 @@
 // What a line of the file says: a call, and what it should answer and leave.
 #![tactic(auto)]
 
-ghost use Rattle.std.specs.Prelude.{◌≡◌, ◌≤◌, length, IfSome};
+ghost use Rattle.std.specs.Prelude.{◌≡◌, ◌≤◌, length, get_or, IfSome};
 ghost use Rattle.replay_record.specs.Inside.{Inside};
 ghost use Rattle.replay_record.specs.Modes.{tables_of};
 
@@ -120,9 +120,11 @@ pub fn read(line: &[u8], numbers: &mut [u32], text: &mut [u8], bytes: &mut [u8])
     })
 }
 
-// The call of this kind. A number that is missing is 0.
+// The call of a kind, with its first three numbers, 0 where there is none, and how long a buffer is lent.
 pub fn call_of(kind: Option<Kind>, room: u32, numbers: &[u32]) -> Call
-    ensures { result.kind ≡ kind }
+    ensures kind { result.kind ≡ kind }
+    ensures numbers { (result.a ≡ get_or numbers.now 0 0) × (result.b ≡ get_or numbers.now 1 0) × (result.c ≡ get_or numbers.now 2 0) }
+    ensures room { result.room ≡ room }
 {
     Call {
         kind,

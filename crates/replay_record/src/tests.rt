@@ -1,4 +1,4 @@
-// What a call has of the kind, the numbers and the buffer that a line gives it.
+// Calls made of a kind, numbers and the length of a buffer.
 use crate::call_of;
 use replay_read::names::Kind;
 
@@ -17,7 +17,7 @@ fn missing_numbers_are_zero(rt: HostRuntime) {
 }
 
 #[test]
-fn number_of_no_kind_stays_without(rt: HostRuntime) {
+fn call_may_be_of_no_kind(rt: HostRuntime) {
     let k = call_of(Kind::of(29), 7, &[]);
     assert!(rt; k.kind.is_none());
     assert_eq!(rt; [k.a, k.b, k.c, k.room], [0, 0, 0, 7]);
